@@ -1,0 +1,224 @@
+-- Laws of the folds: each to and from a fact about every number below the bound.
+use mathlib.Core.Bool.{Bool, true, false, true≢false, false≢true}
+use mathlib.Core.Logic.{_⊎_, inl, inr, ⊎-elim}
+use mathlib.Core.Path.{_≡_, refl, sym, _∙_, ap, subst}
+use Prim.Native.Nat.{ℕ, zero, suc, _+_, _*_, _≤_, _<_}
+use native.Mathlib.Nat.{mul-zero, mul-add, add-comm}
+use native.Mathlib.Omega.{arith}
+use lib.Dec.{leb, ltb}
+use borrow.Author.Tests.{leb-true, leb-false, ltb-true, ltb-false}
+use Rattle.bounded.specs.Bool.{and, or, bit, if, not}
+use Rattle.bounded.specs.Fold.{every, some, sum, count, first}
+use Rattle.bounded.proofs.Bool.{by-cases, clash, bool-ext, not-true→false, and-i, and-l, and-r, or-l, or-r, or-elim, or-false-l, or-false-r, or-false-i, bit-true, bit-false, bit-le, true-of-bit, if-true, if-false}
+
+lift-cmp : (n k : ℕ) → (k ≡ n) ⊎ (k < n) → (suc k ≡ suc n) ⊎ (suc k < suc n)
+lift-cmp n k (inl e) = inl (ap suc e)
+lift-cmp n k (inr l) = inr (omega arith)
+
+cmp : (n k : ℕ) → k < suc n → (k ≡ n) ⊎ (k < n)
+cmp zero zero h = inl refl
+cmp zero (suc k) h = absurd (let x : ⊥ = omega arith in x)
+cmp (suc n) zero h = inr (omega arith)
+cmp (suc n) (suc k) h = lift-cmp n k (cmp n k (omega arith))
+
+-- What is below n + 1 is n or is below n.
+pub below-suc : {A : Type 0} (n k : ℕ) → k < suc n → (k ≡ n → A) → (k < n → A) → A
+below-suc n k h f g = ⊎-elim f g (cmp n k h)
+
+pub every-i : (n : ℕ) (p : ℕ → Bool) → ((k : ℕ) → k < n → p k ≡ true) → every n p ≡ true
+unfolding every
+every-i zero p h = refl
+every-i (suc n) p h = and-i (p n) (every n p) (h n (omega arith)) (every-i n p (λ k l. h k (omega arith)))
+
+pub every-e : (n : ℕ) (p : ℕ → Bool) → every n p ≡ true → (k : ℕ) → k < n → p k ≡ true
+unfolding every
+every-e zero p h k l = absurd (let x : ⊥ = omega arith in x)
+every-e (suc n) p h k l =
+    below-suc n k l
+    (λ e. subst (λ (m : ℕ). p m ≡ true) (sym e) (and-l (p n) (every n p) h))
+    (λ s. every-e n p (and-r (p n) (every n p) h) k s)
+
+pub some-i : (n : ℕ) (p : ℕ → Bool) (k : ℕ) → k < n → p k ≡ true → some n p ≡ true
+unfolding some
+some-i zero p k l h = absurd (let x : ⊥ = omega arith in x)
+some-i (suc n) p k l h =
+    below-suc n k l
+    (λ e. or-l (p n) (some n p) (subst (λ (m : ℕ). p m ≡ true) e h))
+    (λ s. or-r (p n) (some n p) (some-i n p k s h))
+
+pub some-e : {A : Type 0} (n : ℕ) (p : ℕ → Bool) → some n p ≡ true → ((k : ℕ) → k < n → p k ≡ true → A) → A
+unfolding some
+some-e zero p h f = absurd (false≢true h)
+some-e (suc n) p h f =
+    or-elim (p n) (some n p) h
+    (λ t. f n (omega arith) t)
+    (λ t. some-e n p t (λ k l e. f k (omega arith) e))
+
+-- None passes where every one fails, and the other way round.
+pub some-none : (n : ℕ) (p : ℕ → Bool) → ((k : ℕ) → k < n → p k ≡ false) → some n p ≡ false
+some-none n p h = not-true→false (some n p) (λ t. some-e n p t (λ k l e. true≢false (sym e ∙ h k l)))
+
+pub none-of : (n : ℕ) (p : ℕ → Bool) → some n p ≡ false → (k : ℕ) → k < n → p k ≡ false
+none-of n p h k l = not-true→false (p k) (λ t. clash (some-i n p k l t) h)
+
+-- Folds of tests that agree below the bound are equal.
+pub every-cong : (n : ℕ) (p q : ℕ → Bool) → ((k : ℕ) → k < n → p k ≡ q k) → every n p ≡ every n q
+unfolding every
+every-cong zero p q h = refl
+every-cong (suc n) p q h = rw (h n (omega arith), every-cong n p q (λ k l. h k (omega arith)))
+
+pub some-cong : (n : ℕ) (p q : ℕ → Bool) → ((k : ℕ) → k < n → p k ≡ q k) → some n p ≡ some n q
+unfolding some
+some-cong zero p q h = refl
+some-cong (suc n) p q h = rw (h n (omega arith), some-cong n p q (λ k l. h k (omega arith)))
+
+pub sum-cong : (n : ℕ) (f g : ℕ → ℕ) → ((k : ℕ) → k < n → f k ≡ g k) → sum n f ≡ sum n g
+unfolding sum
+sum-cong zero f g h = refl
+sum-cong (suc n) f g h = rw (h n (omega arith), sum-cong n f g (λ k l. h k (omega arith)))
+
+pub count-cong : (n : ℕ) (p q : ℕ → Bool) → ((k : ℕ) → k < n → p k ≡ q k) → count n p ≡ count n q
+unfolding count
+count-cong n p q h = sum-cong n _ _ (λ k l. ap bit (h k l))
+
+pub sum-zero : (n : ℕ) (f : ℕ → ℕ) → ((k : ℕ) → k < n → f k ≡ 0) → sum n f ≡ 0
+unfolding sum
+sum-zero zero f h = refl
+sum-zero (suc n) f h = rw (h n (omega arith), sum-zero n f (λ k l. h k (omega arith)))
+
+pub sum-add : (n : ℕ) (f g : ℕ → ℕ) → sum n (λ (k : ℕ). f k + g k) ≡ sum n f + sum n g
+unfolding sum
+sum-add zero f g = refl
+sum-add (suc n) f g = omega (arith, sum-add n f g)
+
+pub sum-mul : (n c : ℕ) (f : ℕ → ℕ) → sum n (λ (k : ℕ). c * f k) ≡ c * sum n f
+unfolding sum
+sum-mul zero c f = sym (mul-zero c)
+sum-mul (suc n) c f = rw (sum-mul n c f, mul-add c (f n) (sum n f))
+
+-- Sums change places.
+pub sum-swap : (m n : ℕ) (f : ℕ → ℕ → ℕ) → sum m (λ (i : ℕ). sum n (f i)) ≡ sum n (λ (j : ℕ). sum m (λ (i : ℕ). f i j))
+unfolding sum
+sum-swap zero n f = sym (sum-zero n _ (λ k l. refl))
+sum-swap (suc m) n f = rw (sum-swap m n f) (sym (sum-add n (f m) (λ (j : ℕ). sum m (λ (i : ℕ). f i j))))
+
+-- A sum has just one term where all others are 0.
+pub sum-one : (n : ℕ) (f : ℕ → ℕ) (k : ℕ) → k < n → ((j : ℕ) → j < n → (j ≡ k → ⊥) → f j ≡ 0) → sum n f ≡ f k
+unfolding sum
+sum-one zero f k l h = absurd (let x : ⊥ = omega arith in x)
+sum-one (suc n) f k l h =
+    below-suc n k l
+    (λ e. let z : sum n f ≡ 0 = sum-zero n f (λ j m. h j (omega arith) (λ q. let x : ⊥ = omega arith in x)) in
+    rw (z, e) (omega arith))
+    (λ s. let z : f n ≡ 0 = h n (omega arith) (λ q. let x : ⊥ = omega arith in x) in
+    let r : sum n f ≡ f k = sum-one n f k s (λ j m d. h j (omega arith) d) in
+    omega arith)
+
+pub sum-le : (n : ℕ) (f g : ℕ → ℕ) → ((k : ℕ) → k < n → f k ≤ g k) → sum n f ≤ sum n g
+unfolding sum
+sum-le zero f g h = omega arith
+sum-le (suc n) f g h = omega (arith, h n (omega arith), sum-le n f g (λ k l. h k (omega arith)))
+
+pub count-le : (n : ℕ) (p : ℕ → Bool) → count n p ≤ n
+unfolding count sum
+count-le zero p = omega arith
+count-le (suc n) p = omega (arith, bit-le (p n), count-le n p)
+
+-- A number that passes is counted, and a count above 0 has one.
+pub count-pos : (n : ℕ) (p : ℕ → Bool) (k : ℕ) → k < n → p k ≡ true → 1 ≤ count n p
+unfolding count sum
+count-pos zero p k l h = absurd (let x : ⊥ = omega arith in x)
+count-pos (suc n) p k l h =
+    below-suc n k l
+    (λ e. omega (arith, bit-true (p n) (subst (λ (m : ℕ). p m ≡ true) e h)))
+    (λ s. omega (arith, count-pos n p k s h))
+
+pub count-some : {A : Type 0} (n : ℕ) (p : ℕ → Bool) → 1 ≤ count n p → ((k : ℕ) → k < n → p k ≡ true → A) → A
+unfolding count sum
+count-some zero p h f = absurd (let x : ⊥ = omega arith in x)
+count-some (suc n) p h f =
+    by-cases (p n)
+    (λ t. f n (omega arith) t)
+    (λ t. count-some n p (omega (arith, bit-false (p n) t)) (λ k l e. f k (omega arith) e))
+
+-- At most one passes exactly when any two that pass are equal.
+pub count-two : (n : ℕ) (p : ℕ → Bool) → count n p ≤ 1 → (j k : ℕ) → j < n → k < n → p j ≡ true → p k ≡ true → j ≡ k
+unfolding count sum
+count-two zero p h j k l m a b = absurd (let x : ⊥ = omega arith in x)
+count-two (suc n) p h j k l m a b =
+    below-suc n j l
+    (λ e. below-suc n k m
+    (λ q. e ∙ sym q)
+    (λ s. absurd (let x : ⊥ = omega (arith, bit-true (p n) (subst (λ (m : ℕ). p m ≡ true) e a), count-pos n p k s b) in x)))
+    (λ s. below-suc n k m
+    (λ q. absurd (let x : ⊥ = omega (arith, bit-true (p n) (subst (λ (m : ℕ). p m ≡ true) q b), count-pos n p j s a) in x))
+    (λ t. count-two n p (omega arith) j k s t a b))
+
+pub count-unique : (n : ℕ) (p : ℕ → Bool) → ((j k : ℕ) → j < n → k < n → p j ≡ true → p k ≡ true → j ≡ k) → count n p ≤ 1
+unfolding count sum
+count-unique zero p h = omega arith
+count-unique (suc n) p h =
+    by-cases (p n)
+    (λ t. let z : count n p ≡ 0 = sum-zero n _ (λ k l. bit-false (p k) (not-true→false (p k) (λ q. absurd (let x : ⊥ = omega (arith, h n k (omega arith) (omega arith) t q) in x)))) in
+    omega (arith, bit-le (p n), z))
+    (λ t. omega (arith, bit-false (p n) t, count-unique n p (λ j k l m a b. h j k (omega arith) (omega arith) a b)))
+
+-- Exactly one passes.
+pub count-one : (n : ℕ) (p : ℕ → Bool) (k : ℕ) → k < n → p k ≡ true → ((j : ℕ) → j < n → p j ≡ true → j ≡ k) → count n p ≡ 1
+count-one n p k l h u =
+    let a : 1 ≤ count n p = count-pos n p k l h in
+    let b : count n p ≤ 1 = count-unique n p (λ i j li lj hi hj. u i li hi ∙ sym (u j lj hj)) in
+    omega arith
+
+-- The search: it stays within the bound, what it finds passes, and all below it fails.
+pub first-le : (n : ℕ) (p : ℕ → Bool) → first n p ≤ n
+unfolding first if
+first-le zero p = omega arith
+first-le (suc n) p = by-cases (p zero) (λ t. rw t (omega arith)) (λ t. rw t (omega (arith, first-le n (λ (k : ℕ). p (suc k)))))
+
+past : (n : ℕ) (p : ℕ → Bool) (k : ℕ) → k < suc (first n (λ (i : ℕ). p (suc i))) → p zero ≡ false
+    → ((m : ℕ) → m < first n (λ (i : ℕ). p (suc i)) → p (suc m) ≡ false)
+    → p k ≡ false
+past n p zero l t f = t
+past n p (suc k) l t f = f k (omega arith)
+
+pub first-below : (n : ℕ) (p : ℕ → Bool) (k : ℕ) → k < first n p → p k ≡ false
+unfolding first if
+first-below zero p k h = absurd (let x : ⊥ = omega arith in x)
+first-below (suc n) p k h =
+    by-cases (p zero)
+    (λ t. absurd (let x : ⊥ = omega (arith, (rw t at h)) in x))
+    (λ t. past n p k (rw t at h) t (λ m l. first-below n (λ (i : ℕ). p (suc i)) m l))
+
+pub first-passes : (n : ℕ) (p : ℕ → Bool) → first n p < n → p (first n p) ≡ true
+unfolding first if
+first-passes zero p h = absurd (let x : ⊥ = omega arith in x)
+first-passes (suc n) p h = by-cases (p zero) (λ t. rw t t) (λ t. rw t (first-passes n (λ (k : ℕ). p (suc k)) (omega (arith, (rw t at h)))))
+
+-- Where some number passes the search finds one, and the lowest.
+pub first-some : (n : ℕ) (p : ℕ → Bool) → some n p ≡ true → first n p < n
+first-some n p h = some-e n p h (λ k l e. by-cases (leb n (first n p))
+    (λ t. clash e (first-below n p k (omega (arith, leb-true n (first n p) t))))
+    (λ t. leb-false n (first n p) t))
+
+-- The lowest number that passes is what the search finds.
+pub first-is : (n : ℕ) (p : ℕ → Bool) (k : ℕ) → k < n → p k ≡ true → ((j : ℕ) → j < k → p j ≡ false) → first n p ≡ k
+first-is n p k l h u =
+    let s : first n p < n = first-some n p (some-i n p k l h) in
+    by-cases (ltb (first n p) k)
+    (λ t. clash (first-passes n p s) (u (first n p) (ltb-true (first n p) k t)))
+    (λ t. by-cases (ltb k (first n p))
+    (λ r. clash h (first-below n p k (ltb-true k (first n p) r)))
+    (λ r. omega (arith, ltb-false (first n p) k t, ltb-false k (first n p) r)))
+
+-- Where none passes the search gives the bound.
+pub first-none : (n : ℕ) (p : ℕ → Bool) → some n p ≡ false → first n p ≡ n
+first-none n p h = by-cases (ltb (first n p) n)
+    (λ t. clash (first-passes n p (ltb-true (first n p) n t)) (none-of n p h (first n p) (ltb-true (first n p) n t)))
+    (λ t. omega (arith, ltb-false (first n p) n t, first-le n p))
+
+pub first-cong : (n : ℕ) (p q : ℕ → Bool) → ((k : ℕ) → k < n → p k ≡ q k) → first n p ≡ first n q
+unfolding first
+first-cong zero p q h = refl
+first-cong (suc n) p q h =
+    rw (h zero (omega arith), first-cong n (λ (k : ℕ). p (suc k)) (λ (k : ℕ). q (suc k)) (λ k l. h (suc k) (omega arith)))
