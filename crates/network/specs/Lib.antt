@@ -1,0 +1,11 @@
+-- Constraint networks: what document 01 means, as functions with no width and no code.
+pub mod Network
+pub mod Sound
+pub mod Substitution
+pub mod Step
+pub mod Reduction
+pub mod Completion
+pub mod Count
+pub mod Calls
+pub mod Promise
+pub mod Sheets

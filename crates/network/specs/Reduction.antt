@@ -1,0 +1,53 @@
+-- The full reduction.
+use mathlib.Core.Bool.{Bool, true}
+use mathlib.Core.Path.{_≡_}
+use Prim.Native.Nat.{ℕ, zero, suc}
+use Rattle.bounded.specs.Bool.{if}
+use Rattle.bounded.specs.Fold.{some, count, first}
+use Rattle.network.specs.Network.{Network, free}
+use Rattle.network.specs.Step.{legal, eliminate}
+
+-- How many variables are free.
+unfoldable pub freeCount : Network → ℕ
+freeCount N = count (N .n) (free N)
+
+-- i "has a legal j".
+unfoldable pub leading : Network → ℕ → Bool
+leading N i = some (N .n) (legal N i)
+
+-- Some step is legal.
+unfoldable pub reducible : Network → Bool
+reducible N = some (N .n) (leading N)
+
+-- "the lowest i that has a legal j, with the lowest such j"
+unfoldable pub nextLeader : Network → ℕ
+nextLeader N = first (N .n) (leading N)
+
+unfoldable pub nextFollower : Network → ℕ
+nextFollower N = first (N .n) (legal N (nextLeader N))
+
+-- The network with that step taken.
+unfoldable pub advance : Network → Network
+advance N = eliminate N (nextLeader N) (nextFollower N)
+
+-- "It hands back the state and the number of steps."
+pub record Reduced : Type 0 where
+  pub network : Network
+  pub steps : ℕ
+
+unfoldable pub oneMore : Reduced → Reduced
+oneMore r = record { network = r .network; steps = suc (r .steps) }
+
+-- At most so many steps of that kind, fewer where none is legal any more.
+unfoldable pub reduceWithin : ℕ → Network → Reduced
+reduceWithin zero N = record { network = N; steps = 0 }
+reduceWithin (suc most) N = if (reducible N) (oneMore (reduceWithin most (advance N))) (record { network = N; steps = 0 })
+
+-- "The full reduction .. repeats until no step is legal." Each step takes a free variable, so n steps are more than there can be.
+unfoldable pub reduce : Network → Reduced
+reduce N = reduceWithin (N .n) N
+
+-- A run of legal steps, whichever they are, and their number: what holds of any run holds of the reduction.
+pub data Run : Network → Network → ℕ → Type 0 where
+  done : {N : Network} → Run N N 0
+  next : {N M : Network} {k : ℕ} (i j : ℕ) → legal N i j ≡ true → Run (eliminate N i j) M k → Run N M (suc k)

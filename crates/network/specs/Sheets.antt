@@ -1,0 +1,1 @@
+-- The twelve sheets A to L of document 01.
