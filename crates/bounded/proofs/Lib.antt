@@ -1,2 +1,3 @@
 pub mod Bool
 pub mod Fold
+pub mod Table

@@ -1,3 +1,4 @@
 -- Tests, counts and searches over the numbers below a bound: what every definition above is made of.
 pub mod Bool
 pub mod Fold
+pub mod Table

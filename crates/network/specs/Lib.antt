@@ -8,4 +8,5 @@ pub mod Completion
 pub mod Count
 pub mod Calls
 pub mod Promise
+pub mod Sheet
 pub mod Sheets

@@ -1,0 +1,48 @@
+-- What a version of the format fixes, and the tests of the fields: each answers "fine", or which cause.
+use mathlib.Core.Bool.{Bool}
+use Prim.Native.Nat.{ℕ, _-_, _*_, _/_, _%_, _^_}
+use lib.Dec.{eqb, ltb, leb}
+use Rattle.bounded.specs.Bool.{or, not, if}
+use Rattle.cause.specs.declared.Cause.{Cause}
+use Rattle.cause.specs.declared.Cause.the-variants.{VariableCount, Size, ConstraintCount, PairRange, PairOrder, PairRepeated, RowRange}
+
+-- The answer of a field's test.
+pub data Test : Type 0 where
+  fine : Test
+  fault : Cause → Test
+
+pub record Layout : Type 0 where
+  pub version : ℕ
+  pub rowBytes : ℕ  -- bytes of a row
+  pub mostValues : ℕ  -- the largest size
+  pub longest : ℕ  -- bytes of the largest sheet
+  pub rowTest : ℕ → ℕ → Test  -- the test of a row, by the size of b
+
+-- n is "1 to 16": 3 "n is 0 or above 16"
+unfoldable pub countTest : ℕ → Test
+countTest n = if (or (eqb n 0) (ltb 16 n)) (fault VariableCount) fine
+
+-- 4 "a size is 0 or above 16"
+unfoldable pub sizeTest : ℕ → ℕ → Test
+sizeTest most size = if (or (eqb size 0) (ltb most size)) (fault Size) fine
+
+-- 5 "p above n(n-1)/2"
+unfoldable pub constraintsTest : ℕ → ℕ → Test
+constraintsTest n p = if (ltb (n * (n - 1) / 2) p) (fault ConstraintCount) fine
+
+-- 7 "a is 0, b above n, a not below b, or pair not after the one before". The pair is one number of two bytes, a * 256 + b, so that
+-- "Pairs ascend, by a and then by b, none twice" is that this number grows; before the first it is 0.
+unfoldable pub pairTest : ℕ → ℕ → ℕ → Test
+pairTest n previous pair =
+    if (or (or (eqb (pair / 256) 0) (eqb (pair % 256) 0)) (or (ltb n (pair / 256)) (ltb n (pair % 256)))) (fault PairRange)
+    (if (not (ltb (pair / 256) (pair % 256))) (fault PairOrder)
+    (if (not (ltb previous pair)) (fault PairRepeated)
+    fine))
+
+-- 8 "row has a bit at or above the size of b": it is not below 2 to the size. "An all-zero row is allowed."
+unfoldable pub withinTest : ℕ → ℕ → Test
+withinTest size row = if (leb (2 ^ size) row) (fault RowRange) fine
+
+-- Version 1. "The largest sheet has 4,101 bytes."
+unfoldable pub version1 : Layout
+version1 = record { version = 1; rowBytes = 2; mostValues = 16; longest = 4101; rowTest = withinTest }

@@ -1,0 +1,2 @@
+-- The flat array of rows of 16 variables, for any number w of values.
+pub mod Rows

@@ -1,0 +1,1 @@
+// The flat array of rows, on lent arrays and numbers.

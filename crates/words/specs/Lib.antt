@@ -1,0 +1,2 @@
+-- A machine word as the set of its values.
+pub mod Word

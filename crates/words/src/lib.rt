@@ -1,0 +1,1 @@
+// A machine word as a set of values.
