@@ -1,12 +1,14 @@
 -- A sheet as a list of sizes and a list of tables, and the network that it means.
 use mathlib.Core.Bool.{Bool, false}
-use mathlib.Core.List.{List, [], _∷_}
-use Prim.Native.Nat.{ℕ, suc}
+use mathlib.Core.List.{List, [], _∷_, _++_}
+use Prim.Native.Nat.{ℕ, zero, suc, _-_}
 use lib.Dec.{eqb, ltb}
 use lib.ListN.{length, getD}
-use Rattle.bounded.specs.Bool.{and, or, if}
-use Rattle.words.specs.Word.{has}
-use Rattle.network.specs.Network.{Network}
+use Rattle.bounded.specs.Bool.{and, or, not, if}
+use Rattle.bounded.specs.Fold.{every}
+use Rattle.bounded.specs.Table.{tabulate}
+use Rattle.words.specs.Word.{has, word}
+use Rattle.network.specs.Network.{Network, free}
 
 -- "A table is a pair a, b (options counted from 1, a below b) and one row for each value of a, value 0 first."
 pub record Table : Type 0 where
@@ -44,3 +46,27 @@ networkOf s =
       stated = λ (i j : ℕ). or (tabled (s .tables) i j) (tabled (s .tables) j i);
       allows = λ (i j a b : ℕ). or (has (rowFor (s .tables) i j a) b) (has (rowFor (s .tables) j i b) a);
     }
+
+-- f at k, k + 1, .., count numbers in all, joined.
+unfoldable pub collect : {A : Type 0} → ℕ → ℕ → (ℕ → List A) → List A
+collect zero k f = []
+collect (suc count) k f = f k ++ collect count (suc k) f
+
+-- The table of i and j, where they are stated together.
+unfoldable pub tableOf : Network → ℕ → ℕ → List Table
+tableOf N i j =
+    if (N .stated i j)
+    (record { first = suc i; second = suc j; rows = tabulate (N .size i) (λ (a : ℕ). word (N .size j) (N .allows i j a)) } ∷ [])
+    []
+
+-- The sheet that the writer writes: "Pairs ascend, by a and then by b".
+unfoldable pub sheetOf : Network → Sheet
+sheetOf N =
+    record {
+      sizes = tabulate (N .n) (N .size);
+      tables = collect (N .n) 0 (λ (i : ℕ). collect (N .n - suc i) (suc i) (tableOf N i));
+    }
+
+-- A network as just read. Otherwise the writer refuses with 18: "a follower exists or a list is not full".
+unfoldable pub fresh : Network → Bool
+fresh N = every (N .n) (λ (i : ℕ). and (free N i) (every (N .size i) (N .domain i)))
