@@ -2,7 +2,7 @@
 use mathlib.Core.Bool.{Bool, true, false, true≢false, false≢true}
 use mathlib.Core.Logic.{_⊎_, inl, inr, ⊎-elim}
 use mathlib.Core.Path.{_≡_, refl, sym, _∙_}
-use Prim.Native.Nat.{ℕ, _≤_, _*_}
+use Prim.Native.Nat.{ℕ, _+_, _≤_, _*_}
 use native.Mathlib.Omega.{arith}
 use Rattle.bounded.specs.Bool.{and, or, implies, not, bit, if}
 
@@ -173,3 +173,10 @@ bit-and true true = refl
 bit-and true false = refl
 bit-and false true = refl
 bit-and false false = refl
+
+-- What passes a passes b too or does not.
+pub bit-split : (a b : Bool) → bit (and a b) + bit (and a (not b)) ≡ bit a
+unfolding bit and not
+bit-split true true = refl
+bit-split true false = refl
+bit-split false b = refl

@@ -5,11 +5,11 @@ use mathlib.Core.Path.{_≡_, refl, sym, _∙_, ap, subst}
 use Prim.Native.Nat.{ℕ, zero, suc, _+_, _*_, _≤_, _<_}
 use native.Mathlib.Nat.{mul-zero, mul-add, add-comm}
 use native.Mathlib.Omega.{arith}
-use lib.Dec.{leb, ltb}
-use borrow.Author.Tests.{leb-true, leb-false, ltb-true, ltb-false}
+use lib.Dec.{eqb, leb, ltb}
+use borrow.Author.Tests.{eq-eqb, eqb-true, leb-true, leb-false, ltb-true, ltb-false}
 use Rattle.bounded.specs.Bool.{and, or, bit, if, not}
 use Rattle.bounded.specs.Fold.{every, some, sum, count, first}
-use Rattle.bounded.proofs.Bool.{by-cases, clash, bool-ext, not-true→false, and-i, and-l, and-r, or-l, or-r, or-elim, or-false-l, or-false-r, or-false-i, bit-true, bit-false, bit-le, true-of-bit, if-true, if-false}
+use Rattle.bounded.proofs.Bool.{by-cases, clash, bool-ext, not-true→false, and-i, and-l, and-r, or-l, or-r, or-elim, or-false-l, or-false-r, or-false-i, bit-true, bit-false, bit-le, bit-split, true-of-bit, if-true, if-false}
 
 lift-cmp : (n k : ℕ) → (k ≡ n) ⊎ (k < n) → (suc k ≡ suc n) ⊎ (suc k < suc n)
 lift-cmp n k (inl e) = inl (ap suc e)
@@ -169,6 +169,20 @@ count-one n p k l h u =
     let a : 1 ≤ count n p = count-pos n p k l h in
     let b : count n p ≤ 1 = count-unique n p (λ i j li lj hi hj. u i li hi ∙ sym (u j lj hj)) in
     omega arith
+
+-- What passes p passes q too or does not.
+pub count-split : (n : ℕ) (p q : ℕ → Bool)
+    → count n (λ (k : ℕ). and (p k) (q k)) + count n (λ (k : ℕ). and (p k) (not (q k))) ≡ count n p
+unfolding count
+count-split n p q = sym (sum-add n _ _) ∙ sum-cong n _ _ (λ k l. bit-split (p k) (q k))
+
+-- One that passes taken out: the count is one less.
+pub count-without : (n : ℕ) (p : ℕ → Bool) (k : ℕ) → k < n → p k ≡ true
+    → suc (count n (λ (i : ℕ). and (p i) (not (eqb i k)))) ≡ count n p
+count-without n p k l h =
+    let one : count n (λ (i : ℕ). and (p i) (eqb i k)) ≡ 1 =
+    count-one n _ k l (and-i _ _ h (eq-eqb k k refl)) (λ i m t. eqb-true i k (and-r (p i) _ t)) in
+    omega (arith, count-split n p (λ (i : ℕ). eqb i k))
 
 -- The search: it stays within the bound, what it finds passes, and all below it fails.
 pub first-le : (n : ℕ) (p : ℕ → Bool) → first n p ≤ n

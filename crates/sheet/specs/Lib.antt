@@ -1,0 +1,2 @@
+-- What the public calls mean.
+pub mod View
