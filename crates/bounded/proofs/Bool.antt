@@ -75,6 +75,12 @@ unfolding and
 and-false true = refl
 and-false false = refl
 
+-- What stands behind a test counts only where the test holds.
+pub and-cong : (a b c : Bool) → (a ≡ true → b ≡ c) → and a b ≡ and a c
+unfolding and
+and-cong true b c h = h refl
+and-cong false b c h = refl
+
 pub or-l : (a b : Bool) → a ≡ true → or a b ≡ true
 unfolding or
 or-l true b h = refl
@@ -116,6 +122,16 @@ unfolding implies
 implies-e true b h k = h
 implies-e false b h k = absurd (false≢true k)
 
+pub implies-true : (a b : Bool) → a ≡ true → implies a b ≡ b
+unfolding implies
+implies-true true b h = refl
+implies-true false b h = absurd (false≢true h)
+
+pub implies-false : (a b : Bool) → a ≡ false → implies a b ≡ true
+unfolding implies
+implies-false true b h = absurd (true≢false h)
+implies-false false b h = refl
+
 pub not-i : (a : Bool) → a ≡ false → not a ≡ true
 unfolding not
 not-i true h = absurd (true≢false h)
@@ -145,6 +161,11 @@ pub if-false : {A : Type 0} (b : Bool) (x y : A) → b ≡ false → if b x y �
 unfolding if
 if-false true x y h = absurd (true≢false h)
 if-false false x y h = refl
+
+pub if-or : {A : Type 0} (a b : Bool) (x y : A) → if (or a b) x y ≡ if a x (if b x y)
+unfolding if or
+if-or true b x y = refl
+if-or false b x y = refl
 
 pub bit-true : (b : Bool) → b ≡ true → bit b ≡ 1
 unfolding bit

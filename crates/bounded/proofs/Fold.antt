@@ -6,7 +6,7 @@ use Prim.Native.Nat.{ℕ, zero, suc, _+_, _*_, _≤_, _<_}
 use native.Mathlib.Nat.{mul-zero, mul-add, add-comm}
 use native.Mathlib.Omega.{arith}
 use lib.Dec.{eqb, leb, ltb}
-use borrow.Author.Tests.{eq-eqb, eqb-true, leb-true, leb-false, ltb-true, ltb-false}
+use borrow.Author.Tests.{eq-eqb, eqb-true, eqb-false, leb-true, leb-false, ltb-true, ltb-false}
 use Rattle.bounded.specs.Bool.{and, or, bit, if, not}
 use Rattle.bounded.specs.Fold.{every, some, sum, count, first}
 use Rattle.bounded.proofs.Bool.{by-cases, clash, bool-ext, not-true→false, and-i, and-l, and-r, or-l, or-r, or-elim, or-false-l, or-false-r, or-false-i, bit-true, bit-false, bit-le, bit-split, true-of-bit, if-true, if-false}
@@ -24,6 +24,10 @@ cmp (suc n) (suc k) h = lift-cmp n k (cmp n k (omega arith))
 -- What is below n + 1 is n or is below n.
 pub below-suc : {A : Type 0} (n k : ℕ) → k < suc n → (k ≡ n → A) → (k < n → A) → A
 below-suc n k h f g = ⊎-elim f g (cmp n k h)
+
+-- A number is i or another.
+pub is-or-not : (i : ℕ) (P : ℕ → Type 0) → P i → ((x : ℕ) → (x ≡ i → ⊥) → P x) → (x : ℕ) → P x
+is-or-not i P own other x = by-cases (eqb x i) (λ t. subst P (sym (eqb-true x i t)) own) (λ t. other x (eqb-false x i t))
 
 pub every-i : (n : ℕ) (p : ℕ → Bool) → ((k : ℕ) → k < n → p k ≡ true) → every n p ≡ true
 unfolding every
@@ -236,3 +240,10 @@ unfolding first
 first-cong zero p q h = refl
 first-cong (suc n) p q h =
     rw (h zero (omega arith), first-cong n (λ (k : ℕ). p (suc k)) (λ (k : ℕ). q (suc k)) (λ k l. h (suc k) (omega arith)))
+
+-- A test of every pair of numbers below n.
+pub pairs-i : (n : ℕ) (p : ℕ → ℕ → Bool) → ((x y : ℕ) → x < n → y < n → p x y ≡ true) → every n (λ (x : ℕ). every n (p x)) ≡ true
+pairs-i n p h = every-i n _ (λ x l. every-i n (p x) (λ y m. h x y l m))
+
+pub pairs-e : (n : ℕ) (p : ℕ → ℕ → Bool) → every n (λ (x : ℕ). every n (p x)) ≡ true → (x y : ℕ) → x < n → y < n → p x y ≡ true
+pairs-e n p h x y l m = every-e n (p x) (every-e n _ h x l) y m

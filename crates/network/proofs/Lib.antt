@@ -1,3 +1,10 @@
 pub mod Sound
+pub mod Pairs
+pub mod Step
+pub mod Keep
 pub mod Completion
+pub mod Count
+pub mod Reduction
+pub mod Calls
+pub mod Promise
 pub mod Sheets
