@@ -3,4 +3,5 @@ pub mod Layout
 pub mod Parse
 pub mod Print
 pub mod WellFormed
+pub mod Arrays
 pub mod Builds

@@ -1,1 +1,4 @@
 // The sheet's bytes.
+mod outcome;
+
+pub use outcome::Outcome;
