@@ -1,44 +1,27 @@
 -- A legal step keeps the solutions (source document 000, Property 2), and a sound network sound.
 use mathlib.Core.Bool.{Bool, true, false}
 use mathlib.Core.Path.{_≡_, refl, sym, _∙_, ap, ap₂, subst}
-use Prim.Native.Nat.{ℕ, zero, suc, pred, _≤_, _<_}
+use Prim.Native.Nat.{ℕ, suc, _<_}
 use native.Mathlib.Omega.{arith}
-use lib.Dec.{eqb, ltb, leb}
+use lib.Dec.{eqb}
 use borrow.Author.Tests.{eq-eqb, ne-eqb, eqb-true, eqb-false}
-use Rattle.bounded.specs.Bool.{and, or, implies, not, if}
-use Rattle.bounded.specs.Fold.{some, every, count}
-use Rattle.bounded.proofs.Bool.{by-cases, clash, bool-ext, not-true→false, and-i, and-l, and-r, and-cong, and-false, and-true, true-and, not-i, not-false-i, implies-i, implies-e, implies-true, implies-false}
-use Rattle.bounded.proofs.Fold.{is-or-not, every-i, every-e, some-i, some-e, count-two, count-unique, pairs-i, pairs-e, count-cong, count-one}
+use Rattle.bounded.specs.Bool.{and, implies, not}
+use Rattle.bounded.specs.Fold.{every, count}
+use Rattle.bounded.proofs.Bool.{by-cases, clash, bool-ext, not-true→false, and-i, and-l, and-r, and-cong, and-false, and-true, true-and}
+use Rattle.bounded.proofs.Bool.{not-i, not-false-i, implies-e, implies-true, implies-false}
+use Rattle.bounded.proofs.Fold.{is-or-not, every-i, every-e, pairs-e, count-cong, count-one}
 use Rattle.network.specs.Network.{Network, free, partner, functional, inDomains, pairsAllow, solves}
 use Rattle.network.specs.Sound.{Sound}
-use Rattle.network.specs.Step.{legal, trimmed, third, joined, composed, eliminate}
-use Rattle.network.proofs.Pairs.{Rest, rest-sym, own-rest, self-rest, pair-case, pair-case-sym, Moved, pairs-moved}
-use Rattle.network.proofs.Step.{Legal, legal-e, free-e, free-i, follows-not-free, third-e, third-i, i-not-third, j-not-third, same-n, domain-i, domain-other, domain-fewer, domain-kept, leader-j, leader-of-j, leader-other, leader-case, MovedPairs, eliminate-moves, trimmed-domain, trimmed-e, trimmed-i, joined-e, composed-e, composed-i, one-partner, composed-at}
-
--- A solution
+use Rattle.network.specs.Step.{legal, trimmed, third, composed, eliminate}
+use Rattle.network.proofs.Pairs.{Stays, stays-sym, own-pair-stays, self-pair-stays, pair-case-sym, Moved, pairs-moved}
+use Rattle.network.proofs.Step.{Legal, legal-e, free-e, follows-not-free, third-e, third-i, i-not-third, j-not-third, ij-stays}
+use Rattle.network.proofs.Step.{same-n, domain-i, domain-other, domain-fewer, domain-kept, leader-j, leader-of-j, leader-other, leader-case}
+use Rattle.network.proofs.Step.{MovedPairs, eliminate-moves, trimmed-domain, trimmed-e, trimmed-i, composed-e, one-partner, composed-at}
+use Rattle.network.proofs.Step.{both-sides, moved-stated-sym, moved-allows-sym}
 
 -- f meets the constraint of a pair, if there is one.
 abbrev meets : Network → (ℕ → ℕ) → ℕ → ℕ → Bool
 meets N f x y = implies (N .stated x y) (N .allows x y (f x) (f y))
-
-pub solves-domain : (N : Network) (f : ℕ → ℕ) → solves N f ≡ true → (x : ℕ) → x < N .n → N .domain x (f x) ≡ true
-unfolding solves inDomains
-solves-domain N f h = every-e (N .n) _ (and-l _ _ h)
-
-pub solves-pair : (N : Network) (f : ℕ → ℕ) → solves N f ≡ true
-    → (x y : ℕ) → x < N .n → y < N .n → N .stated x y ≡ true → N .allows x y (f x) (f y) ≡ true
-unfolding solves pairsAllow
-solves-pair N f h x y l m = implies-e _ _ (pairs-e (N .n) (meets N f) (and-r _ _ h) x y l m)
-
-pub solves-i : (N : Network) (f : ℕ → ℕ)
-    → ((x : ℕ) → x < N .n → N .domain x (f x) ≡ true)
-    → ((x y : ℕ) → x < N .n → y < N .n → N .stated x y ≡ true → N .allows x y (f x) (f y) ≡ true)
-    → solves N f ≡ true
-unfolding solves inDomains pairsAllow
-solves-i N f d p = and-i _ _ (every-i (N .n) _ d) (pairs-i (N .n) (meets N f) (λ x y l m. implies-i _ _ (p x y l m)))
-
-meets-sym : (N : Network) → Sound N → (f : ℕ → ℕ) (x y : ℕ) → meets N f x y ≡ meets N f y x
-meets-sym N S f x y = ap₂ implies (S .stated-sym x y) (S .allows-sym x y (f x) (f y))
 
 -- Solutions are kept where pairs move through a functional pair: Properties 1 and 2 at once.
 module _ (N : Network) (S : Sound N) (i j : ℕ) (distinct : i ≡ j → ⊥) (together : N .stated i j ≡ true) (F : functional N i j ≡ true)
@@ -66,22 +49,22 @@ module _ (N : Network) (S : Sound N) (i j : ℕ) (distinct : i ≡ j → ⊥) (t
           at-ik = λ k t. implies-true _ _ (m .stated-moved .at-ik k t) ∙ (m .allows-moved _ _ .at-ik k t ∙ made k t _);
           at-ki =
               λ k t. implies-true _ _ (m .stated-moved .at-ki k t)
-              ∙ (m .allows-moved _ _ .at-ki k t ∙ (made k t _ ∙ ap (and (meets N f k i)) (meets-sym N S f j k)));
+              ∙ (m .allows-moved _ _ .at-ki k t ∙ (made k t _ ∙ ap (and (meets N f k i)) (both-sides N S j k (f j) (f k))));
           at-jk = λ k t. implies-false _ _ (m .stated-moved .at-jk k t);
           at-kj = λ k t. implies-false _ _ (m .stated-moved .at-kj k t);
-          at-rest = λ x y r. ap₂ implies (m .stated-moved .at-rest x y r) (m .allows-moved _ _ .at-rest x y r);
+          elsewhere = λ x y r. ap₂ implies (m .stated-moved .elsewhere x y r) (m .allows-moved _ _ .elsewhere x y r);
         }
 
     pairs-kept : every (N .n) (λ (x : ℕ). every (N .n) (meets M f x)) ≡ every (N .n) (λ (x : ℕ). every (N .n) (meets N f x))
     pairs-kept = pairs-moved (N .n) i j T (meets N f) (meets M f) i-in j-in meets-moved
 
   -- The pair i, j itself stays.
-  ij-rest : Rest i j T i j
-  ij-rest =
-      own-rest i j T
+  own : Stays i j T i j
+  own =
+      own-pair-stays i j T
       (not-true→false _ (λ t. clash (thirds i t) (i-not-third N i j))) (not-true→false _ (λ t. clash (thirds j t) (j-not-third N i j))) distinct
 
-  moved-solves : M .n ≡ N .n
+  pub moved-solves : M .n ≡ N .n
       → ((x : ℕ) → M .domain x (f x) ≡ true → N .domain x (f x) ≡ true)
       → ((x : ℕ) → N .domain x (f x) ≡ true → (x ≡ i → trimmed N i j (f x) ≡ true) → M .domain x (f x) ≡ true)
       → solves M f ≡ solves N f
@@ -91,13 +74,14 @@ module _ (N : Network) (S : Sound N) (i j : ℕ) (distinct : i ≡ j → ⊥) (t
       (bool-ext _ _
       (λ h. let d : (x : ℕ) → x < N .n → N .domain x (f x) ≡ true = λ x l. lost x (every-e (N .n) _ (and-l _ _ h) x l) in
       let r : N .allows i j (f i) (f j) ≡ true =
-      sym (m .allows-moved _ _ .at-rest i j ij-rest)
-      ∙ implies-e _ _ (pairs-e (N .n) (meets M f) (and-r _ _ h) i j i-in j-in) (m .stated-moved .at-rest i j ij-rest ∙ together) in
+      sym (m .allows-moved _ _ .elsewhere i j own)
+      ∙ implies-e _ _ (pairs-e (N .n) (meets M f) (and-r _ _ h) i j i-in j-in) (m .stated-moved .elsewhere i j own ∙ together) in
       and-i _ _ (every-i (N .n) _ d) (sym (pairs-kept d r) ∙ and-r _ _ h))
       (λ h. let d : (x : ℕ) → x < N .n → N .domain x (f x) ≡ true = every-e (N .n) _ (and-l _ _ h) in
       let r : N .allows i j (f i) (f j) ≡ true = implies-e _ _ (pairs-e (N .n) (meets N f) (and-r _ _ h) i j i-in j-in) together in
+      let t : trimmed N i j (f i) ≡ true = trimmed-i N i j S (f i) (f j) (d i i-in) (d j j-in) r in
       and-i _ _
-      (every-i (N .n) _ (λ x l. kept x (d x l) (λ q. subst (λ (y : ℕ). trimmed N i j (f y) ≡ true) (sym q) (trimmed-i N i j S _ _ (d i i-in) (d j j-in) r))))
+      (every-i (N .n) _ (λ x l. kept x (d x l) (λ q. ap (λ (y : ℕ). trimmed N i j (f y)) q ∙ t)))
       (pairs-kept d r ∙ and-r _ _ h)))
 
 -- Property 2: "the new problem .. obtained by the elimination of variable j using c_ij is equivalent".
@@ -113,22 +97,10 @@ module _ (N : Network) (S : Sound N) (i j : ℕ) (L : Legal N i j) where
   pairs = eliminate-moves N i j (L .distinct)
 
   now-sym : (x y : ℕ) → eliminate N i j .stated x y ≡ eliminate N i j .stated y x
-  now-sym =
-      pair-case-sym i j (third N i j) (λ (x y : ℕ). eliminate N i j .stated x y ≡ eliminate N i j .stated y x)
-      (λ x y. sym)
-      (λ k t. pairs .stated-moved .at-ik k t ∙ sym (pairs .stated-moved .at-ki k t))
-      (λ k t. pairs .stated-moved .at-jk k t ∙ sym (pairs .stated-moved .at-kj k t))
-      (λ x y r. pairs .stated-moved .at-rest x y r ∙ (S .stated-sym x y ∙ sym (pairs .stated-moved .at-rest y x (rest-sym i j _ x y r))))
+  now-sym = moved-stated-sym N S i j _ _ pairs
 
   now-allows-sym : (x y a b : ℕ) → eliminate N i j .allows x y a b ≡ eliminate N i j .allows y x b a
-  now-allows-sym =
-      pair-case-sym i j (third N i j) (λ (x y : ℕ). (a b : ℕ) → eliminate N i j .allows x y a b ≡ eliminate N i j .allows y x b a)
-      (λ x y h a b. sym (h b a))
-      (λ k t a b. pairs .allows-moved a b .at-ik k t
-      ∙ (ap (composed N i j k a b) (ap₂ implies (S .stated-sym i k) (S .allows-sym i k a b)) ∙ sym (pairs .allows-moved b a .at-ki k t)))
-      (λ k t a b. pairs .allows-moved a b .at-jk k t ∙ sym (pairs .allows-moved b a .at-kj k t))
-      (λ x y r a b. pairs .allows-moved a b .at-rest x y r
-      ∙ (S .allows-sym x y a b ∙ sym (pairs .allows-moved b a .at-rest y x (rest-sym i j _ x y r))))
+  now-allows-sym = moved-allows-sym N S i j _ _ pairs
 
   k-in : (k : ℕ) → third N i j k ≡ true → k < N .n
   k-in k t = S .stated-in j k (third-e N i j k t .0) .1
@@ -139,7 +111,7 @@ module _ (N : Network) (S : Sound N) (i j : ℕ) (L : Legal N i j) where
       (λ x y h s. let r = h (now-sym x y ∙ s) in (r .1, r .0))
       (λ k t s. (L .i-in, k-in k t))
       (λ k t s. clash s (pairs .stated-moved .at-jk k t))
-      (λ x y r s. S .stated-in x y (sym (pairs .stated-moved .at-rest x y r) ∙ s))
+      (λ x y r s. S .stated-in x y (sym (pairs .stated-moved .elsewhere x y r) ∙ s))
 
   now-allows-stated : (x y a b : ℕ) → eliminate N i j .allows x y a b ≡ true → eliminate N i j .stated x y ≡ true
   now-allows-stated =
@@ -148,7 +120,7 @@ module _ (N : Network) (S : Sound N) (i j : ℕ) (L : Legal N i j) where
       (λ x y h a b s. now-sym y x ∙ h b a (now-allows-sym x y b a ∙ s))
       (λ k t a b s. pairs .stated-moved .at-ik k t)
       (λ k t a b s. clash s (pairs .allows-moved a b .at-jk k t))
-      (λ x y r a b s. pairs .stated-moved .at-rest x y r ∙ S .allows-stated x y a b (sym (pairs .allows-moved a b .at-rest x y r) ∙ s))
+      (λ x y r a b s. pairs .stated-moved .elsewhere x y r ∙ S .allows-stated x y a b (sym (pairs .allows-moved a b .elsewhere x y r) ∙ s))
 
   now-allows-in : (x y a b : ℕ) → eliminate N i j .allows x y a b ≡ true → (a < N .size x) × (b < N .size y)
   now-allows-in =
@@ -157,15 +129,14 @@ module _ (N : Network) (S : Sound N) (i j : ℕ) (L : Legal N i j) where
       (λ k t a b s. let e = composed-e N i j k a b _ (sym (pairs .allows-moved a b .at-ik k t) ∙ s) in
       (S .domain-in i a (trimmed-domain N i j a (e .0)), S .domain-in k b (e .1)))
       (λ k t a b s. clash s (pairs .allows-moved a b .at-jk k t))
-      (λ x y r a b s. S .allows-in x y a b (sym (pairs .allows-moved a b .at-rest x y r) ∙ s))
+      (λ x y r a b s. S .allows-in x y a b (sym (pairs .allows-moved a b .elsewhere x y r) ∙ s))
 
   -- A free variable other than j stays free.
   stays-free : (x : ℕ) → N .leader x ≡ 0 → (x ≡ j → ⊥) → eliminate N i j .leader x ≡ 0
   stays-free x h d = leader-other N i j x d (λ e. let z : ⊥ = omega arith in z) ∙ h
 
   i-stays-free : eliminate N i j .leader i ≡ 0
-  unfolding free
-  i-stays-free = stays-free i (eqb-true _ 0 (L .i-free)) (L .distinct)
+  i-stays-free = stays-free i (free-e N i (L .i-free)) (L .distinct)
 
   now-leader-free : (x l : ℕ) → eliminate N i j .leader x ≡ suc l → (l < N .n) × (eliminate N i j .leader l ≡ 0)
   now-leader-free =
@@ -176,49 +147,56 @@ module _ (N : Network) (S : Sound N) (i j : ℕ) (L : Legal N i j) where
 
   -- What follows is not what is free.
   not-free : (x y l : ℕ) → N .leader x ≡ suc l → free N y ≡ true → x ≡ y → ⊥
-  unfolding free
-  not-free x y l h g e = let z : N .leader y ≡ 0 = eqb-true _ 0 g in let w : N .leader x ≡ N .leader y = ap (N .leader) e in omega arith
+  not-free x y l h g e = omega (arith, free-e N y g, ap (N .leader) e)
 
-  -- A follower of j is a third variable, and one of another leader is stated with neither i nor j anew.
+  -- A follower of j is a third variable.
   follower-third : (x : ℕ) → N .leader x ≡ suc j → third N i j x ≡ true
   follower-third x h =
       third-i N i j x (S .stated-sym j x ∙ S .follower-stated x j h) (not-free x i j h (L .i-free)) (not-free x j j h (L .j-free))
 
-  follower-rest : (x l : ℕ) → N .leader x ≡ suc l → (l ≡ j → ⊥) → (y : ℕ) → Rest i j (third N i j) x y
-  follower-rest x l h d y =
+  -- A follower's pairs stay, unless it is a third variable and the other is i or j.
+  follower-stays : (x l : ℕ) → N .leader x ≡ suc l
+      → (y : ℕ) → (y ≡ i → third N i j x ≡ false) → (y ≡ j → third N i j x ≡ false) → Stays i j (third N i j) x y
+  follower-stays x l h y ni nj =
       record {
         left-i = λ e. absurd (not-free x i l h (L .i-free) e);
-        right-i = λ e. no-third;
+        right-i = ni;
         left-j = λ e. absurd (not-free x j l h (L .j-free) e);
-        right-j = λ e. no-third;
+        right-j = nj;
       }
+
+  -- A follower of another leader than j is not a third variable: all its pairs stay.
+  other-follower-stays : (x l : ℕ) → N .leader x ≡ suc l → (l ≡ j → ⊥) → (y : ℕ) → Stays i j (third N i j) x y
+  other-follower-stays x l h d y = follower-stays x l h y (λ e. no-third) (λ e. no-third)
     where
       no-third : third N i j x ≡ false
       no-third = not-true→false _ (λ t. d (sym (S .follower-only x l j h (S .stated-sym x j ∙ third-e N i j x t .0))))
 
-  i-j-rest : Rest i j (third N i j) i j
-  i-j-rest = own-rest i j _ (i-not-third N i j) (j-not-third N i j) (L .distinct)
-
   now-follower-stated : (x l : ℕ) → eliminate N i j .leader x ≡ suc l → eliminate N i j .stated x l ≡ true
   now-follower-stated =
       leader-case N i j (λ (x l : ℕ). eliminate N i j .stated x l ≡ true)
-      (now-sym j i ∙ (pairs .stated-moved .at-rest i j i-j-rest ∙ L .pair-stated))
+      (now-sym j i ∙ (pairs .stated-moved .elsewhere i j (ij-stays N i j (L .distinct)) ∙ L .pair-stated))
       (λ x h. pairs .stated-moved .at-ki x (follower-third x h))
-      (λ x l h d e. pairs .stated-moved .at-rest x l (follower-rest x l h e l) ∙ S .follower-stated x l h)
+      (λ x l h d e. pairs .stated-moved .elsewhere x l (other-follower-stays x l h e l) ∙ S .follower-stated x l h)
 
   -- j is stated with i alone,
   j-only : (k : ℕ) → eliminate N i j .stated j k ≡ true → k ≡ i
   j-only k s =
       by-cases (third N i j k)
       (λ t. clash s (pairs .stated-moved .at-jk k t))
-      (λ t. let old : N .stated j k ≡ true = sym (pairs .stated-moved .at-rest j k (stays t)) ∙ s in
+      (λ t. let old : N .stated j k ≡ true = sym (pairs .stated-moved .elsewhere j k (stays t)) ∙ s in
       by-cases (eqb k i)
       (λ e. eqb-true k i e)
       (λ e. clash (third-i N i j k old (eqb-false k i e) (λ q. clash old (ap (N .stated j) q ∙ S .no-self j))) t))
     where
-      stays : third N i j k ≡ false → Rest i j (third N i j) j k
+      stays : third N i j k ≡ false → Stays i j (third N i j) j k
       stays t =
-          record { left-i = λ e. absurd (L .distinct (sym e)); right-i = λ e. j-not-third N i j; left-j = λ e. t; right-j = λ e. j-not-third N i j }
+          record {
+            left-i = λ e. absurd (L .distinct (sym e));
+            right-i = λ e. j-not-third N i j;
+            left-j = λ e. t;
+            right-j = λ e. j-not-third N i j;
+          }
 
   -- and so are those that followed j.
   follower-only-i : (x : ℕ) → N .leader x ≡ suc j → (k : ℕ) → eliminate N i j .stated x k ≡ true → k ≡ i
@@ -227,24 +205,18 @@ module _ (N : Network) (S : Sound N) (i j : ℕ) (L : Legal N i j) where
       (λ k ki s. absurd
       (is-or-not j (λ (k : ℕ). (k ≡ i → ⊥) → eliminate N i j .stated x k ≡ true → ⊥)
       (λ ji s. clash s (pairs .stated-moved .at-kj x (follower-third x h)))
-      (λ k kj ki s. kj (S .follower-only x j k h (sym (pairs .stated-moved .at-rest x k (stays k ki kj)) ∙ s)))
+      (λ k kj ki s. kj (S .follower-only x j k h (sym (pairs .stated-moved .elsewhere x k (stays k ki kj)) ∙ s)))
       k ki s))
     where
-      stays : (k : ℕ) → (k ≡ i → ⊥) → (k ≡ j → ⊥) → Rest i j (third N i j) x k
-      stays k ki kj =
-          record {
-            left-i = λ e. absurd (not-free x i j h (L .i-free) e);
-            right-i = λ e. absurd (ki e);
-            left-j = λ e. absurd (not-free x j j h (L .j-free) e);
-            right-j = λ e. absurd (kj e);
-          }
+      stays : (k : ℕ) → (k ≡ i → ⊥) → (k ≡ j → ⊥) → Stays i j (third N i j) x k
+      stays k ki kj = follower-stays x j h k (λ e. absurd (ki e)) (λ e. absurd (kj e))
 
   now-follower-only : (k x l : ℕ) → eliminate N i j .leader x ≡ suc l → eliminate N i j .stated x k ≡ true → k ≡ l
   now-follower-only k =
       leader-case N i j (λ (x l : ℕ). eliminate N i j .stated x k ≡ true → k ≡ l)
       (j-only k)
       (λ x h. follower-only-i x h k)
-      (λ x l h d e s. S .follower-only x l k h (sym (pairs .stated-moved .at-rest x k (follower-rest x l h e k)) ∙ s))
+      (λ x l h d e s. S .follower-only x l k h (sym (pairs .stated-moved .elsewhere x k (other-follower-stays x l h e k)) ∙ s))
 
   -- A value of i has the partners in an old follower of j that its one partner in j has.
   partner-through : (x : ℕ) → N .leader x ≡ suc j → (a b c : ℕ) → N .domain i a ≡ true → N .domain j b ≡ true → N .allows i j a b ≡ true
@@ -260,9 +232,9 @@ module _ (N : Network) (S : Sound N) (i j : ℕ) (L : Legal N i j) where
       unstated = not-true→false _ (λ t. L .distinct (S .follower-only x j i h (S .stated-sym x i ∙ t)))
 
   -- The partners of i in j, and of any variable in a follower of another leader, stay.
-  partner-stays : (l x a c : ℕ) → (x ≡ i → ⊥) → Rest i j (third N i j) l x → partner (eliminate N i j) l x a c ≡ partner N l x a c
+  partner-stays : (l x a c : ℕ) → (x ≡ i → ⊥) → Stays i j (third N i j) l x → partner (eliminate N i j) l x a c ≡ partner N l x a c
   unfolding partner
-  partner-stays l x a c d r = ap₂ and (domain-other N i j x c d) (pairs .allows-moved a c .at-rest l x r)
+  partner-stays l x a c d r = ap₂ and (domain-other N i j x c d) (pairs .allows-moved a c .elsewhere l x r)
 
   now-follower-one : (a x l : ℕ) → eliminate N i j .leader x ≡ suc l → eliminate N i j .domain l a ≡ true
       → count (N .size x) (partner (eliminate N i j) l x a) ≡ 1
@@ -270,14 +242,14 @@ module _ (N : Network) (S : Sound N) (i j : ℕ) (L : Legal N i j) where
   now-follower-one a =
       leader-case N i j (λ (x l : ℕ). eliminate N i j .domain l a ≡ true → count (N .size x) (partner (eliminate N i j) l x a) ≡ 1)
       (λ da. trimmed-e N i j a (sym (domain-i N i j a) ∙ da)
-      (λ b db ab. count-cong (N .size j) _ _ (λ c lc. partner-stays i j a c (λ e. L .distinct (sym e)) i-j-rest)
+      (λ b db ab. count-cong (N .size j) _ _ (λ c lc. partner-stays i j a c (λ e. L .distinct (sym e)) (ij-stays N i j (L .distinct)))
       ∙ count-one (N .size j) (partner N i j a) b (S .domain-in j b db) (and-i _ _ db ab)
       (λ c lc p. one-partner N i j S (L .is-functional) a c b (domain-fewer N i j i a da) (and-l _ _ p) (and-r _ _ p) db ab)))
       (λ x h da. trimmed-e N i j a (sym (domain-i N i j a) ∙ da)
       (λ b db ab. count-cong (N .size x) _ _ (λ c lc. partner-through x h a b c (domain-fewer N i j i a da) db ab)
       ∙ S .follower-one x j b h db))
       (λ x l h d e da. count-cong (N .size x) _ _
-      (λ c lc. partner-stays l x a c (not-free x i l h (L .i-free)) (rest-sym i j _ x l (follower-rest x l h e l)))
+      (λ c lc. partner-stays l x a c (not-free x i l h (L .i-free)) (stays-sym i j _ x l (other-follower-stays x l h e l)))
       ∙ S .follower-one x l a h (domain-fewer N i j l a da))
 
 pub eliminate-sound : (N : Network) → Sound N → (i j : ℕ) → legal N i j ≡ true → Sound (eliminate N i j)
@@ -291,7 +263,7 @@ eliminate-sound N S i j legal-step =
       domain-in = λ x a h. S .domain-in x a (domain-fewer N i j x a h);
       leader-past = λ x h. let l : j < N .n = L .j-in in stays-free N S i j L x (S .leader-past x h) (omega arith);
       stated-in = now-stated-in N S i j L;
-      no-self = λ x. pairs N S i j L .stated-moved .at-rest x x (self-rest i j _ (i-not-third N i j) (j-not-third N i j) x) ∙ S .no-self x;
+      no-self = λ x. pairs N S i j L .stated-moved .elsewhere x x (self-pair-stays i j _ (i-not-third N i j) (j-not-third N i j) x) ∙ S .no-self x;
       stated-sym = now-sym N S i j L;
       allows-stated = now-allows-stated N S i j L;
       allows-in = now-allows-in N S i j L;

@@ -2,6 +2,7 @@ pub mod Sound
 pub mod Pairs
 pub mod Step
 pub mod Keep
+pub mod Substitution
 pub mod Completion
 pub mod Count
 pub mod Reduction

@@ -4,7 +4,7 @@ use mathlib.Core.Bool.{Bool, true, false}
 use mathlib.Core.Path.{_≡_, refl, sym, _∙_, ap, subst, fun-ext}
 use Prim.Native.Nat.{ℕ, _<_}
 use lib.Dec.{eqb}
-use borrow.Author.Tests.{eq-eqb, ne-eqb, eqb-true, eqb-false}
+use borrow.Author.Tests.{eq-eqb, eqb-true}
 use Rattle.bounded.specs.Bool.{and, or, if}
 use Rattle.bounded.specs.Fold.{every}
 use Rattle.bounded.proofs.Bool.{by-cases, clash, bool-ext, and-i, and-l, and-r, and-false, false-and, or-l, or-r, or-false-i, if-true, if-false}
@@ -24,22 +24,22 @@ not-and-e x p b h e = by-cases b (λ t. clash (and-i (eqb x p) b (eq-eqb x p e) 
 
 module _ (i j : ℕ) (T : ℕ → Bool) where
   -- A pair that stays.
-  pub record Rest (x y : ℕ) : Type 0 where
+  pub record Stays (x y : ℕ) : Type 0 where
     pub left-i : x ≡ i → T y ≡ false
     pub right-i : y ≡ i → T x ≡ false
     pub left-j : x ≡ j → T y ≡ false
     pub right-j : y ≡ j → T x ≡ false
 
-  pub rest-sym : (x y : ℕ) → Rest x y → Rest y x
-  rest-sym x y r = record { left-i = r .right-i; right-i = r .left-i; left-j = r .right-j; right-j = r .left-j }
+  pub stays-sym : (x y : ℕ) → Stays x y → Stays y x
+  stays-sym x y r = record { left-i = r .right-i; right-i = r .left-i; left-j = r .right-j; right-j = r .left-j }
 
   -- The pair i, j itself stays, and so does each pair of a number with itself.
   module _ (i-out : T i ≡ false) (j-out : T j ≡ false) where
-    pub own-rest : (i ≡ j → ⊥) → Rest i j
-    own-rest d = record { left-i = λ e. j-out; right-i = λ e. absurd (d (sym e)); left-j = λ e. absurd (d e); right-j = λ e. i-out }
+    pub own-pair-stays : (i ≡ j → ⊥) → Stays i j
+    own-pair-stays d = record { left-i = λ e. j-out; right-i = λ e. absurd (d (sym e)); left-j = λ e. absurd (d e); right-j = λ e. i-out }
 
-    pub self-rest : (x : ℕ) → Rest x x
-    self-rest x = record { left-i = at-i; right-i = at-i; left-j = at-j; right-j = at-j }
+    pub self-pair-stays : (x : ℕ) → Stays x x
+    self-pair-stays x = record { left-i = at-i; right-i = at-i; left-j = at-j; right-j = at-j }
       where
         at-i : x ≡ i → T x ≡ false
         at-i e = ap T e ∙ i-out
@@ -51,38 +51,34 @@ module _ (i j : ℕ) (T : ℕ → Bool) where
   pub pair-case : (P : ℕ → ℕ → Type 0)
       → ((k : ℕ) → T k ≡ true → P i k) → ((k : ℕ) → T k ≡ true → P k i)
       → ((k : ℕ) → T k ≡ true → P j k) → ((k : ℕ) → T k ≡ true → P k j)
-      → ((x y : ℕ) → Rest x y → P x y)
+      → ((x y : ℕ) → Stays x y → P x y)
       → (x y : ℕ) → P x y
   pair-case P ik ki jk kj rest x y =
-      left i ik (λ a.
-      right i ki (λ b.
-      left j jk (λ c.
-      right j kj (λ d.
+      is-pair i x y (λ (z : ℕ). P z y) (ik y) (λ a.
+      is-pair i y x (P x) (ki x) (λ b.
+      is-pair j x y (λ (z : ℕ). P z y) (jk y) (λ c.
+      is-pair j y x (P x) (kj x) (λ d.
       rest x y (record { left-i = a; right-i = b; left-j = c; right-j = d })))))
     where
-      left : (p : ℕ) → ((k : ℕ) → T k ≡ true → P p k) → ((x ≡ p → T y ≡ false) → P x y) → P x y
-      left p f g = by-cases (and (eqb x p) (T y))
-          (λ t. subst (λ (z : ℕ). P z y) (sym (eqb-true x p (and-l _ _ t))) (f y (and-r _ _ t)))
-          (λ t. g (not-and-e x p (T y) t))
-
-      right : (p : ℕ) → ((k : ℕ) → T k ≡ true → P k p) → ((y ≡ p → T x ≡ false) → P x y) → P x y
-      right p f g = by-cases (and (eqb y p) (T x))
-          (λ t. subst (λ (z : ℕ). P x z) (sym (eqb-true y p (and-l _ _ t))) (f x (and-r _ _ t)))
-          (λ t. g (not-and-e y p (T x) t))
+      is-pair : (p z k : ℕ) (Q : ℕ → Type 0) → (T k ≡ true → Q p) → ((z ≡ p → T k ≡ false) → Q z) → Q z
+      is-pair p z k Q f g = by-cases (and (eqb z p) (T k))
+          (λ t. subst Q (sym (eqb-true z p (and-l _ _ t))) (f (and-r _ _ t)))
+          (λ t. g (not-and-e z p (T k) t))
 
   -- The same for what is alike on both sides.
   pub pair-case-sym : (P : ℕ → ℕ → Type 0) → ((x y : ℕ) → P x y → P y x)
-      → ((k : ℕ) → T k ≡ true → P i k) → ((k : ℕ) → T k ≡ true → P j k) → ((x y : ℕ) → Rest x y → P x y)
+      → ((k : ℕ) → T k ≡ true → P i k) → ((k : ℕ) → T k ≡ true → P j k) → ((x y : ℕ) → Stays x y → P x y)
       → (x y : ℕ) → P x y
   pair-case-sym P s ik jk rest = pair-case P ik (λ k t. s i k (ik k t)) jk (λ k t. s j k (jk k t)) rest
 
 -- The table `now`, where `old` stood before: case by case.
-pub record Moved {A : Type 0} (i j : ℕ) (T : ℕ → Bool) (new-ik new-ki : ℕ → ℕ → A) (gone : A) (old now : ℕ → ℕ → A) : Type 0 where
+pub record Moved {A : Type 0} (i j : ℕ) (T : ℕ → Bool) (new-ik new-ki : ℕ → ℕ → A) (gone : A) (old now : ℕ → ℕ → A)
+    : Type 0 where
   pub at-ik : (k : ℕ) → T k ≡ true → now i k ≡ new-ik i k
   pub at-ki : (k : ℕ) → T k ≡ true → now k i ≡ new-ki k i
   pub at-jk : (k : ℕ) → T k ≡ true → now j k ≡ gone
   pub at-kj : (k : ℕ) → T k ≡ true → now k j ≡ gone
-  pub at-rest : (x y : ℕ) → Rest i j T x y → now x y ≡ old x y
+  pub elsewhere : (x y : ℕ) → Stays i j T x y → now x y ≡ old x y
 
 module _ {A : Type 0} (i j : ℕ) (T : ℕ → Bool) (new-ik new-ki : ℕ → ℕ → A) (gone : A) (old : ℕ → ℕ → A) where
   -- How such a table is written.
@@ -97,17 +93,20 @@ module _ {A : Type 0} (i j : ℕ) (T : ℕ → Bool) (new-ik new-ki : ℕ → �
       record {
         at-ik = λ k t. if-true _ _ _ (is-and i (T k) t);
         at-ki = λ k t. if-false _ _ _ (not-and k i (T i) (λ e. ti)) ∙ if-true _ _ _ (is-and i (T k) t);
-        at-jk =
-            λ k t. if-false _ _ _ (not-and j i (T k) (λ e. absurd (d (sym e)))) ∙ (if-false _ _ _ (not-and k i (T j) (λ e. tj))
-            ∙ if-true _ _ _ (or-l _ _ (is-and j (T k) t)));
-        at-kj =
-            λ k t. if-false _ _ _ (not-and k i (T j) (λ e. tj)) ∙ (if-false _ _ _ (not-and j i (T k) (λ e. absurd (d (sym e))))
-            ∙ if-true _ _ _ (or-r _ _ (is-and j (T k) t)));
-        at-rest =
+        at-jk = λ k t. if-false _ _ _ (j-not-i (T k)) ∙ (if-false _ _ _ (k-not-i k) ∙ if-true _ _ _ (or-l _ _ (is-and j (T k) t)));
+        at-kj = λ k t. if-false _ _ _ (k-not-i k) ∙ (if-false _ _ _ (j-not-i (T k)) ∙ if-true _ _ _ (or-r _ _ (is-and j (T k) t)));
+        elsewhere =
             λ x y r. if-false _ _ _ (not-and x i (T y) (r .left-i)) ∙ (if-false _ _ _ (not-and y i (T x) (r .right-i))
             ∙ if-false _ _ _ (or-false-i _ _ (not-and x j (T y) (r .left-j)) (not-and y j (T x) (r .right-j))));
       }
+    where
+      j-not-i : (b : Bool) → and (eqb j i) b ≡ false
+      j-not-i b = not-and j i b (λ e. absurd (d (sym e)))
 
+      k-not-i : (k : ℕ) → and (eqb k i) (T j) ≡ false
+      k-not-i k = not-and k i (T j) (λ e. tj)
+
+  -- Whatever is written so is such a table.
   pub moved : (i ≡ j → ⊥) → T i ≡ false → T j ≡ false → (now : ℕ → ℕ → A) → ((x y : ℕ) → now x y ≡ table x y)
       → Moved i j T new-ik new-ki gone old now
   moved d ti tj now e =
@@ -125,11 +124,11 @@ pairs-moved n i j T old now li lj m =
     (λ k t l _. and-l _ _ (sym (m .at-ki k t) ∙ all k i l li))
     (λ k t _ l. and-r _ _ (sym (m .at-ik k t) ∙ all i k li l))
     (λ k t l _. and-r _ _ (sym (m .at-ki k t) ∙ all k i l li))
-    (λ x y r lx ly. sym (m .at-rest x y r) ∙ all x y lx ly)))
+    (λ x y r lx ly. sym (m .elsewhere x y r) ∙ all x y lx ly)))
     (λ h. let all : (x y : ℕ) → x < n → y < n → old x y ≡ true = pairs-e n old h in
     pairs-i n now (pair-case i j T (λ (x y : ℕ). x < n → y < n → now x y ≡ true)
     (λ k t _ l. m .at-ik k t ∙ and-i _ _ (all i k li l) (all j k lj l))
     (λ k t l _. m .at-ki k t ∙ and-i _ _ (all k i l li) (all k j l lj))
     (λ k t _ l. m .at-jk k t)
     (λ k t l _. m .at-kj k t)
-    (λ x y r lx ly. m .at-rest x y r ∙ all x y lx ly)))
+    (λ x y r lx ly. m .elsewhere x y r ∙ all x y lx ly)))

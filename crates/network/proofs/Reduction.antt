@@ -126,10 +126,6 @@ pub next-leads : (N : Network) → reducible N ≡ true → leading N (nextLeade
 unfolding reducible nextLeader
 next-leads N h = first-passes (N .n) (leading N) (first-some (N .n) (leading N) h)
 
-pub next-legal : (N : Network) → reducible N ≡ true → legal N (nextLeader N) (nextFollower N) ≡ true
-unfolding leading nextFollower
-next-legal N h = first-passes (N .n) (legal N (nextLeader N)) (first-some (N .n) (legal N (nextLeader N)) (next-leads N h))
-
 -- "the lowest i that has a legal j, with the lowest such j"
 pub next-leader-lowest : (N : Network) (i : ℕ) → i < nextLeader N → leading N i ≡ false
 unfolding nextLeader
@@ -138,6 +134,10 @@ next-leader-lowest N i l = first-below (N .n) (leading N) i l
 pub next-follower-lowest : (N : Network) (j : ℕ) → j < nextFollower N → legal N (nextLeader N) j ≡ false
 unfolding nextFollower
 next-follower-lowest N j l = first-below (N .n) (legal N (nextLeader N)) j l
+
+pub next-legal : (N : Network) → reducible N ≡ true → legal N (nextLeader N) (nextFollower N) ≡ true
+unfolding leading nextFollower
+next-legal N h = first-passes (N .n) (legal N (nextLeader N)) (first-some (N .n) (legal N (nextLeader N)) (next-leads N h))
 
 -- The reduction, case by case.
 pub reduceWithin-zero : (N : Network) → reduceWithin zero N ≡ record { network = N; steps = 0 }
@@ -172,7 +172,7 @@ reduceWithin-full (suc most) N h =
 
 pub reduce-run : (N : Network) → Run N (reduce N .network) (reduce N .steps)
 unfolding reduce
-reduce-run N = reduceWithin-run (N .n) N
+reduce-run N = reduceWithin-run _ N
 
 pub reduce-count : (N : Network) → Sound N → freeCount (reduce N .network) + reduce N .steps ≡ freeCount N
 reduce-count N s = run-count s (reduce-run N)

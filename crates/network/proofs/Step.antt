@@ -1,19 +1,19 @@
 -- What a step is: when it is refused, what it leaves, case by case, and the rules 1 to 3 as document 01 says them.
 use mathlib.Core.Bool.{Bool, true, false}
 use mathlib.Core.Logic.{_↔_, Iff·rfl}
-use mathlib.Core.Path.{_≡_, refl, sym, _∙_, ap, subst}
-use Prim.Native.Nat.{ℕ, zero, suc, pred, _≤_, _<_}
+use mathlib.Core.Path.{_≡_, refl, sym, _∙_, ap, ap₂, subst}
+use Prim.Native.Nat.{ℕ, suc, pred, _≤_, _<_}
 use native.Mathlib.Omega.{arith}
-use lib.Dec.{eqb, ltb, leb}
-use borrow.Author.Tests.{eq-eqb, ne-eqb, eqb-true, eqb-false, lt-ltb, le-ltb, ltb-true, ltb-false, le-leb, leb-true}
+use lib.Dec.{eqb}
+use borrow.Author.Tests.{eq-eqb, ne-eqb, eqb-true, eqb-false, le-ltb, ltb-false, le-leb, leb-true}
 use Rattle.bounded.specs.Bool.{and, or, implies, not, if}
-use Rattle.bounded.specs.Fold.{some, every, count}
-use Rattle.bounded.proofs.Bool.{by-cases, clash, bool-ext, not-true→false, and-i, and-l, and-r, or-l, or-r, or-elim, or-false-l, or-false-r, or-false-i, implies-i, implies-e, not-i, not-e, not-false-e, not-false-i, if-true, if-false, if-or}
+use Rattle.bounded.proofs.Bool.{by-cases, bool-ext, not-true→false, and-i, and-l, and-r, or-l, or-r, or-false-l, or-false-r, or-false-i}
+use Rattle.bounded.proofs.Bool.{implies-i, implies-e, not-i, not-e, not-false-e, not-false-i, if-true, if-false, if-or}
 use Rattle.bounded.proofs.Fold.{is-or-not, every-i, every-e, some-i, some-e, count-two, count-unique}
 use Rattle.network.specs.Network.{Network, free, partner, functional}
 use Rattle.network.specs.Sound.{Sound}
 use Rattle.network.specs.Step.{outside, refusal, legal, trimmed, third, joined, composed, eliminate}
-use Rattle.network.proofs.Pairs.{Rest, Moved, moved}
+use Rattle.network.proofs.Pairs.{Stays, stays-sym, own-pair-stays, pair-case-sym, Moved, moved}
 
 -- Refusals
 
@@ -144,14 +144,6 @@ unfolding free
 follows-not-free N x l h = ne-eqb (N .leader x) 0 (omega arith)
 
 -- "no value in the list of i has more than one allowed partner in the list of j"
-pub functional-e : (N : Network) (i j : ℕ) → functional N i j ≡ true
-    → (a b c : ℕ) → a < N .size i → N .domain i a ≡ true → b < N .size j → c < N .size j
-    → partner N i j a b ≡ true → partner N i j a c ≡ true
-    → b ≡ c
-unfolding functional
-functional-e N i j h a b c la da lb lc pb pc =
-    count-two (N .size j) (partner N i j a) (leb-true _ 1 (implies-e _ _ (every-e (N .size i) _ h a la) da)) b c lb lc pb pc
-
 pub functional-i : (N : Network) (i j : ℕ)
     → ((a b c : ℕ) → a < N .size i → N .domain i a ≡ true → b < N .size j → c < N .size j
     → partner N i j a b ≡ true → partner N i j a c ≡ true
@@ -161,6 +153,14 @@ unfolding functional
 functional-i N i j h =
     every-i (N .size i) _
     (λ a la. implies-i _ _ (λ da. le-leb _ 1 (count-unique (N .size j) (partner N i j a) (λ b c lb lc. h a b c la da lb lc))))
+
+pub functional-e : (N : Network) (i j : ℕ) → functional N i j ≡ true
+    → (a b c : ℕ) → a < N .size i → N .domain i a ≡ true → b < N .size j → c < N .size j
+    → partner N i j a b ≡ true → partner N i j a c ≡ true
+    → b ≡ c
+unfolding functional
+functional-e N i j h a b c la da lb lc pb pc =
+    count-two (N .size j) (partner N i j a) (leb-true _ 1 (implies-e _ _ (every-e (N .size i) _ h a la) da)) b c lb lc pb pc
 
 module _ (N : Network) (i j : ℕ) where
   pub third-e : (k : ℕ) → third N i j k ≡ true → (N .stated j k ≡ true) × (k ≡ i → ⊥) × (k ≡ j → ⊥)
@@ -183,6 +183,9 @@ module _ (N : Network) (i j : ℕ) where
 
   pub j-not-third : third N i j j ≡ false
   j-not-third = third-not j (λ d e. e refl)
+
+  pub ij-stays : (i ≡ j → ⊥) → Stays i j (third N i j) i j
+  ij-stays = own-pair-stays i j (third N i j) i-not-third j-not-third
 
   -- What the step leaves, case by case
 
@@ -292,7 +295,8 @@ module _ (N : Network) (i j : ℕ) where
     unfolding trimmed partner
     trimmed-i a b da db h = and-i _ _ da (some-i (N .size j) _ b (S .domain-in j b db) (and-i _ _ db h))
 
-    pub joined-i : (k a b c : ℕ) → N .domain j b ≡ true → N .allows i j a b ≡ true → N .allows j k b c ≡ true → joined N i j k a c ≡ true
+    pub joined-i : (k a b c : ℕ) → N .domain j b ≡ true → N .allows i j a b ≡ true → N .allows j k b c ≡ true
+        → joined N i j k a c ≡ true
     unfolding joined
     joined-i k a b c db h g = some-i (N .size j) _ b (S .domain-in j b db) (and-i _ _ db (and-i _ _ h g))
 
@@ -310,5 +314,88 @@ module _ (N : Network) (i j : ℕ) where
     composed-at F k a b c before da db dc h =
         bool-ext _ _
         (λ p. let e = composed-e k a c before p in
-        and-i _ _ (e .3) (joined-e k a c (e .2) (λ b′ db′ h′ g. subst (λ (v : ℕ). N .allows j k v c ≡ true) (one-partner F a b′ b da db′ h′ db h) g)))
+        and-i _ _ (e .3)
+        (joined-e k a c (e .2)
+        (λ v dv av vc. subst (λ (w : ℕ). N .allows j k w c ≡ true) (one-partner F a v b da dv av db h) vc)))
         (λ p. composed-i k a c before (trimmed-i a b da db h) dc (joined-i k a b c db h (and-r _ _ p)) (and-l _ _ p))
+
+-- What a pair says, if it is stated, it says from both sides.
+pub both-sides : (N : Network) → Sound N → (x y a b : ℕ)
+    → implies (N .stated x y) (N .allows x y a b) ≡ implies (N .stated y x) (N .allows y x b a)
+both-sides N S x y a b = ap₂ implies (S .stated-sym x y) (S .allows-sym x y a b)
+
+-- A pair seen from its two options still says the same.
+module _ (N : Network) (S : Sound N) (i j : ℕ) (T : ℕ → Bool) (M : Network) (m : MovedPairs N i j T M) where
+  pub moved-stated-sym : (x y : ℕ) → M .stated x y ≡ M .stated y x
+  moved-stated-sym =
+      pair-case-sym i j T (λ (x y : ℕ). M .stated x y ≡ M .stated y x)
+      (λ x y. sym)
+      (λ k t. m .stated-moved .at-ik k t ∙ sym (m .stated-moved .at-ki k t))
+      (λ k t. m .stated-moved .at-jk k t ∙ sym (m .stated-moved .at-kj k t))
+      (λ x y r. m .stated-moved .elsewhere x y r ∙ (S .stated-sym x y ∙ sym (m .stated-moved .elsewhere y x (stays-sym i j T x y r))))
+
+  pub moved-allows-sym : (x y a b : ℕ) → M .allows x y a b ≡ M .allows y x b a
+  moved-allows-sym =
+      pair-case-sym i j T (λ (x y : ℕ). (a b : ℕ) → M .allows x y a b ≡ M .allows y x b a)
+      (λ x y h a b. sym (h b a))
+      (λ k t a b. m .allows-moved a b .at-ik k t
+      ∙ (ap (composed N i j k a b) (both-sides N S i k a b) ∙ sym (m .allows-moved b a .at-ki k t)))
+      (λ k t a b. m .allows-moved a b .at-jk k t ∙ sym (m .allows-moved b a .at-kj k t))
+      (λ x y r a b. m .allows-moved a b .elsewhere x y r
+      ∙ (S .allows-sym x y a b ∙ sym (m .allows-moved b a .elsewhere y x (stays-sym i j T x y r))))
+
+-- The rules, in document 01's words: what M is after the step in which j comes to follow i.
+pub record Rules (N : Network) (i j : ℕ) (M : Network) : Type 0 where
+  -- 1. "The list of i loses each value that has no allowed partner in the list of j."
+  pub rule-1 : (a : ℕ)
+      → (M .domain i a ≡ true) ↔ ((N .domain i a ≡ true) × ((b : ℕ) × (N .domain j b ≡ true) × (N .allows i j a b ≡ true)))
+  pub rule-1-rest : (x a : ℕ) → (x ≡ i → ⊥) → M .domain x a ≡ N .domain x a
+  -- 2. "For each third option k stated with j, the pair i, k becomes stated. It allows (a, c) exactly when a is in the new list of i,
+  -- c is in the list of k, some b in the list of j goes with both, and, if i, k was stated before, it allowed (a, c) before."
+  pub rule-2-stated : (k : ℕ) → third N i j k ≡ true → M .stated i k ≡ true
+  pub rule-2 : (k a c : ℕ) → third N i j k ≡ true
+      → (M .allows i k a c ≡ true)
+      ↔ ((M .domain i a ≡ true)
+      × (N .domain k c ≡ true)
+      × ((b : ℕ) × (N .domain j b ≡ true) × (N .allows i j a b ≡ true) × (N .allows j k b c ≡ true))
+      × (N .stated i k ≡ true → N .allows i k a c ≡ true))
+  pub rule-2-side : (k a c : ℕ) → third N i j k ≡ true → (M .stated k i ≡ M .stated i k) × (M .allows k i c a ≡ M .allows i k a c)
+  -- "The pair j, k is then unstated and allows nothing." Every other pair is as it was.
+  pub rule-2-gone : (k b c : ℕ) → third N i j k ≡ true
+      → (M .stated j k ≡ false) × (M .stated k j ≡ false) × (M .allows j k b c ≡ false) × (M .allows k j c b ≡ false)
+  pub rule-2-rest : (x y a b : ℕ) → Stays i j (third N i j) x y
+      → (M .stated x y ≡ N .stated x y) × (M .allows x y a b ≡ N .allows x y a b)
+  -- 3. "Followers of j get i as leader, and so does j."
+  pub rule-3-followers : (x : ℕ) → N .leader x ≡ suc j → M .leader x ≡ suc i
+  pub rule-3 : M .leader j ≡ suc i
+  pub rule-3-rest : (x : ℕ) → (x ≡ j → ⊥) → (N .leader x ≡ suc j → ⊥) → M .leader x ≡ N .leader x
+
+pub eliminate-rules : (N : Network) → Sound N → (i j : ℕ) → (i ≡ j → ⊥) → Rules N i j (eliminate N i j)
+eliminate-rules N S i j d =
+    let m = eliminate-moves N i j d in
+    record {
+      rule-1 =
+          λ a. (
+            λ h. let t : trimmed N i j a ≡ true = sym (domain-i N i j a) ∙ h in
+                (trimmed-domain N i j a t, trimmed-e N i j a t (λ b db ab. (b, db, ab))),
+            λ h. domain-i N i j a ∙ trimmed-i N i j S a (h .1 .0) (h .0) (h .1 .1) (h .1 .2),
+          );
+      rule-1-rest = domain-other N i j;
+      rule-2-stated = m .stated-moved .at-ik;
+      rule-2 =
+          λ k a c t. (
+            λ h. let e = composed-e N i j k a c _ (sym (m .allows-moved a c .at-ik k t) ∙ h) in
+                (domain-i N i j a ∙ e .0, e .1, joined-e N i j k a c (e .2) (λ b db ab bc. (b, db, ab, bc)), implies-e _ _ (e .3)),
+            λ h. let p = h .2 in
+                m .allows-moved a c .at-ik k t
+                ∙ composed-i N i j k a c _ (sym (domain-i N i j a) ∙ h .0) (h .1)
+                (joined-i N i j S k a (p .0) c (p .1) (p .2) (p .3)) (implies-i _ _ (h .3)),
+          );
+      rule-2-side = λ k a c t. (moved-stated-sym N S i j _ _ m k i, moved-allows-sym N S i j _ _ m k i c a);
+      rule-2-gone =
+          λ k b c t. (m .stated-moved .at-jk k t, m .stated-moved .at-kj k t, m .allows-moved b c .at-jk k t, m .allows-moved c b .at-kj k t);
+      rule-2-rest = λ x y a b r. (m .stated-moved .elsewhere x y r, m .allows-moved a b .elsewhere x y r);
+      rule-3-followers = leader-of-j N i j;
+      rule-3 = leader-j N i j;
+      rule-3-rest = leader-other N i j;
+    }

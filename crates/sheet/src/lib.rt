@@ -1,4 +1,13 @@
 // Option sheets: the state and the public calls.
+mod answers;
 mod state;
 
+pub use answers::Answer;
+pub use answers::Outcome;
+pub use answers::ReadAnswer;
+pub use answers::ReadOutcome;
+pub use answers::TestAnswer;
+pub use answers::Verdict;
+pub use answers::VerdictAnswer;
+pub use answers::WriteAnswer;
 pub use state::State;
