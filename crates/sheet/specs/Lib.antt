@@ -1,2 +1,8 @@
 -- What the public calls mean.
 pub mod View
+pub mod Answers
+pub mod Read
+pub mod Write
+pub mod Steps
+pub mod Solutions
+pub mod Promise

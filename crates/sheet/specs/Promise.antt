@@ -1,0 +1,111 @@
+-- Demand 3: "What demand 3 counts" of document 01, sentence by sentence. Together with the contracts of the calls, which cite the same definitions
+-- (`readSheet`, `stepped`, `reduced`, `tested`, `completeNumber`, `completedBuffer`, `verdictOf`), it speaks of the code.
+use mathlib.Core.Bool.{Bool, true, false}
+use mathlib.Core.List.{List, [], _∷_, _++_}
+use mathlib.Core.Logic.{_↔_}
+use mathlib.Core.Path.{_≡_}
+use Prim.Native.Nat.{ℕ, _+_, _-_, _<_}
+use lib.ListN.{length, getD, take}
+use Rattle.bounded.specs.Bool.{and}
+use Rattle.bounded.specs.Table.{tabulate}
+use Rattle.words.specs.Word.{has}
+use Rattle.network.specs.Network.{Network, free}
+use Rattle.network.specs.Reduction.{freeCount}
+use Rattle.network.specs.Completion.{Verdict, NONE, BUILT, allowedChoice}
+use Rattle.network.specs.Count.{countTuples, choiceCount}
+use Rattle.network.specs.Sheet.{Table, Sheet, networkOf}
+use Rattle.network.specs.Calls.{Call, follow-step, full-reduction, after}
+use Rattle.format.specs.Layout.{version1}
+use Rattle.format.specs.Parse.{Parse, got, bad, parse}
+use Rattle.format.specs.Builds.{options, optionSize, isBuild, isBuildOf}
+use Rattle.sheet.specs.declared.state.State.{State}
+use Rattle.sheet.specs.View.{view, pack, zeroState}
+use Rattle.sheet.specs.Answers.{ReadTold, Told, says, VerdictTold, rules}
+use Rattle.sheet.specs.Read.{readSheet}
+use Rattle.sheet.specs.Steps.{stepped, reduced}
+use Rattle.sheet.specs.Solutions.{valuesOf, tested, completeNumber, completedBuffer, verdictOf}
+
+-- "Each call gets the state that the one before it handed back; a refused call hands back what it was given."
+unfoldable pub handedBack : State → Call → State
+handedBack s (follow-step l f) = stepped s l f .state
+handedBack s full-reduction = reduced s .state
+
+unfoldable pub stateAfter : State → List Call → State
+stateAfter s [] = s
+stateAfter s (c ∷ cs) = stateAfter (handedBack s c) cs
+
+-- The tables that a call adds to the sheet: none today.
+unfoldable pub adds : State → Call → List Table
+adds s (follow-step l f) = []
+adds s full-reduction = []
+
+unfoldable pub addedBy : State → List Call → List Table
+addedBy s [] = []
+addedBy s (c ∷ cs) = adds s c ++ addedBy (handedBack s c) cs
+
+-- f keeps to the added tables.
+unfoldable pub keepsTo : List Table → (ℕ → ℕ) → Bool
+keepsTo [] f = true
+keepsTo (t ∷ ts) f = and (has (getD (t .rows) (f (t .first - 1)) 0) (f (t .second - 1))) (keepsTo ts f)
+
+-- The network of an accepted sheet.
+unfoldable pub networkRead : Parse Sheet → Network
+networkRead (got s next) = networkOf s
+networkRead (bad c at) = view zeroState
+
+-- The kind of a verdict is k, whatever build is shown.
+unfoldable pub ruledAs : Verdict → VerdictTold → Type 0
+ruledAs k v = (build : List ℕ) × (v ≡ rules k build)
+
+module _ (bytes : List ℕ) (cs : List Call) where
+  -- "It starts from the state that the reader returned for the accepted sheet." "On the state handed back last":
+  unfoldable pub lastState : State
+  lastState = stateAfter (readSheet bytes .state) cs
+
+  -- "Live options, options' lists and pairs are those that the rules above give from the sheet, call by call."
+  unfoldable pub lastNetwork : Network
+  lastNetwork = after (networkRead (parse version1 bytes)) cs
+
+  -- "A build of a sheet is read off its bytes alone", together with the tables that calls added.
+  unfoldable pub buildOfSheet : List ℕ → Bool
+  buildOfSheet build = and (isBuildOf bytes build) (keepsTo (addedBy (readSheet bytes .state) cs) (valuesOf build))
+
+  -- "builds [told apart] by their n bytes": counted over all tuples below the sizes.
+  unfoldable pub buildCount : ℕ
+  buildCount =
+      countTuples (options bytes) (λ (i : ℕ). optionSize bytes (i + 1))
+      (λ (f : ℕ → ℕ). and (isBuild bytes f) (keepsTo (addedBy (readSheet bytes .state) cs) f))
+
+  -- Two buffers have the same values at the live options.
+  abbrev pub SameLive : List ℕ → List ℕ → Type 0
+  SameLive b c = (i : ℕ) → i < options bytes → free lastNetwork i ≡ true → getD b i 0 ≡ getD c i 0
+
+  pub record Promise : Type 0 where
+    -- The state handed back last is the one of that network.
+    pub packed : lastState ≡ pack lastNetwork
+    -- "the tester says yes to a buffer exactly when its bytes are a build of the sheet"
+    pub tester : (b : List ℕ) → (tested lastState b ≡ says true) ↔ (buildOfSheet b ≡ true)
+    -- "From every allowed choice the completer gives a build of the sheet": for n bytes that are an allowed choice at the live options,
+    -- whatever the others hold, it does not refuse, keeps the bytes of live options,
+    pub completer-accepts : (b : List ℕ) → length b ≡ options bytes → allowedChoice lastNetwork (valuesOf b) ≡ true → completeNumber lastState b ≡ 0
+    pub completer-keeps : (b : List ℕ) → length b ≡ options bytes → allowedChoice lastNetwork (valuesOf b) ≡ true
+        → SameLive (completedBuffer lastState b) b
+    -- and leaves a build of the sheet,
+    pub completer-builds : (b : List ℕ) → length b ≡ options bytes → allowedChoice lastNetwork (valuesOf b) ≡ true
+        → buildOfSheet (completedBuffer lastState b) ≡ true
+    -- "and no other build of the sheet has these values at the live options".
+    pub completer-only : (b c : List ℕ) → length b ≡ options bytes → allowedChoice lastNetwork (valuesOf b) ≡ true
+        → buildOfSheet c ≡ true → SameLive c b → c ≡ completedBuffer lastState b
+    -- "the number of allowed choices equals the number of builds of the sheet"
+    pub counted : choiceCount lastNetwork ≡ buildCount
+    -- "the verdict is NONE only when the sheet has no build."
+    pub none-only : ruledAs NONE (verdictOf lastState) → (b : List ℕ) → buildOfSheet b ≡ false
+    -- "With exactly one live option it is NONE exactly when the sheet has no build,
+    pub none-when : freeCount lastNetwork ≡ 1 → ((b : List ℕ) → buildOfSheet b ≡ false) → ruledAs NONE (verdictOf lastState)
+    -- and otherwise BUILT, and the first n bytes shown are a build of the sheet."
+    pub built : freeCount lastNetwork ≡ 1 → (ruledAs NONE (verdictOf lastState) → ⊥)
+        → (build : List ℕ) × (verdictOf lastState ≡ rules BUILT build) × (buildOfSheet (take (options bytes) build) ≡ true)
+
+-- Demand 3, whole: "Take any accepted sheet. For every list of follow steps and full reductions asked of it, in any order, refused ones included".
+pub Demand3 : Type 0
+Demand3 = (bytes : List ℕ) → ((k : ℕ) → getD bytes k 0 < 256) → readSheet bytes .number ≡ 0 → (cs : List Call) → Promise bytes cs
