@@ -4,4 +4,5 @@ pub mod Parse
 pub mod Print
 pub mod WellFormed
 pub mod Arrays
+pub mod Writing
 pub mod Builds

@@ -8,4 +8,5 @@ pub mod Count
 pub mod Reduction
 pub mod Calls
 pub mod Promise
+pub mod SheetOf
 pub mod Sheets
