@@ -91,6 +91,13 @@ unfolding or
 or-r true b h = refl
 or-r false b h = h
 
+pub or-comm : (a b : Bool) → or a b ≡ or b a
+unfolding or
+or-comm true true = refl
+or-comm true false = refl
+or-comm false true = refl
+or-comm false false = refl
+
 pub or-elim : {A : Type 0} (a b : Bool) → or a b ≡ true → (a ≡ true → A) → (b ≡ true → A) → A
 unfolding or
 or-elim true b h f g = f refl

@@ -1,1 +1,5 @@
+pub mod Numbers
+pub mod Parse
+pub mod RoundTrip
 pub mod SheetOf
+pub mod Builds

@@ -19,10 +19,12 @@ use Rattle.words.proofs.Laws.{has-zero, has-below, word-lt, same-members}
 use Rattle.network.specs.Sound.{Sound}
 use Rattle.network.specs.Network.{Network}
 use Rattle.network.specs.Sheet.{Table, Sheet, isFor, tabled, rowFor, networkOf, collect, tableOf, sheetOf, fresh}
-use Rattle.network.proofs.SheetOf.{isFor-e, isFor-i, tabled-here, tabled-there, rowFor-here, rowFor-there, rowFor-none, row-tabled, Same}
+use Rattle.network.proofs.Tables.{isFor-e, isFor-i, tabled-here, tabled-there, rowFor-here, rowFor-there, rowFor-none, row-tabled}
+use Rattle.network.proofs.SheetOf.{Same}
 use Rattle.network.proofs.SheetOf.{n-sheetOf, size-sheetOf, tabled-sheetOf, row-sheetOf, tabled-networkOf, row-networkOf}
 use Rattle.network.proofs.SheetOf.{Fits, networkOf-sound, networkOf-fresh}
 use Rattle.cause.specs.declared.Cause.the-variants.{RowRange}
+use Rattle.format.proofs.Numbers.{length-bytesOf}
 use Rattle.format.specs.Layout.{Layout, Test, fine, fault, withinTest, version1}
 use Rattle.format.specs.Parse.{pairOf, sizeOf}
 use Rattle.format.specs.Print.{bytesOf, printAll, printTable, printBody, print}
@@ -227,11 +229,6 @@ unfolding sheetOf
 tables-count N = omega (arith, count-tables N (N .n) 0 (omega arith))
 
 -- ---- how many bytes
-
-length-bytesOf : (k v : ℕ) → length (bytesOf k v) ≡ k
-unfolding bytesOf
-length-bytesOf zero v = refl
-length-bytesOf (suc k) v = ap suc (length-bytesOf k v)
 
 length-printAll : {A : Type 0} (print : A → List ℕ) (m : ℕ) {xs : List A} → All (λ (x : A). length (print x) ≤ m) xs
     → length (printAll print xs) ≤ length xs * m

@@ -8,5 +8,7 @@ pub mod Count
 pub mod Reduction
 pub mod Calls
 pub mod Promise
+pub mod Tables
+pub mod Sheet
 pub mod SheetOf
 pub mod Sheets

@@ -9,7 +9,7 @@ use lib.ListN.{length, getD, List·getD-eq-default}
 use borrow.Author.Tests.{lt-ltb, eq-eqb, ltb-true, ltb-false, eqb-true, eqb-false}
 use Rattle.bounded.specs.Bool.{and, or, if}
 use Rattle.bounded.proofs.Bool.{by-cases, clash, bool-ext, not-true→false, if-true, if-false}
-use Rattle.bounded.proofs.Bool.{and-i, and-l, and-r, true-and, or-l, or-r, or-elim, or-false-i}
+use Rattle.bounded.proofs.Bool.{and-i, and-l, and-r, true-and, or-l, or-r, or-elim, or-false-i, or-comm}
 use Rattle.bounded.proofs.Fold.{every-i, every-e}
 use Rattle.bounded.proofs.Table.{length-tabulate, getD-tabulate, getD-tabulate-past}
 use Rattle.words.specs.Word.{has}
@@ -18,6 +18,7 @@ use Rattle.network.specs.Network.{Network}
 use Rattle.network.specs.Sound.{Sound}
 use Rattle.network.specs.Sheet.{Table, Sheet, isFor, tabled, rowFor, networkOf, collect, tableOf, sheetOf, fresh}
 use Rattle.network.proofs.Sound.{free-e, free-i}
+use Rattle.network.proofs.Tables.{isFor-e, isFor-i, tabled-here, tabled-there, rowFor-here, rowFor-there, rowFor-none, row-tabled}
 
 -- Networks are equal where all their parts are.
 pub network-ext : (N M : Network) → N .n ≡ M .n → ((i : ℕ) → N .size i ≡ M .size i) → ((i a : ℕ) → N .domain i a ≡ M .domain i a)
@@ -58,46 +59,6 @@ pub fresh-i : (N : Network) → ((i : ℕ) → N .leader i ≡ 0) → ((i a : �
 unfolding fresh
 fresh-i N leader domain =
     every-i (N .n) _ (λ i _. and-i _ _ (free-i N i (leader i)) (every-i (N .size i) _ (λ a l. domain i a ∙ lt-ltb a (N .size i) l)))
-
--- ---- look-ups
-
--- A table is for i and j exactly when its pair is theirs.
-pub isFor-e : (t : Table) (i j : ℕ) → isFor t i j ≡ true → (t .first ≡ suc i) × (t .second ≡ suc j)
-unfolding isFor
-isFor-e t i j h = (eqb-true _ _ (and-l _ _ h), eqb-true _ _ (and-r _ _ h))
-
-pub isFor-i : (t : Table) (i j : ℕ) → t .first ≡ suc i → t .second ≡ suc j → isFor t i j ≡ true
-unfolding isFor
-isFor-i t i j h k = and-i _ _ (eq-eqb _ _ h) (eq-eqb _ _ k)
-
--- A look-up finds the first table that is for i and j.
-module _ (t : Table) (ts : List Table) (i j : ℕ) where
-  pub tabled-here : isFor t i j ≡ true → tabled (t ∷ ts) i j ≡ true
-  unfolding tabled
-  tabled-here h = or-l _ _ h
-
-  pub tabled-there : isFor t i j ≡ false → tabled (t ∷ ts) i j ≡ tabled ts i j
-  unfolding tabled or
-  tabled-there h = rw h
-
-  pub rowFor-here : (a : ℕ) → isFor t i j ≡ true → rowFor (t ∷ ts) i j a ≡ getD (t .rows) a 0
-  unfolding rowFor
-  rowFor-here a h = if-true _ _ _ h
-
-  pub rowFor-there : (a : ℕ) → isFor t i j ≡ false → rowFor (t ∷ ts) i j a ≡ rowFor ts i j a
-  unfolding rowFor
-  rowFor-there a h = if-false _ _ _ h
-
--- Where there is no table there is no row,
-pub rowFor-none : (ts : List Table) (i j a : ℕ) → tabled ts i j ≡ false → rowFor ts i j a ≡ 0
-unfolding tabled rowFor or if
-rowFor-none [] i j a h = refl
-rowFor-none (t ∷ ts) i j a h = by-cases (isFor t i j) (λ e. clash refl (rw e at h)) (λ e. rw e (rowFor-none ts i j a (rw e at h)))
-
--- so what a row allows is in a table.
-pub row-tabled : (ts : List Table) (i j a b : ℕ) → has (rowFor ts i j a) b ≡ true → tabled ts i j ≡ true
-row-tabled ts i j a b h =
-    by-cases (tabled ts i j) (λ t. t) (λ t. clash h (rw (rowFor-none ts i j a t) (has-zero b)))
 
 -- Two lists of tables have the same at i and j.
 pub record Same (i j : ℕ) (ts us : List Table) : Type 0 where
@@ -259,9 +220,6 @@ pub record Fits (s : Sheet) : Type 0 where
   pub some-value : (i : ℕ) → i < length (s .sizes) → 1 ≤ getD (s .sizes) i 0
   pub pair-in : (i j : ℕ) → tabled (s .tables) i j ≡ true → (i < j) × (j < length (s .sizes))
   pub row-in : (i j a b : ℕ) → has (rowFor (s .tables) i j a) b ≡ true → (a < getD (s .sizes) i 0) × (b < getD (s .sizes) j 0)
-
-or-comm : (a b : Bool) → or a b ≡ or b a
-or-comm a b = bool-ext _ _ (λ h. or-elim _ _ h (or-r _ _) (or-l _ _)) (λ h. or-elim _ _ h (or-r _ _) (or-l _ _))
 
 pub networkOf-sound : (s : Sheet) → Fits s → Sound (networkOf s)
 unfolding networkOf
