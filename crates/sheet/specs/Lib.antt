@@ -5,4 +5,5 @@ pub mod Read
 pub mod Write
 pub mod Steps
 pub mod Solutions
+pub mod Cut
 pub mod Promise

@@ -49,3 +49,12 @@ pub struct VerdictAnswer {
     // The build shown, zero past n; all zero unless the verdict is Built.
     pub solution: [u8; 16],
 }
+
+// Reading, the full reduction and the verdict, one after the other.
+pub struct CutAnswer {
+    pub outcome: ReadOutcome,
+    pub state: State,
+    pub steps: usize,
+    pub verdict: Verdict,
+    pub solution: [u8; 16],
+}

@@ -3,6 +3,7 @@ mod answers;
 mod state;
 
 pub use answers::Answer;
+pub use answers::CutAnswer;
 pub use answers::Outcome;
 pub use answers::ReadAnswer;
 pub use answers::ReadOutcome;

@@ -1,0 +1,2 @@
+-- The text that sheetcut prints.
+pub mod Text

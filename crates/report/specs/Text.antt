@@ -1,0 +1,81 @@
+-- Document 01, "The program sheetcut": the text for the bytes of a sheet, as ASCII codes.
+use mathlib.Core.Bool.{Bool}
+use mathlib.Core.List.{List, [], _∷_, _++_}
+use Prim.Native.Char.{Char, code}
+use Prim.Native.Nat.{ℕ, zero, suc, _+_, _-_, _/_, _%_}
+use Prim.Native.String.{String, [] as noText, _∷_ as _before_}
+use lib.Dec.{eqb, ltb}
+use lib.ListN.{getD, take}
+use Rattle.bounded.specs.Bool.{if}
+use Rattle.network.specs.Completion.{Verdict, NONE, BUILT, OPEN}
+use Rattle.sheet.specs.declared.state.State.{State}
+use Rattle.sheet.specs.Answers.{VerdictTold, rules, no-verdict}
+use Rattle.sheet.specs.Cut.{CutTold, cutSheet}
+
+-- The codes of a quoted text.
+unfoldable pub ascii : String → List ℕ
+ascii noText = []
+ascii (c before s) = code c ∷ ascii s
+
+-- A number in decimal, in at most so many digits, with no zero in front.
+unfoldable pub decimalWithin : ℕ → ℕ → List ℕ
+decimalWithin zero n = []
+decimalWithin (suc most) n = if (ltb n 10) ((48 + n) ∷ []) (decimalWithin most (n / 10) ++ ((48 + n % 10) ∷ []))
+
+-- "other numbers are decimal"
+unfoldable pub decimal : ℕ → List ℕ
+decimal n = decimalWithin (suc n) n
+
+-- "upper-case hexadecimal digits"
+unfoldable pub hexDigit : ℕ → ℕ
+hexDigit d = if (ltb d 10) (48 + d) (55 + d)
+
+-- "LIST is four upper-case hexadecimal digits"
+unfoldable pub hex4 : ℕ → List ℕ
+hex4 n = hexDigit (n / 4096 % 16) ∷ hexDigit (n / 256 % 16) ∷ hexDigit (n / 16 % 16) ∷ hexDigit (n % 16) ∷ []
+
+-- "Another refusal prints its number and place, decimal, in that form, and nothing else."
+unfoldable pub refusedText : ℕ → ℕ → List ℕ
+refusedText number place = ascii "REFUSED " ++ (decimal number ++ (ascii " AT " ++ (decimal place ++ ascii "\n")))
+
+-- "LIVE with its number and list, or FOLLOWS with its number and its leader's"; i counts from 0
+unfoldable pub optionText : State → ℕ → List ℕ
+optionText s i =
+    if (eqb (getD (s .leaders) i 0) 0)
+    (ascii "LIVE " ++ (decimal (i + 1) ++ (ascii " LIST " ++ (hex4 (getD (s .domains) i 0) ++ ascii "\n"))))
+    (ascii "FOLLOWS " ++ (decimal (i + 1) ++ (ascii " OF " ++ (decimal (getD (s .leaders) i 0) ++ ascii "\n"))))
+
+-- "There is one line for each option, ascending": the first count of them.
+unfoldable pub optionTexts : State → ℕ → List ℕ
+optionTexts s zero = []
+optionTexts s (suc count) = optionTexts s count ++ optionText s count
+
+-- " " and the value, for each.
+unfoldable pub valueTexts : List ℕ → ℕ → List ℕ
+valueTexts build zero = []
+valueTexts build (suc count) = valueTexts build count ++ (ascii " " ++ decimal (getD build count 0))
+
+-- "VERDICT is NONE, BUILT or OPEN"; "BUILD gives the n values in option order .. stands only after BUILT."
+unfoldable pub ruledText : Verdict → List ℕ → ℕ → List ℕ
+ruledText NONE build n = ascii "VERDICT NONE\n"
+ruledText BUILT build n = ascii "VERDICT BUILT\nBUILD" ++ (valueTexts build n ++ ascii "\n")
+ruledText OPEN build n = ascii "VERDICT OPEN\n"
+
+unfoldable pub verdictText : VerdictTold → ℕ → List ℕ
+verdictText (rules k build) n = ruledText k build n
+verdictText (no-verdict number build) n = []
+
+-- "OPTIONS gives n. .. STEPS is the reduction's count. VERDICT .. for the reduced state. .. Every line ends with a line feed."
+unfoldable pub cutText : CutTold → List ℕ
+cutText c =
+    ascii "OPTIONS " ++ (decimal (c .state .n) ++ (ascii "\n"
+    ++ (optionTexts (c .state) (c .state .n)
+    ++ (ascii "STEPS " ++ (decimal (c .steps) ++ (ascii "\n"
+    ++ verdictText (c .verdict) (c .state .n)))))))
+
+unfoldable pub textAs : CutTold → List ℕ
+textAs c = if (eqb (c .number) 0) (cutText c) (refusedText (c .number) (c .place))
+
+-- "It reads standard input, reads the sheet, reduces it and prints. More than 4,101 bytes prints `REFUSED 1 AT 0`."
+unfoldable pub textOf : List ℕ → List ℕ
+textOf bytes = textAs (cutSheet bytes)
