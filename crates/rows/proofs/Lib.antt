@@ -1,2 +1,4 @@
 pub mod Array
 pub mod Laws
+pub mod Loops
+pub mod Frames

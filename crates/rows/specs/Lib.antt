@@ -1,2 +1,3 @@
 -- The flat array of rows of 16 variables, for any number w of values.
 pub mod Rows
+pub mod Frames

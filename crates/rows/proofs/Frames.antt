@@ -1,0 +1,49 @@
+-- The frames before the first turn of a loop and after one more.
+use mathlib.Core.List.{List}
+use mathlib.Core.Path.{_≡_, refl, ap, _∙_}
+use Prim.Native.Nat.{ℕ, suc, _+_, _*_, _≤_, _<_}
+use native.Mathlib.Numerals.{add-one}
+use native.Mathlib.Omega.{arith}
+use lib.ListN.{length, set, length-set}
+use Rattle.bounded.proofs.Fold.{below-suc}
+use Rattle.words.specs.Word.{has}
+use Rattle.words.proofs.Laws.{word-cong}
+use Rattle.rows.specs.Rows.{place, rowAt, columnAt}
+use Rattle.rows.specs.Frames.{Filled}
+use Rattle.rows.proofs.Laws.{place-lt, rowAt-same, rowAt-other}
+
+-- ---- the rows of a pair, one after the other
+
+pub filled-none : (w : ℕ) (rows : List ℕ) (i j : ℕ) (f : ℕ → ℕ) → Filled w rows rows i j f 0
+filled-none w rows i j f = record {
+  side = λ a l. absurd (let x : ⊥ = omega arith in x);
+  rest = λ x y c lx ly lc o. refl;
+  size = refl;
+}
+
+pub filled-more : (w : ℕ) (before now after : List ℕ) (i j : ℕ) (f : ℕ → ℕ) (n v : ℕ) → i < 16 → j < 16 → n < w → length before ≡ 16 * 16 * w
+    → Filled w before now i j f n → after ≡ set now (place w i j n) v → v ≡ f n
+    → Filled w before after i j f (n + 1)
+filled-more w before now after i j f n v li lj ln e h s q =
+    let b : place w i j n < length now = omega (arith, place-lt w i j n li lj ln, h .size) in
+    rw (s, add-one n)
+    (record {
+      side = λ a l. below-suc n a l
+          (λ p. rw p (rowAt-same w now i j n v b ∙ q))
+          (λ m. rowAt-other w now i j n v i j a lj ln lj (omega arith) (λ _ _ p. let x : ⊥ = omega arith in x) ∙ h .side a m);
+      rest = λ x y c lx ly lc o.
+          rowAt-other w now i j n v x y c lj ln ly lc (λ p r t. o p r (omega arith))
+          ∙ h .rest x y c lx ly lc (λ p r t. o p r (omega arith));
+      size = length-set now (place w i j n) v ∙ h .size;
+    })
+
+-- Columns of the same rows are the same.
+pub column-cong : (w : ℕ) (rows rows′ : List ℕ) (i j b : ℕ) → ((a : ℕ) → a < w → rowAt w rows i j a ≡ rowAt w rows′ i j a)
+    → columnAt w rows i j b ≡ columnAt w rows′ i j b
+unfolding columnAt
+column-cong w rows rows′ i j b h = word-cong w _ _ (λ a l. ap (λ (n : ℕ). has n b) (h a l))
+
+-- Filling the other side leaves the columns of this one.
+pub column-kept : (w : ℕ) (before after : List ℕ) (i j : ℕ) (f : ℕ → ℕ) (n b : ℕ) → i < 16 → j < 16 → (i ≡ j → ⊥)
+    → Filled w before after j i f n → columnAt w after i j b ≡ columnAt w before i j b
+column-kept w before after i j f n b li lj d h = column-cong w after before i j b (λ a l. h .rest i j a li lj l (λ p _ _. d p))
