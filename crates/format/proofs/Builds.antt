@@ -70,10 +70,10 @@ module _ (bytes : List ℕ) where
   number-of-two at = rw (add-one at) (omega arith)
 
 -- The walk over the bytes of a sheet and the list of its tables go together.
-module _ (bytes : List ℕ) (s : Sheet) (f : ℕ → ℕ) (end : ℕ) (h : Stands bytes 3 (printBody version1 s) end) where
-  options-are : options bytes ≡ length (s .sizes)
+module _ (bytes : List ℕ) (s : Sheet) (end : ℕ) (h : Stands bytes 3 (printBody version1 s) end) where
+  options-stand : options bytes ≡ length (s .sizes)
   unfolding options byte
-  options-are = stands-at bytes 3 4 (length (s .sizes) ∷ []) (count-stands version1 bytes s end h) 0 (omega arith)
+  options-stand = stands-at bytes 3 4 (length (s .sizes) ∷ []) (count-stands version1 bytes s end h) 0 (omega arith)
 
   optionSize-is : (x : ℕ) → 1 ≤ x → x ≤ length (s .sizes) → optionSize bytes x ≡ sizeOf (s .sizes) x
   unfolding optionSize byte sizeOf
@@ -107,40 +107,42 @@ module _ (bytes : List ℕ) (s : Sheet) (f : ℕ → ℕ) (end : ℕ) (h : Stand
     next-table : at + 2 + 2 * optionSize bytes (byte bytes at) ≡ next
     next-table = omega (arith, rows-are, length-rows 2 (t .rows), rows-stand .ends)
 
-    table-allows : f (t .first - 1) < length (t .rows) → tableAllows bytes f at ≡ allowedBy f t
+    table-allows : (f : ℕ → ℕ) → f (t .first - 1) < length (t .rows) → tableAllows bytes f at ≡ allowedBy f t
     unfolding tableAllows allowedBy version1
-    table-allows l =
+    table-allows f l =
         let row : numberAt 2 bytes (at + 2 + 2 * f (t .first - 1)) ≡ getD (t .rows) (f (t .first - 1)) 0 =
         row-at bytes 2 _ (fits .rows-fit) (at + 2) next rows-stand (f (t .first - 1)) l in
         rw (first-byte, second-byte, ← number-of-two bytes (at + 2 + 2 * f (t .first - 1)), row)
 
-  tables-allow : ((i : ℕ) → i < length (s .sizes) → f i < getD (s .sizes) i 0) → {ts : List Table} → All (TableFits version1 (s .sizes)) ts
+  tables-allow : (f : ℕ → ℕ) → ((i : ℕ) → i < length (s .sizes) → f i < getD (s .sizes) i 0)
+      → {ts : List Table}
+      → All (TableFits version1 (s .sizes)) ts
       → (at : ℕ) → Stands bytes at (printAll (printTable version1) ts) end
       → tablesAllow bytes f (length ts) at ≡ allAllow f ts
   unfolding tablesAllow allAllow printAll sizeOf
-  tables-allow below All.none at k = refl
-  tables-allow below (All.more {x = t} {xs = ts} fits rest) at k =
+  tables-allow f below All.none at k = refl
+  tables-allow f below (All.more {x = t} {xs = ts} fits rest) at k =
       let next = at + length (printTable version1 t) in
       let front = stands-front bytes at end (printTable version1 t) (printAll (printTable version1) ts) k in
       let back = stands-back bytes at end (printTable version1 t) (printAll (printTable version1) ts) k in
       let value : f (t .first - 1) < length (t .rows) =
       rw (fits .row-count) (below (t .first - 1) (omega arith)) in
-      rw (table-allows t fits at next front value, next-table t fits at next front, tables-allow below rest next back)
+      rw (table-allows t fits at next front f value, next-table t fits at next front, tables-allow f below rest next back)
 
-  values-below : every (options bytes) (λ (i : ℕ). ltb (f i) (optionSize bytes (i + 1)))
+  values-below : (f : ℕ → ℕ) → every (options bytes) (λ (i : ℕ). ltb (f i) (optionSize bytes (i + 1)))
       ≡ every (length (s .sizes)) (λ (i : ℕ). ltb (f i) (getD (s .sizes) i 0))
   unfolding sizeOf
-  values-below =
-      rw options-are
+  values-below f =
+      rw options-stand
       (every-cong (length (s .sizes)) _ _ λ i l.
       let e : i + 1 - 1 ≡ i = omega arith in
       ap (ltb (f i)) (optionSize-is (i + 1) (omega arith) (omega arith) ∙ rw e))
 
-  walk-starts : tablesAllow bytes f (byte bytes (4 + options bytes)) (5 + options bytes)
+  walk-starts : (f : ℕ → ℕ) → tablesAllow bytes f (byte bytes (4 + options bytes)) (5 + options bytes)
       ≡ tablesAllow bytes f (length (s .tables)) (4 + length (s .sizes) + 1)
-  walk-starts =
+  walk-starts f =
       let e : 5 + length (s .sizes) ≡ 4 + length (s .sizes) + 1 = omega arith in
-      rw (options-are, table-count-is, e)
+      rw (options-stand, table-count-is, e)
 
 -- "A build of a sheet is read off its bytes alone": the builds of the bytes are the solutions of the network that was read from them.
 pub builds-solve : (bytes : List ℕ) → ((k : ℕ) → getD bytes k 0 < 256) → (s : Sheet) (end : ℕ) → parse version1 bytes ≡ got s end
@@ -151,16 +153,28 @@ builds-solve bytes octets s end e f =
     let w = r .well-formed in
     let h = r .body .stands in
     let n = length (s .sizes) in
-    rw (values-below bytes s f end h)
-    (and-cong _ _ _ (λ t. walk-starts bytes s f end h
-    ∙ tables-allow bytes s f end h (λ i l. ltb-true _ _ (every-e n _ t i l)) (w .tables-fit) (4 + n + 1) (tables-stand version1 bytes s end h)))
+    rw (values-below bytes s end h f)
+    (and-cong _ _ _ (λ t. walk-starts bytes s end h f
+    ∙ tables-allow bytes s end h f (λ i l. ltb-true _ _ (every-e n _ t i l)) (w .tables-fit) (4 + n + 1) (tables-stand version1 bytes s end h)))
     ∙ sym (solves-sheet s f (tables-proper version1 (s .sizes) (w .tables-fit) (w .ascending)))
 
--- "It is n bytes, one for each option": the same of a list of bytes.
-pub builds-are-solutions : (bytes : List ℕ) → ((k : ℕ) → getD bytes k 0 < 256) → (s : Sheet) (end : ℕ) → parse version1 bytes ≡ got s end
-    → (build : List ℕ)
-    → isBuildOf bytes build ≡ and (eqb (length build) (networkOf s .n)) (solves (networkOf s) (λ (i : ℕ). getD build i 0))
-unfolding isBuildOf networkOf
-builds-are-solutions bytes octets s end e build =
-    let h = parsed version1 version1-usable bytes octets s end e .body .stands in
-    rw (options-are bytes s (λ (i : ℕ). getD build i 0) end h, builds-solve bytes octets s end e (λ (i : ℕ). getD build i 0))
+-- The number of options and their sizes, read off the bytes, are those of the network.
+module _ (bytes : List ℕ) (octets : (k : ℕ) → getD bytes k 0 < 256) (s : Sheet) (end : ℕ) (e : parse version1 bytes ≡ got s end) where
+  stands : Stands bytes 3 (printBody version1 s) end
+  stands = parsed version1 version1-usable bytes octets s end e .body .stands
+
+  pub options-are : options bytes ≡ networkOf s .n
+  unfolding networkOf
+  options-are = options-stand bytes s end stands
+
+  pub option-sizes-are : (i : ℕ) → i < networkOf s .n → optionSize bytes (i + 1) ≡ networkOf s .size i
+  unfolding networkOf sizeOf
+  option-sizes-are i l =
+      let same : i + 1 - 1 ≡ i = omega arith in
+      optionSize-is bytes s end stands (i + 1) (omega arith) (omega arith) ∙ rw same
+
+  -- "It is n bytes, one for each option": the builds as lists of bytes.
+  pub builds-are-solutions : (build : List ℕ)
+      → isBuildOf bytes build ≡ and (eqb (length build) (networkOf s .n)) (solves (networkOf s) (λ (i : ℕ). getD build i 0))
+  unfolding isBuildOf
+  builds-are-solutions build = rw (options-are, builds-solve bytes octets s end e (λ (i : ℕ). getD build i 0))

@@ -22,7 +22,7 @@ use Rattle.network.specs.Sheet.{Table, Sheet, isFor, tabled, rowFor, networkOf,
 use Rattle.network.proofs.Tables.{isFor-e, isFor-i, tabled-here, tabled-there, rowFor-here, rowFor-there, rowFor-none, row-tabled}
 use Rattle.network.proofs.SheetOf.{Same}
 use Rattle.network.proofs.SheetOf.{n-sheetOf, size-sheetOf, tabled-sheetOf, row-sheetOf, tabled-networkOf, row-networkOf}
-use Rattle.network.proofs.SheetOf.{Fits, networkOf-sound, networkOf-fresh}
+use Rattle.network.proofs.SheetOf.{Fits, networkOf-sound}
 use Rattle.cause.specs.declared.Cause.the-variants.{RowRange}
 use Rattle.format.proofs.Numbers.{length-bytesOf}
 use Rattle.format.specs.Layout.{Layout, Test, fine, fault, withinTest, version1}
@@ -420,12 +420,17 @@ module _ (L : Layout) (R : Regular L) where
 
 -- ---- version 1
 
--- A well-formed sheet means a sound and fresh network, and is the sheet of that.
+-- A well-formed sheet means a sound and fresh network, within the bounds, and is the sheet of that.
 pub wellformed-sound : (s : Sheet) → WellFormed version1 s → Sound (networkOf s)
 wellformed-sound s W = networkOf-sound s (sheet-fits version1 version1-regular s W)
 
-pub wellformed-fresh : (s : Sheet) → WellFormed version1 s → fresh (networkOf s) ≡ true
-wellformed-fresh s W = networkOf-fresh s
+pub wellformed-n : (s : Sheet) → WellFormed version1 s → networkOf s .n ≤ 16
+unfolding networkOf
+wellformed-n s W = W .most-variables
+
+pub wellformed-size : (s : Sheet) → WellFormed version1 s → (i : ℕ) → networkOf s .size i ≤ 16
+unfolding networkOf version1
+wellformed-size s W = size-bound version1 version1-regular s W
 
 pub wellformed-sheetOf : (s : Sheet) → WellFormed version1 s → sheetOf (networkOf s) ≡ s
 wellformed-sheetOf s W = sheet-same version1 version1-regular s W

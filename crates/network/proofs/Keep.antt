@@ -14,7 +14,8 @@ use Rattle.network.specs.Network.{Network, free, partner, functional, in
 use Rattle.network.specs.Sound.{Sound}
 use Rattle.network.specs.Step.{legal, trimmed, third, composed, eliminate}
 use Rattle.network.proofs.Pairs.{Stays, stays-sym, own-pair-stays, self-pair-stays, pair-case-sym, Moved, pairs-moved}
-use Rattle.network.proofs.Step.{Legal, legal-e, free-e, follows-not-free, third-e, third-i, i-not-third, j-not-third, ij-stays}
+use Rattle.network.proofs.Sound.{free-e, led-not-free}
+use Rattle.network.proofs.Step.{Legal, legal-e, third-e, third-i, i-not-third, j-not-third, ij-stays}
 use Rattle.network.proofs.Step.{same-n, domain-i, domain-other, domain-fewer, domain-kept, leader-j, leader-of-j, leader-other, leader-case}
 use Rattle.network.proofs.Step.{MovedPairs, eliminate-moves, trimmed-domain, trimmed-e, trimmed-i, composed-e, one-partner, composed-at}
 use Rattle.network.proofs.Step.{both-sides, moved-stated-sym, moved-allows-sym}
@@ -279,12 +280,12 @@ pub free-after : (N : Network) (i j x : ℕ) → free (eliminate N i j) x ≡ an
 unfolding free
 free-after N i j =
     is-or-not j (λ (x : ℕ). free (eliminate N i j) x ≡ and (free N x) (not (eqb x j)))
-    (follows-not-free (eliminate N i j) j i (leader-j N i j) ∙ sym (ap (and (free N j)) (not-false-i _ (eq-eqb j j refl)) ∙ and-false _))
+    (led-not-free (eliminate N i j) j i (leader-j N i j) ∙ sym (ap (and (free N j)) (not-false-i _ (eq-eqb j j refl)) ∙ and-false _))
     (λ x d. others x d ∙ sym (ap (and (free N x)) (not-i _ (ne-eqb x j d)) ∙ and-true _))
   where
     others : (x : ℕ) → (x ≡ j → ⊥) → free (eliminate N i j) x ≡ free N x
     others x d =
         by-cases (eqb (N .leader x) (suc j))
         (λ t. let h : N .leader x ≡ suc j = eqb-true _ _ t in
-        follows-not-free (eliminate N i j) x i (leader-of-j N i j x h) ∙ sym (follows-not-free N x j h))
+        led-not-free (eliminate N i j) x i (leader-of-j N i j x h) ∙ sym (led-not-free N x j h))
         (λ t. ap (λ (v : ℕ). eqb v 0) (leader-other N i j x d (eqb-false _ _ t)))

@@ -13,6 +13,7 @@ use Rattle.bounded.proofs.Fold.{is-or-not, every-i, every-e, some-i, some-e, co
 use Rattle.network.specs.Network.{Network, free, partner, functional}
 use Rattle.network.specs.Sound.{Sound}
 use Rattle.network.specs.Step.{outside, refusal, legal, trimmed, third, joined, composed, eliminate}
+use Rattle.network.proofs.Sound.{free-e, free-i}
 use Rattle.network.proofs.Pairs.{Stays, stays-sym, own-pair-stays, pair-case-sym, Moved, moved}
 
 -- Refusals
@@ -129,19 +130,6 @@ legal-e N i j h = refusal-0 N (suc i) (suc j) .0 (eqb-true _ 0 h) .2
 pub legal-i : (N : Network) (i j : ℕ) → Legal N i j → legal N i j ≡ true
 unfolding legal
 legal-i N i j h = eq-eqb _ 0 (refusal-0 N (suc i) (suc j) .1 (omega arith, omega arith, h))
-
--- A variable is free where it follows nobody.
-pub free-e : (N : Network) (x : ℕ) → free N x ≡ true → N .leader x ≡ 0
-unfolding free
-free-e N x h = eqb-true _ 0 h
-
-pub free-i : (N : Network) (x : ℕ) → N .leader x ≡ 0 → free N x ≡ true
-unfolding free
-free-i N x h = eq-eqb _ 0 h
-
-pub follows-not-free : (N : Network) (x l : ℕ) → N .leader x ≡ suc l → free N x ≡ false
-unfolding free
-follows-not-free N x l h = ne-eqb (N .leader x) 0 (omega arith)
 
 -- "no value in the list of i has more than one allowed partner in the list of j"
 pub functional-i : (N : Network) (i j : ℕ)

@@ -1,2 +1,6 @@
 pub mod View
 pub mod Keep
+pub mod Steps
+pub mod RoundTrip
+pub mod Solutions
+pub mod Promise

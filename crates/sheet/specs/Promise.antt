@@ -107,5 +107,5 @@ module _ (bytes : List ℕ) (cs : List Call) where
         → (build : List ℕ) × (verdictOf lastState ≡ rules BUILT build) × (buildOfSheet (take (options bytes) build) ≡ true)
 
 -- Demand 3, whole: "Take any accepted sheet. For every list of follow steps and full reductions asked of it, in any order, refused ones included".
-pub Demand3 : Type 0
+unfoldable pub Demand3 : Type 0
 Demand3 = (bytes : List ℕ) → ((k : ℕ) → getD bytes k 0 < 256) → readSheet bytes .number ≡ 0 → (cs : List Call) → Promise bytes cs

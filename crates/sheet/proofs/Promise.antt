@@ -1,0 +1,243 @@
+-- Demand 3: of every accepted sheet, for every list of calls.
+use mathlib.Core.Bool.{Bool, true, false}
+use mathlib.Core.List.{List, [], _∷_}
+use mathlib.Core.Logic.{_↔_}
+use mathlib.Core.Path.{_≡_, refl, sym, ap, ap₂, _∙_, fun-ext}
+use Prim.Native.Nat.{ℕ, _≤_, _<_}
+use native.Mathlib.Omega.{arith}
+use lib.Dec.{eqb}
+use lib.ListN.{length, getD, take}
+use lib.Seq.{length-take-le, getD-take}
+use borrow.Author.Tests.{eq-eqb, eqb-true}
+use Rattle.bounded.specs.Bool.{and, bit}
+use Rattle.bounded.specs.Table.{tabulate}
+use Rattle.bounded.proofs.Bool.{not-true→false, clash, and-i, and-l, and-r, and-true}
+use Rattle.bounded.proofs.Table.{length-tabulate, getD-tabulate, is-table}
+use Rattle.network.specs.Network.{Network, free, solves}
+use Rattle.network.specs.Reduction.{freeCount}
+use Rattle.network.specs.Completion.{NONE, BUILT, allowedChoice, completed, verdict, decided, shown}
+use Rattle.network.specs.Count.{countTuples, sumTuples, choiceCount, solutionCount}
+use Rattle.network.specs.Sheet.{Sheet, networkOf}
+use Rattle.network.specs.Calls.{Call, follow-step, full-reduction, answer, after}
+use Rattle.network.specs.Promise.{Promised}
+use Rattle.network.proofs.Completion.{solves-cong}
+use Rattle.network.proofs.Count.{sumTuples-sizes}
+use Rattle.network.proofs.Calls.{after-keeps}
+use Rattle.network.proofs.Promise as network
+use Rattle.format.specs.Layout.{version1}
+use Rattle.format.specs.Parse.{parse}
+use Rattle.format.specs.Builds.{options, isBuildOf}
+use Rattle.format.proofs.SheetOf.{wellformed-n}
+use Rattle.format.proofs.Builds.{builds-solve, builds-are-solutions, options-are, option-sizes-are}
+use Rattle.sheet.specs.declared.state.State.{State}
+use Rattle.sheet.specs.View.{view, pack, soundState}
+use Rattle.sheet.specs.Answers.{says, rules}
+use Rattle.sheet.specs.Read.{readSheet}
+use Rattle.sheet.specs.Solutions.{valuesOf, tested, completeNumber, completedBuffer, verdictOf}
+use Rattle.sheet.specs.Promise.{handedBack, stateAfter, adds, addedBy, keepsTo, networkRead, ruledAs, lastState, lastNetwork, buildOfSheet, buildCount, Promise, Demand3}
+use Rattle.sheet.proofs.View.{Shaped, Packed, pack-view}
+use Rattle.sheet.proofs.Keep.{after-packed}
+use Rattle.sheet.proofs.Steps.{call-answers, answer-packed}
+use Rattle.sheet.proofs.RoundTrip.{Accepted, accepted, read-sound}
+use Rattle.sheet.proofs.Solutions.{tested-yes, yes-solves, complete-accepted, completed-buffer, verdict-of, ruled-as}
+
+-- A list of calls on a sound state hands back the state of the network that the same calls make of its network.
+pub after-answers : (s : State) → Shaped s → soundState s ≡ true → (cs : List Call) → stateAfter s cs ≡ pack (after (view s) cs)
+unfolding stateAfter after
+after-answers s h t [] = sym (pack-view s h)
+after-answers s h t (c ∷ cs) =
+    let P = answer-packed s h t c in
+    ap (λ (u : State). stateAfter u cs) (call-answers s h t c)
+    ∙ after-answers (pack (answer (view s) c)) (P .packed-shaped) (P .packed-sound) cs
+    ∙ ap (λ (N : Network). pack (after N cs)) (P .packed-view)
+
+-- The calls of today add no table.
+pub nothing-added : (s : State) (cs : List Call) → addedBy s cs ≡ []
+unfolding addedBy adds
+nothing-added s [] = refl
+nothing-added s (follow-step l f ∷ cs) = nothing-added (handedBack s (follow-step l f)) cs
+nothing-added s (full-reduction ∷ cs) = nothing-added (handedBack s full-reduction) cs
+
+keeps-to-none : (f : ℕ → ℕ) → keepsTo [] f ≡ true
+unfolding keepsTo
+keeps-to-none f = refl
+
+take-tabulate : (n m : ℕ) (f : ℕ → ℕ) → n ≤ m → take n (tabulate m f) ≡ tabulate n f
+take-tabulate n m f h =
+    is-table n f (take n (tabulate m f)) 0 (length-take-le n (tabulate m f) (omega (arith, length-tabulate m f)))
+    (λ k l. getD-take n (tabulate m f) k 0 l ∙ getD-tabulate m f k 0 (omega arith))
+
+countTuples-cong : (n m : ℕ) (s t : ℕ → ℕ) (p q : (ℕ → ℕ) → Bool) → n ≡ m → ((i : ℕ) → i < n → s i ≡ t i) → ((f : ℕ → ℕ) → p f ≡ q f)
+    → countTuples n s p ≡ countTuples m t q
+unfolding countTuples
+countTuples-cong n m s t p q e sizes tests =
+    sumTuples-sizes n s t _ _ sizes
+    ∙ ap (λ (k : ℕ). sumTuples k t (λ (f : ℕ → ℕ). bit (p f)) (λ (i : ℕ). 0)) e
+    ∙ ap (λ (r : (ℕ → ℕ) → Bool). sumTuples m t (λ (f : ℕ → ℕ). bit (r f)) (λ (i : ℕ). 0)) (fun-ext tests)
+
+-- The state t holds the network M, which keeps the promise for the network N; and the builds, of n bytes, are the solutions of N.
+record Serves (N M : Network) (t : State) (n : ℕ) (build : List ℕ → Bool) : Type 0 where
+  shaped : Shaped t
+  sound : soundState t ≡ true
+  holds : view t ≡ M
+  promised : Promised N M (λ (f : ℕ → ℕ). true)
+  state-n : t .n ≡ n
+  network-n : N .n ≡ n
+  at-most : n ≤ 16
+  builds-are : (b : List ℕ) → build b ≡ and (eqb (length b) n) (solves N (valuesOf b))
+
+-- Then every sentence of demand 3 but the count holds of t and the builds.
+module _ (N M : Network) (t : State) (n : ℕ) (build : List ℕ → Bool) (S : Serves N M t n build) where
+  build-i : (b : List ℕ) → length b ≡ n → solves N (valuesOf b) ≡ true → build b ≡ true
+  build-i b e k = S .builds-are b ∙ and-i _ _ (eq-eqb _ _ e) k
+
+  build-length : (b : List ℕ) → build b ≡ true → length b ≡ n
+  build-length b x = eqb-true _ _ (and-l _ _ (sym (S .builds-are b) ∙ x))
+
+  build-solves : (b : List ℕ) → build b ≡ true → solves N (valuesOf b) ≡ true
+  build-solves b x = and-r _ _ (sym (S .builds-are b) ∙ x)
+
+  build-table : (f : ℕ → ℕ) → solves N f ≡ true → build (tabulate n f) ≡ true
+  unfolding valuesOf
+  build-table f k =
+      build-i (tabulate n f) (length-tabulate n f)
+      (solves-cong N (valuesOf (tabulate n f)) f (λ i l. getD-tabulate n f i 0 (rw (S .network-n) at l)) ∙ k)
+
+  same-solutions : (f : ℕ → ℕ) → solves (view t) f ≡ solves N f
+  same-solutions f = ap (λ (L : Network). solves L f) (S .holds) ∙ S .promised .tester f ∙ and-true (solves N f)
+
+  tester-says : (b : List ℕ) → (tested t b ≡ says true) ↔ (build b ≡ true)
+  tester-says b = (
+    λ y. let p = yes-solves t (S .shaped) (S .sound) b y in build-i b (p .0 ∙ S .state-n) (sym (same-solutions (valuesOf b)) ∙ p .1),
+    λ x. tested-yes t (S .shaped) (S .sound) b (build-length b x ∙ sym (S .state-n)) (same-solutions (valuesOf b) ∙ build-solves b x),
+  )
+
+  -- Buffers of n bytes that are an allowed choice.
+  module _ (b : List ℕ) (e : length b ≡ n) (a : allowedChoice M (valuesOf b) ≡ true) where
+    not-refused : completeNumber t b ≡ 0
+    not-refused = complete-accepted t b (S .sound) (e ∙ sym (S .state-n)) (rw (S .holds) a)
+
+    buffer-is : completedBuffer t b ≡ tabulate n (completed M (valuesOf b))
+    buffer-is =
+        completed-buffer t b not-refused
+        ∙ ap₂ (λ (m : ℕ) (L : Network). tabulate m (completed L (valuesOf b))) (S .state-n) (S .holds)
+
+    keeps-live : (i : ℕ) → i < n → free M i ≡ true → getD (completedBuffer t b) i 0 ≡ getD b i 0
+    unfolding valuesOf
+    keeps-live i l k = rw buffer-is (getD-tabulate n _ i 0 l ∙ S .promised .keeps (valuesOf b) i k)
+
+    gives-build : build (completedBuffer t b) ≡ true
+    gives-build = rw buffer-is (build-table (completed M (valuesOf b)) (sym (and-true _) ∙ S .promised .completes (valuesOf b) a))
+
+    only-build : (c : List ℕ) → build c ≡ true → ((i : ℕ) → i < n → free M i ≡ true → getD c i 0 ≡ getD b i 0) → c ≡ completedBuffer t b
+    unfolding valuesOf
+    only-build c x live =
+        is-table n _ c 0 (build-length c x)
+        (λ k l. S .promised .only (valuesOf b) (valuesOf c) a (and-true _ ∙ build-solves c x)
+        (λ i m q. live i (rw (S .network-n) at m) q) k (rw (S .network-n) l))
+        ∙ sym buffer-is
+
+  rules-none : ruledAs NONE (verdictOf t) ↔ (verdict M ≡ NONE)
+  rules-none = rw (S .holds) at (ruled-as t (S .sound) NONE)
+
+  no-build : ((f : ℕ → ℕ) → and (solves N f) true ≡ false) ↔ ((b : List ℕ) → build b ≡ false)
+  no-build = (
+    λ none b. not-true→false _ (λ x. clash (and-true _ ∙ build-solves b x) (none (valuesOf b))),
+    λ none f. not-true→false _ (λ k. clash (build-table f (sym (and-true _) ∙ k)) (none (tabulate n f))),
+  )
+
+  one-live : freeCount M ≡ 1 → decided M ≡ true
+  unfolding decided
+  one-live e = eq-eqb _ 1 e
+
+  shows-build : freeCount M ≡ 1 → (ruledAs NONE (verdictOf t) → ⊥)
+      → (shows : List ℕ) × (verdictOf t ≡ rules BUILT shows) × (build (take n shows) ≡ true)
+  shows-build e not-none =
+      let b = S .promised .built (one-live e) (λ v. not-none (rules-none .1 v)) in (
+        tabulate 16 (shown M),
+        verdict-of t (S .sound) ∙ rw (S .holds, b .0),
+        rw (take-tabulate n 16 (shown M) (S .at-most)) (build-table (shown M) (sym (and-true _) ∙ b .1)),
+      )
+
+-- An accepted sheet, and any list of calls.
+module _ (bytes : List ℕ) (octets : (k : ℕ) → getD bytes k 0 < 256) (h : readSheet bytes .number ≡ 0) (s : Sheet) (A : Accepted bytes s)
+    (cs : List Call) where
+  network-read : networkRead (parse version1 bytes) ≡ networkOf s
+  unfolding networkRead
+  network-read = rw (A .parsed)
+
+  last-network : lastNetwork bytes cs ≡ after (networkOf s) cs
+  unfolding lastNetwork
+  last-network = ap (λ (N : Network). after N cs) network-read
+
+  last-state : lastState bytes cs ≡ pack (lastNetwork bytes cs)
+  unfolding lastState
+  last-state =
+      let r = read-sound bytes octets h in
+      after-answers (readSheet bytes .state) (r .read-shaped) (r .is-sound) cs
+      ∙ ap (λ (N : Network). pack (after N cs)) (A .view-is) ∙ ap pack (sym last-network)
+
+  last-packed : Packed (lastNetwork bytes cs)
+  last-packed =
+      let r = read-sound bytes octets h in
+      rw (last-network, ← A .view-is) (after-packed (readSheet bytes .state) (r .read-shaped) (r .is-sound) cs)
+
+  n-options : networkOf s .n ≡ options bytes
+  n-options = sym (options-are bytes octets s (length bytes) (A .parsed))
+
+  last-n : lastState bytes cs .n ≡ options bytes
+  unfolding pack
+  last-n =
+      ap (λ (t : State). t .n) last-state
+      ∙ ap (λ (N : Network). N .n) last-network ∙ after-keeps (networkOf s) (A .sheet-sound) cs .same-n ∙ n-options
+
+  keeps-to-added : (f : ℕ → ℕ) → keepsTo (addedBy (readSheet bytes .state) cs) f ≡ true
+  keeps-to-added f = rw (nothing-added (readSheet bytes .state) cs) (keeps-to-none f)
+
+  sheet-builds : (b : List ℕ) → buildOfSheet bytes cs b ≡ and (eqb (length b) (options bytes)) (solves (networkOf s) (valuesOf b))
+  unfolding buildOfSheet valuesOf
+  sheet-builds b =
+      ap (and (isBuildOf bytes b)) (keeps-to-added (valuesOf b)) ∙ and-true _
+      ∙ builds-are-solutions bytes octets s (length bytes) (A .parsed) b ∙ rw n-options
+
+  serves : Serves (networkOf s) (lastNetwork bytes cs) (lastState bytes cs) (options bytes) (buildOfSheet bytes cs)
+  serves =
+      record {
+        shaped = rw last-state (last-packed .packed-shaped);
+        sound = rw last-state (last-packed .packed-sound);
+        holds = ap view last-state ∙ last-packed .packed-view;
+        promised = rw last-network (network.promise (networkOf s) (A .sheet-sound) cs);
+        state-n = last-n;
+        network-n = n-options;
+        at-most = rw (← n-options) (wellformed-n s (A .well-formed));
+        builds-are = sheet-builds;
+      }
+
+  counts : choiceCount (lastNetwork bytes cs) ≡ buildCount bytes cs
+  unfolding buildCount solutionCount
+  counts =
+      serves .promised .counted
+      ∙ countTuples-cong _ _ _ _ _ _ n-options
+      (λ i l. sym (option-sizes-are bytes octets s (length bytes) (A .parsed) i l))
+      (λ f. ap₂ and (sym (builds-solve bytes octets s (length bytes) (A .parsed) f)) (sym (keeps-to-added f)))
+
+  promise : Promise bytes cs
+  promise =
+      let S = serves in
+      record {
+        packed = last-state;
+        tester = tester-says _ _ _ _ _ S;
+        completer-accepts = not-refused _ _ _ _ _ S;
+        completer-keeps = keeps-live _ _ _ _ _ S;
+        completer-builds = gives-build _ _ _ _ _ S;
+        completer-only = λ b c e a x live. only-build _ _ _ _ _ S b e a c x live;
+        counted = counts;
+        none-only = λ r. no-build _ _ _ _ _ S .0 (S .promised .none-only (rules-none _ _ _ _ _ S .0 r));
+        none-when = λ e none. rules-none _ _ _ _ _ S .1 (S .promised .none-when (one-live _ _ _ _ _ S e) (no-build _ _ _ _ _ S .1 none));
+        built = shows-build _ _ _ _ _ S;
+      }
+
+-- Demand 3, whole.
+pub demand3 : Demand3
+unfolding Demand3
+demand3 bytes octets h cs = let (s, A) = accepted bytes octets h in promise bytes octets h s A cs
