@@ -1,0 +1,198 @@
+-- A whole sheet, field after field: what each answer makes of the parse, and that the arrays hold the sheet in the end.
+use mathlib.Core.Bool.{Bool, true, false}
+use mathlib.Core.List.{List, []}
+use mathlib.Core.Path.{_≡_, refl, sym, _∙_, ap}
+use Prim.Native.Nat.{ℕ, _+_, _-_, _*_, _/_, _%_, _≤_, _<_}
+use native.Mathlib.Nat.{mul-le-mul}
+use native.Mathlib.Omega.{arith}
+use mir.Syntax.{w64}
+use mir.Val.{Fits}
+use lib.Dec.{ltb, eqb}
+use lib.ListN.{length, getD, take, List·getD-eq-default}
+use lib.Seq.{getD-take}
+use borrow.Author.Tests.{lt-ltb, le-ltb, ltb-true, ltb-false, eq-eqb, ne-eqb}
+use Rattle.bounded.specs.Bool.{or, not, if}
+use Rattle.bounded.specs.Table.{tabulate}
+use Rattle.bounded.proofs.Bool.{by-cases, if-true, if-false, not-i, not-false-i, or-false-l}
+use Rattle.bounded.proofs.Table.{is-table}
+use Rattle.words.specs.Word.{has, word}
+use Rattle.cause.specs.declared.Cause.{Cause}
+use Rattle.cause.specs.declared.Cause.the-variants.{Length, Version, VariableCount, ConstraintCount, LeftOver}
+use Rattle.network.specs.Sheet.{Table, Sheet, tabled, rowFor, networkOf}
+use Rattle.rows.specs.Rows.{place, rowAt, rowsOf}
+use Rattle.rows.proofs.Laws.{every-place, place-first, place-second, place-value}
+use Rattle.reading.specs.declared.field.Read.{Read}
+use Rattle.reading.specs.declared.field.Read.the-variants.{Value, Refused}
+use Rattle.format.specs.declared.outcome.Outcome.{Outcome}
+use Rattle.format.specs.declared.outcome.Outcome.the-variants.{Accepted}
+use Rattle.format.specs.Layout.{sizeTest, constraintsTest, version1}
+use Rattle.format.specs.Parse.{Parse, got, bad, bind, field, fields, parseTables, ended, parseBody, wrongLength, parse}
+use Rattle.reading.specs.Fields.{readAs, readOf, rangeTest}
+use Rattle.reading.specs.Reading.{Sized, SizesRead, Held, TablesRead, BodyRead}
+use Rattle.format.specs.Arrays.{outcomeOf, Holds, ReadInto}
+use Rattle.reading.proofs.Fields.{field-got, count-range, constraints-range, range-passed, as-got, as-bad, no-value, value-is}
+use Rattle.reading.proofs.TablesLoop.{taken-length}
+
+-- ---- the arrays hold the sheet
+
+-- The sizes past n are zero, so the array is that of the first n.
+sizes-held : (n : ℕ) (sizes : List ℕ) → Sized n sizes → n ≤ 16 → sizes ≡ tabulate 16 (λ (i : ℕ). getD (take n sizes) i 0)
+sizes-held n sizes sized few =
+    is-table 16 _ sizes 0 (sized .length-is)
+    (λ k l. by-cases (ltb k n)
+    (λ h. sym (getD-take n sizes k 0 (ltb-true k n h)))
+    (λ h. sized .past k (ltb-false k n h) ∙ sym (List·getD-eq-default (take n sizes) 0 (omega (arith, taken-length n sizes sized few, ltb-false k n h)))))
+
+-- An array that has a rule's row at every place is the rule's array.
+rows-held : (w : ℕ) (rows : List ℕ) (p : ℕ → ℕ → ℕ → ℕ → Bool) → length rows ≡ 16 * 16 * w
+    → ((i j a : ℕ) → i < 16 → j < 16 → a < w → rowAt w rows i j a ≡ word w (p i j a)) → rows ≡ rowsOf w p
+unfolding rowsOf rowAt
+rows-held w rows p e h =
+    is-table (16 * 16 * w) _ rows 0 e
+    (every-place w (λ (k : ℕ). getD rows k 0 ≡ word w (p (k / w / 16) (k / w % 16) (k % w)))
+    (λ i j a li lj la. rw (place-first w i j a lj la, place-second w i j a lj la, place-value w i j a la) (h i j a li lj la)))
+
+sheet-held : (n last : ℕ) (sizes : List ℕ) (tables : List Table) (stated rows : List ℕ) → Sized n sizes → n ≤ 16 → Held tables last stated rows
+    → Holds (record { sizes = take n sizes; tables = tables }) sizes stated rows
+unfolding networkOf
+sheet-held n last sizes tables stated rows sized few held =
+    record {
+      sizes-are = sizes-held n sizes sized few;
+      stated-are = is-table 16 _ stated 0 (held .stated-length) (held .stated-are);
+      rows-are = rows-held 16 rows _ (held .rows-length) (held .rows-are);
+    }
+
+-- ---- the body, field after field
+
+-- n(n-1) fits a machine word.
+pub pairs-fit : (n : ℕ) → n ≤ 16 → Fits w64 (n * (n - 1))
+pairs-fit n h = let l : n - 1 ≤ 15 = omega arith in let b : n * (n - 1) ≤ 16 * 15 = mul-le-mul h l in omega arith
+
+-- A refusal, whatever the arrays hold.
+body-refused : (bytes sizes stated rows : List ℕ) (c : Cause) (at : ℕ) → parseBody version1 bytes ≡ bad c at → BodyRead bytes sizes stated rows (Refused c at)
+unfolding readAs
+body-refused bytes sizes stated rows c at e =
+    record {
+      sheet = record { sizes = []; tables = [] };
+      parsed = e;
+      count-is = λ n next. no-value c at n next;
+      holds = λ n next. no-value c at n next;
+    }
+
+module _ (bytes : List ℕ) where
+  -- n is refused.
+  pub body-no-count : (c : Cause) (place : ℕ) → field 1 (rangeTest 1 16 VariableCount) bytes 3 ≡ bad c place
+      → (sizes stated rows : List ℕ) → BodyRead bytes sizes stated rows (Refused c place)
+  unfolding parseBody bind
+  body-no-count c place e sizes stated rows = body-refused bytes sizes stated rows c place (rw (count-range, e))
+
+  module _ (n after : ℕ) (counted : field 1 (rangeTest 1 16 VariableCount) bytes 3 ≡ got n after) where
+    pub count-in : (1 ≤ n) × (n ≤ 16)
+    count-in = range-passed 1 16 n VariableCount (field-got _ _ _ _ n after counted .passed)
+
+    body-counted : parseBody version1 bytes
+        ≡ bind (fields 1 (sizeTest 16) n bytes 4) (λ sizes next.
+        bind (field 1 (constraintsTest n) bytes next) (λ p next.
+        bind (parseTables version1 sizes p 0 bytes next) (λ tables next.
+        ended (record { sizes = sizes; tables = tables }) bytes next)))
+    unfolding parseBody bind version1
+    body-counted = rw (count-range, counted, field-got _ _ _ _ n after counted .ends)
+
+    module _ (sizes : List ℕ) (listed : Read) (sizes-read : SizesRead bytes n sizes listed) where
+      -- A size is refused.
+      pub body-no-sizes : (c : Cause) (place : ℕ) → listed ≡ Refused c place → (stated rows : List ℕ) → BodyRead bytes sizes stated rows (Refused c place)
+      unfolding bind readAs
+      body-no-sizes c place q stated rows = body-refused bytes sizes stated rows c place (body-counted ∙ rw (as-bad _ listed _ c place (sizes-read .parsed) q))
+
+      module _ (v next : ℕ) (q : listed ≡ Value v next) where
+        body-listed : parseBody version1 bytes
+            ≡ bind (field 1 (constraintsTest n) bytes next) (λ p next.
+            bind (parseTables version1 (take n sizes) p 0 bytes next) (λ tables next.
+            ended (record { sizes = take n sizes; tables = tables }) bytes next))
+        unfolding bind readAs
+        body-listed = body-counted ∙ rw (as-got _ listed _ v next (sizes-read .parsed) q)
+
+        -- p is refused.
+        pub body-no-constraints : (c : Cause) (place : ℕ) → field 1 (rangeTest 0 (n * (n - 1) / 2) ConstraintCount) bytes next ≡ bad c place
+            → (stated rows : List ℕ) → BodyRead bytes sizes stated rows (Refused c place)
+        unfolding bind
+        body-no-constraints c place e stated rows = body-refused bytes sizes stated rows c place (body-listed ∙ rw (constraints-range n, e))
+
+        module _ (p from : ℕ) (constrained : field 1 (rangeTest 0 (n * (n - 1) / 2) ConstraintCount) bytes next ≡ got p from) where
+          pub tables-inside : from ≤ length bytes
+          tables-inside = field-got _ _ _ _ p from constrained .inside
+
+          body-constrained : parseBody version1 bytes
+              ≡ bind (parseTables version1 (take n sizes) p 0 bytes from) (λ tables next. ended (record { sizes = take n sizes; tables = tables }) bytes next)
+          unfolding bind
+          body-constrained = body-listed ∙ rw (constraints-range n, constrained)
+
+          module _ (stated rows : List ℕ) (all : Read) (tables-read : TablesRead bytes from n p sizes stated rows all) where
+            -- A table is refused.
+            pub body-no-tables : (c : Cause) (place : ℕ) → all ≡ Refused c place → BodyRead bytes sizes stated rows (Refused c place)
+            unfolding bind readAs
+            body-no-tables c place t = body-refused bytes sizes stated rows c place (body-constrained ∙ rw (as-bad _ all _ c place (tables-read .parsed) t))
+
+            module _ (u end : ℕ) (t : all ≡ Value u end) where
+              body-tabled : parseBody version1 bytes ≡ ended (record { sizes = take n sizes; tables = tables-read .tables }) bytes end
+              unfolding bind readAs
+              body-tabled = body-constrained ∙ rw (as-got _ all _ u end (tables-read .parsed) t)
+
+              -- Bytes are left over.
+              pub body-left-over : end < length bytes → BodyRead bytes sizes stated rows (Refused LeftOver end)
+              unfolding ended
+              body-left-over h = body-refused bytes sizes stated rows LeftOver end (body-tabled ∙ if-true _ _ _ (lt-ltb _ _ h))
+
+              pub body-read : length bytes ≤ end → BodyRead bytes sizes stated rows (Value n end)
+              unfolding ended readAs
+              body-read h =
+                  record {
+                    sheet = record { sizes = take n sizes; tables = tables-read .tables };
+                    parsed = body-tabled ∙ if-false _ _ _ (le-ltb _ _ h);
+                    count-is = λ w x. value-is (λ w _. w ≡ length (take n sizes)) n end w x (sym (taken-length n sizes (sizes-read .sized) (count-in .1)));
+                    holds = λ w x d. sheet-held n (tables-read .last) sizes (tables-read .tables) stated rows (sizes-read .sized) (count-in .1) (tables-read .held u end t);
+                  }
+
+-- ---- the whole sheet
+
+module _ (bytes sizes stated rows : List ℕ) where
+  into-refused : (c : Cause) (at : ℕ) → parse version1 bytes ≡ bad c at → ReadInto bytes sizes stated rows (Outcome.Refused c at)
+  unfolding outcomeOf
+  into-refused c at e =
+      record {
+        answers = rw e;
+        holds = λ s next q. absurd (let z : _≡_ {A = ℕ} 0 1 = cc in let x : ⊥ = omega arith in x);
+      }
+
+  -- 1 before all else.
+  pub into-wrong-length : wrongLength version1 bytes ≡ true → ReadInto bytes sizes stated rows (Outcome.Refused Length 0)
+  unfolding parse
+  into-wrong-length h = into-refused Length 0 (if-true _ _ _ h)
+
+  module _ (right : wrongLength version1 bytes ≡ false) where
+    -- There is a byte 0.
+    pub some-byte : 0 < length bytes
+    unfolding wrongLength
+    some-byte = omega (arith, ltb-false (length bytes) 3 (or-false-l _ _ right))
+
+    -- Then 2.
+    pub into-wrong-version : (getD bytes 0 0 ≡ 1 → ⊥) → ReadInto bytes sizes stated rows (Outcome.Refused Version 0)
+    unfolding parse version1
+    into-wrong-version h = into-refused Version 0 (if-false _ _ _ right ∙ if-true _ _ _ (not-i _ (ne-eqb _ _ h)))
+
+    module _ (version : getD bytes 0 0 ≡ 1) (r : Read) (body : BodyRead bytes sizes stated rows r) where
+      parse-is : parse version1 bytes ≡ parseBody version1 bytes
+      unfolding parse version1
+      parse-is = if-false _ _ _ right ∙ if-false _ _ _ (not-false-i _ (eq-eqb _ _ version))
+
+      pub into-no-body : (c : Cause) (at : ℕ) → r ≡ Refused c at → ReadInto bytes sizes stated rows (Outcome.Refused c at)
+      into-no-body c at q = into-refused c at (parse-is ∙ as-bad _ r _ c at (body .parsed) q)
+
+      pub into-read : (n next : ℕ) → r ≡ Value n next → ReadInto bytes sizes stated rows (Accepted n)
+      unfolding outcomeOf
+      into-read n next q =
+          let e = parse-is ∙ as-got _ r _ n next (body .parsed) q in
+          record {
+            answers = rw (e, body .count-is n next q);
+            holds = λ s end d. rw (let m : body .sheet ≡ s = cc in m) at (body .holds n next q);
+          }

@@ -1,0 +1,74 @@
+-- The loop's invariant: the sizes before the `i`th stand in the array, and the next is at `at`.
+use Prim.Native.Nat.{_-_}
+use native.Mathlib.Omega.{arith}
+use borrow.Author.Needs.{needs}
+use Rattle.reading.proofs.Fields.{read-got, read-bad}
+use Rattle.reading.proofs.SizesLoop.{SizesSoFar, size-fits, sizes-none, sizes-more, sizes-end, sizes-refused}
+use Rattle.reading.proofs.sizes.read_sizes.Statement.{statement}
+use Rattle.reading.proofs.sizes.read_sizes.Tie as tie
+use Rattle.reading.proofs.sizes.read_sizes.Reads as reads
+use Rattle.reading.proofs.sizes.read_sizes.Lts as lts
+use Rattle.reading.proofs.field.byte_field.Reads as byte-field-reads
+
+abbrev Inv-loop : tie.InvT-loop
+Inv-loop bytes n sizes₀ at₀ i₀ sizes at i = SizesSoFar bytes n sizes at i
+
+abbrev μ-loop : tie.MeasureT-loop
+μ-loop bytes n sizes₀ at₀ i₀ sizes at i = n - i
+
+loop-holds : tie.Need-loop-holds Inv-loop μ-loop
+loop-holds c = search (sizes-none, needs)
+
+byte-field-requires : tie.Need-byte-field-requires Inv-loop μ-loop
+byte-field-requires c κs = search needs
+
+enum-known-size : tie.Need-enum-known-size Inv-loop μ-loop
+enum-known-size c = search needs
+
+enum-told : tie.Need-enum-told Inv-loop μ-loop
+enum-told c = search needs
+
+returns : tie.Need-returns Inv-loop μ-loop
+returns c =
+    rw (c .enum-told .given .1)
+    (sizes-refused _ _ _ _ _ (c .before .before .before .before .loop .inv) (omega arith) _ _
+    (read-bad _ _ _ _ (c .before .before .byte-field .ensures) (c .enum-told .given .1)))
+
+cast-sizes : tie.Need-cast-sizes Inv-loop μ-loop
+cast-sizes c =
+    size-fits _ _ _ _ (read-got _ _ _ _ (c .before .before .before .byte-field .ensures) (c .before .size .given .1))
+
+element-write-sizes : tie.Need-element-write-sizes Inv-loop μ-loop
+element-write-sizes c = search needs
+
+add-i : tie.Need-add-i Inv-loop μ-loop
+add-i c = search needs
+
+loop-less : tie.Need-loop-less Inv-loop μ-loop
+loop-less c = search needs
+
+loop-again : tie.Need-loop-again Inv-loop μ-loop
+loop-again c =
+    sizes-more _ _ _ _ _ (c .before .before .before .before .before .loop .inv) (omega arith) (omega arith) _ _
+    (read-got _ _ _ _ (c .before .before .before .byte-field .ensures) (c .before .size .given .1))
+
+returns-2 : tie.Need-returns-2 Inv-loop μ-loop
+returns-2 c = search (sizes-end, needs)
+
+pub read-sizes-spec : {M : Type 1} → statement M
+read-sizes-spec =
+    tie.close
+    (tie.spec
+    Inv-loop
+    μ-loop
+    loop-holds
+    byte-field-requires
+    enum-known-size
+    enum-told
+    returns
+    cast-sizes
+    element-write-sizes
+    add-i
+    loop-less
+    loop-again
+    returns-2)

@@ -1,0 +1,3 @@
+-- What the functions of reading do.
+pub mod Fields
+pub mod Reading

@@ -1,0 +1,8 @@
+// Reading a sheet's bytes into arrays.
+mod field;
+mod header;
+mod read;
+mod sizes;
+mod tables;
+
+pub use read::read_into;

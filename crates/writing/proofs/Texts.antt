@@ -1,0 +1,116 @@
+-- Laws of writing: texts one after the other in a buffer, what they are together, and how long they are.
+use mathlib.Core.Bool.{true, false}
+use mathlib.Core.List.{List, [], _∷_, _++_, append-assoc, append-nil}
+use mathlib.Core.Path.{_≡_, refl, sym, _∙_, ap, ap₂}
+use Prim.Native.Nat.{ℕ, zero, suc, _+_, _-_, _/_, _%_, _≤_, _<_}
+use native.Mathlib.Nat.{add-zero}
+use native.Mathlib.Numerals.{add-one}
+use native.Mathlib.Omega.{arith}
+use lib.ListN.{length, getD, set, take, drop, length-append, length-set, take-append-drop}
+use lib.Seq.{set-split, take-at, drop-at, drop-drop, length-take-le}
+use Rattle.bounded.proofs.Bool.{if-true, if-false}
+use Rattle.words.specs.Word.{has}
+use Rattle.network.specs.Sheet.{collect}
+use Rattle.format.specs.Print.{bytesOf}
+use Rattle.writing.specs.Texts.{Wrote, joined, rowsText, tableText}
+
+-- ---- texts in a buffer
+
+pub wrote-none : (buffer : List ℕ) (at : ℕ) → at ≤ length buffer → Wrote buffer buffer [] at at
+wrote-none buffer at h = record { holds = sym (take-append-drop at buffer); ends = omega arith; room = h; keeps = refl }
+
+pub wrote-one : (buffer : List ℕ) (at byte : ℕ) → at < length buffer → Wrote buffer (set buffer at byte) (byte ∷ []) at (at + 1)
+wrote-one buffer at byte h =
+    record { holds = rw add-one (set-split buffer at byte h); ends = refl; room = omega arith; keeps = length-set buffer at byte }
+
+pub wrote-then : {a b c x y : List ℕ} {at mid r : ℕ} → Wrote a b x at mid → Wrote b c y mid r → Wrote a c (x ++ y) at r
+wrote-then {a} {b} {c} {x} {y} {at} {mid} {r} h k =
+    let m : length (take at a ++ x) ≡ mid = omega (arith, length-append (take at a) x, length-take-le at a (omega arith)) in
+    let e : b ≡ (take at a ++ x) ++ drop mid a = h .holds ∙ sym (append-assoc (take at a) x (drop mid a)) in
+    let front : take mid b ≡ take at a ++ x = ap (take mid) e ∙ take-at (take at a ++ x) (drop mid a) mid m in
+    let rest : drop mid b ≡ drop mid a = ap (drop mid) e ∙ drop-at (take at a ++ x) (drop mid a) mid m in
+    let back : drop r b ≡ drop r a = rw (k .ends) (sym (drop-drop (length y) mid b) ∙ ap (drop (length y)) rest ∙ drop-drop (length y) mid a) in
+    record {
+      holds = k .holds ∙ rw (front, back) (simp append-assoc);
+      ends = omega (arith, length-append x y);
+      room = omega arith;
+      keeps = k .keeps ∙ h .keeps;
+    }
+
+-- A number below 65536 in two bytes.
+pub two-bytes : (v : ℕ) → v < 65536 → bytesOf 2 v ≡ v / 256 ∷ v % 256 ∷ []
+unfolding bytesOf
+two-bytes v h = ap₂ (λ (x y : ℕ). x ∷ y ∷ []) (omega arith) (omega arith)
+
+-- ---- texts that are joined
+
+pub collect-none : {A : Type 0} (k : ℕ) (f : ℕ → List A) → collect 0 k f ≡ []
+unfolding collect
+collect-none k f = refl
+
+-- One more at the end.
+pub collect-snoc : {A : Type 0} (m k : ℕ) (f : ℕ → List A) → collect (suc m) k f ≡ collect m k f ++ f (k + m)
+unfolding collect
+collect-snoc zero k f = rw add-zero (append-nil (f k))
+collect-snoc (suc m) k f =
+    ap (λ (l : List _). f k ++ l) (collect-snoc m (suc k) f)
+    ∙ sym (append-assoc (f k) (collect m (suc k) f) (f (suc k + m)))
+    ∙ ap (λ (x : ℕ). (f k ++ collect m (suc k) f) ++ f x) (let e : suc k + m ≡ k + suc m = omega arith in e)
+
+pub joined-none : (k : ℕ) (f : ℕ → List ℕ) → joined k k f ≡ []
+unfolding joined
+joined-none k f = ap (λ (c : ℕ). collect c k f) (let e : k - k ≡ 0 = omega arith in e) ∙ collect-none k f
+
+pub joined-more : (k l : ℕ) (f : ℕ → List ℕ) → k ≤ l → joined k (l + 1) f ≡ joined k l f ++ f l
+unfolding joined
+joined-more k l f h =
+    ap (λ (c : ℕ). collect c k f) (let e : l + 1 - k ≡ suc (l - k) = omega arith in e)
+    ∙ collect-snoc (l - k) k f
+    ∙ ap (λ (x : ℕ). collect (l - k) k f ++ f x) (let e : k + (l - k) ≡ l = omega arith in e)
+
+pub length-joined-more : (k l : ℕ) (f : ℕ → List ℕ) → k ≤ l → length (joined k (l + 1) f) ≡ length (joined k l f) + length (f l)
+length-joined-more k l f h = ap length (joined-more k l f h) ∙ length-append (joined k l f) (f l)
+
+joined-grows : (d k l : ℕ) (f : ℕ → List ℕ) → k ≤ l → length (joined k l f) ≤ length (joined k (l + d) f)
+joined-grows zero k l f h = rw add-zero (omega arith)
+joined-grows (suc d) k l f h =
+    rw (let e : l + suc d ≡ l + d + 1 = omega arith in e)
+    (omega (arith, joined-grows d k l f h, length-joined-more k (l + d) f (omega arith)))
+
+-- What has been joined so far and the next part are no longer than the whole.
+joined-room : (k m l : ℕ) (f : ℕ → List ℕ) → k ≤ m → m < l → length (joined k m f) + length (f m) ≤ length (joined k l f)
+joined-room k m l f h n =
+    let e : m + 1 + (l - (m + 1)) ≡ l = omega arith in
+    rw e at (rw (length-joined-more k m f h) at (joined-grows (l - (m + 1)) k (m + 1) f (omega arith)))
+
+-- ---- a loop that writes joined texts: where it begins, the room for the next part, and after it
+
+pub wrote-start : (k : ℕ) (f : ℕ → List ℕ) (buffer : List ℕ) (at : ℕ) → at ≤ length buffer → Wrote buffer buffer (joined k k f) at at
+wrote-start k f buffer at h = rw joined-none (wrote-none buffer at h)
+
+module _ (f : ℕ → List ℕ) where
+  pub wrote-room : (l : ℕ) {a b : List ℕ} {k m at mid : ℕ} → k ≤ m → m < l → at + length (joined k l f) ≤ length a
+      → Wrote a b (joined k m f) at mid
+      → mid + length (f m) ≤ length b
+  wrote-room l {k = k} {m = m} h n r w = omega (arith, joined-room k m l f h n)
+
+  pub wrote-next : {a b c : List ℕ} {k l at mid r : ℕ} → k ≤ l → Wrote a b (joined k l f) at mid → Wrote b c (f l) mid r
+      → Wrote a c (joined k (l + 1) f) at r
+  wrote-next {k = k} {l = l} h x y = rw (joined-more k l f h) (wrote-then x y)
+
+-- ---- a table
+
+module _ (sizes stated : List ℕ) (row : ℕ → ℕ → ℕ → ℕ) (i j : ℕ) where
+  pub table-unstated : has (getD stated i 0) j ≡ false → tableText sizes stated row i j ≡ []
+  unfolding tableText
+  table-unstated h = if-false _ _ _ h
+
+  pub table-stated : has (getD stated i 0) j ≡ true
+      → tableText sizes stated row i j ≡ suc i ∷ suc j ∷ rowsText (getD sizes i 0) (row i j)
+  unfolding tableText
+  table-stated h = if-true _ _ _ h
+
+  pub wrote-table : {a b c d : List ℕ} {at second third r : ℕ} → has (getD stated i 0) j ≡ true
+      → Wrote a b ((i + 1) ∷ []) at second → Wrote b c ((j + 1) ∷ []) second third → Wrote c d (rowsText (getD sizes i 0) (row i j)) third r
+      → Wrote a d (tableText sizes stated row i j) at r
+  wrote-table h x y z = rw (table-stated h, ← add-one i, ← add-one j) (wrote-then x (wrote-then y z))

@@ -1,0 +1,29 @@
+-- A count after shifts: `later-shifted`.
+use mathlib.Core.Path.{_∙_}
+use native.Mathlib.Omega.{arith}
+use borrow.Author.Needs.{needs}
+use Rattle.writing.proofs.Held.{later-shifted, later-most}
+use Rattle.writing.proofs.writing.later.Statement.{statement}
+use Rattle.writing.proofs.writing.later.Tie as tie
+
+cast-count : tie.Need-cast-count
+cast-count c = search needs
+
+shr-count : tie.Need-shr-count
+shr-count c = search needs
+
+count-requires : tie.Need-count-requires
+count-requires c κs = search needs
+
+returns : tie.Need-returns
+returns c =
+    let e = c .count .ensures ∙ later-shifted _ _ in (e, omega (arith, later-most (c .before .args .x) (c .before .args .i)))
+
+pub later-spec : {M : Type 1} → statement M
+later-spec =
+    tie.close
+    (tie.spec
+    cast-count
+    shr-count
+    count-requires
+    returns)

@@ -1,0 +1,79 @@
+-- The loop's invariant: the bytes of the tables whose first variable is below `i` are counted. The count is the sheet's: `length-held`.
+use mathlib.Core.Path.{_≡_, sym, _∙_, ap}
+use Prim.Native.Nat.{ℕ, _+_, _-_, _*_, _≤_}
+use native.Mathlib.Omega.{arith}
+use lib.ListN.{getD}
+use borrow.Author.Needs.{needs}
+use Rattle.writing.specs.Texts.{tablesLength, sheetLength}
+use Rattle.writing.proofs.Held.{bytes-none, bytes-more, length-held}
+use Rattle.writing.proofs.writing.sheet_length.Statement.{statement}
+use Rattle.writing.proofs.writing.sheet_length.Tie as tie
+
+abbrev Inv-loop : tie.InvT-loop
+Inv-loop n sizes stated bytes₀ i₀ bytes i = (i ≤ n) × (bytes ≡ 5 + n + tablesLength i sizes stated) × (bytes ≤ 21 + 8192 * i)
+
+abbrev μ-loop : tie.MeasureT-loop
+μ-loop n sizes stated bytes₀ i₀ bytes i = n - i
+
+add-bytes : tie.Need-add-bytes Inv-loop μ-loop
+add-bytes c = search needs
+
+loop-holds : tie.Need-loop-holds Inv-loop μ-loop
+loop-holds c = let none = bytes-none (c .args .sizes .now) (c .args .stated .now) in (omega arith, omega arith, omega arith)
+
+element-copy-out-tables-length : tie.Need-element-copy-out-tables-length Inv-loop μ-loop
+element-copy-out-tables-length c = search needs
+
+mul-later : tie.Need-mul-later Inv-loop μ-loop
+mul-later c = search needs
+
+element-copy-out-later : tie.Need-element-copy-out-later Inv-loop μ-loop
+element-copy-out-later c = search needs
+
+later-requires : tie.Need-later-requires Inv-loop μ-loop
+later-requires c κs = search needs
+
+tables-length-requires : tie.Need-tables-length-requires Inv-loop μ-loop
+tables-length-requires c κs = search needs
+
+add-bytes-2 : tie.Need-add-bytes-2 Inv-loop μ-loop
+add-bytes-2 c = search needs
+
+add-i : tie.Need-add-i Inv-loop μ-loop
+add-i c = search needs
+
+loop-less : tie.Need-loop-less Inv-loop μ-loop
+loop-less c = search needs
+
+loop-again : tie.Need-loop-again Inv-loop μ-loop
+loop-again c =
+    let args = c .before .before .before .before .before .before .args in
+    let i = c .before .before .before .before .before .loop .i in
+    let more = bytes-more i (args .sizes .now) (args .stated .now) in
+    let own = c .tables-length .ensures .0 ∙ ap (λ (k : ℕ). (2 + 2 * getD (args .sizes .now) i 0) * k) (c .before .later .ensures .0) in
+    (omega arith, omega arith, omega arith)
+
+returns : tie.Need-returns Inv-loop μ-loop
+unfolding sheetLength
+returns c rows =
+    (rw (let e : c .before .loop .i ≡ c .before .before .args .n = omega arith in e) at (c .before .loop .inv .1))
+    ∙ sym (length-held _ _ _ rows (c .before .before .pre .0) (c .before .before .pre .1))
+
+pub sheet-length-spec : {M : Type 1} → statement M
+sheet-length-spec =
+    tie.close
+    (tie.spec
+    Inv-loop
+    μ-loop
+    add-bytes
+    loop-holds
+    element-copy-out-tables-length
+    mul-later
+    element-copy-out-later
+    later-requires
+    tables-length-requires
+    add-bytes-2
+    add-i
+    loop-less
+    loop-again
+    returns)

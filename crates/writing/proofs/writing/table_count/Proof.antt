@@ -1,0 +1,60 @@
+-- The loop's invariant: the tables whose first variable is below `i` are counted.
+use mathlib.Core.Path.{_≡_, sym}
+use Prim.Native.Nat.{_-_, _*_, _≤_}
+use native.Mathlib.Omega.{arith}
+use borrow.Author.Needs.{needs}
+use Rattle.writing.specs.Texts.{tableCount}
+use Rattle.writing.proofs.Held.{count-none, count-more}
+use Rattle.writing.proofs.writing.table_count.Statement.{statement}
+use Rattle.writing.proofs.writing.table_count.Tie as tie
+
+abbrev Inv-loop : tie.InvT-loop
+Inv-loop n stated tables₀ i₀ tables i = (i ≤ n) × (tables ≡ tableCount i stated) × (tables ≤ 16 * i)
+
+abbrev μ-loop : tie.MeasureT-loop
+μ-loop n stated tables₀ i₀ tables i = n - i
+
+loop-holds : tie.Need-loop-holds Inv-loop μ-loop
+loop-holds c = (omega arith, sym (count-none _), omega arith)
+
+mul-later : tie.Need-mul-later Inv-loop μ-loop
+mul-later c = search needs
+
+element-copy-out-later : tie.Need-element-copy-out-later Inv-loop μ-loop
+element-copy-out-later c = search needs
+
+later-requires : tie.Need-later-requires Inv-loop μ-loop
+later-requires c κs = search needs
+
+add-tables : tie.Need-add-tables Inv-loop μ-loop
+add-tables c = search needs
+
+add-i : tie.Need-add-i Inv-loop μ-loop
+add-i c = search needs
+
+loop-less : tie.Need-loop-less Inv-loop μ-loop
+loop-less c = search needs
+
+loop-again : tie.Need-loop-again Inv-loop μ-loop
+loop-again c =
+    let more = count-more (c .before .before .before .loop .i) (c .before .before .before .before .args .stated .now) in
+    (omega arith, omega arith, omega arith)
+
+returns : tie.Need-returns Inv-loop μ-loop
+returns c = rw (let e : c .before .loop .i ≡ c .before .before .args .n = omega arith in e) at (c .before .loop .inv .1)
+
+pub table-count-spec : {M : Type 1} → statement M
+table-count-spec =
+    tie.close
+    (tie.spec
+    Inv-loop
+    μ-loop
+    loop-holds
+    mul-later
+    element-copy-out-later
+    later-requires
+    add-tables
+    add-i
+    loop-less
+    loop-again
+    returns)

@@ -1,0 +1,34 @@
+-- Three texts, one after the other.
+use borrow.Author.Needs.{needs}
+use Rattle.format.specs.Print.{bytesOf}
+use Rattle.writing.proofs.Texts.{wrote-then}
+use Rattle.writing.proofs.writing.write_header.Statement.{statement}
+use Rattle.writing.proofs.writing.write_header.Tie as tie
+
+put-byte-requires : tie.Need-put-byte-requires
+put-byte-requires c κs = search needs
+
+put-number-requires : tie.Need-put-number-requires
+put-number-requires c κs = search needs
+
+put-byte-requires-2 : tie.Need-put-byte-requires-2
+unfolding bytesOf
+put-byte-requires-2 c κs = search needs
+
+same-length : tie.Need-same-length
+same-length c = search needs
+
+returns : tie.Need-returns
+returns c =
+    wrote-then (c .before .before .before .before .before .before .before .before .before .before .put-byte .ensures)
+    (wrote-then (c .before .before .before .before .before .before .put-number .ensures) (c .before .before .put-byte2 .ensures))
+
+pub write-header-spec : {M : Type 1} → statement M
+write-header-spec =
+    tie.close
+    (tie.spec
+    put-byte-requires
+    put-number-requires
+    put-byte-requires-2
+    same-length
+    returns)

@@ -1,0 +1,84 @@
+-- The loop's invariant: the rows of the values below `a` are written.
+use mathlib.Core.Path.{_≡_}
+use Prim.Native.Nat.{ℕ, _-_, _≤_}
+use native.Mathlib.Omega.{arith}
+use borrow.Author.Needs.{needs}
+use Rattle.rows.specs.Rows.{place, rowAt}
+use Rattle.format.specs.Print.{bytesOf}
+use Rattle.writing.specs.Texts.{Wrote, joined, rowsText}
+use Rattle.writing.proofs.Texts.{wrote-start, wrote-room, wrote-next}
+use Rattle.writing.proofs.writing.write_rows.Statement.{statement}
+use Rattle.writing.proofs.writing.write_rows.Tie as tie
+
+abbrev Inv-loop : tie.InvT-loop
+Inv-loop size i j rows buffer₀ at next₀ a₀ buffer next a =
+    (a ≤ size) × Wrote buffer₀ buffer (joined 0 a (λ (k : ℕ). bytesOf 2 (rowAt 16 rows i j k))) at next
+
+abbrev μ-loop : tie.MeasureT-loop
+μ-loop size i j rows buffer₀ at next₀ a₀ buffer next a = size - a
+
+loop-holds : tie.Need-loop-holds Inv-loop μ-loop
+unfolding rowsText
+loop-holds c = (omega arith, wrote-start 0 _ _ _ (omega arith))
+
+mul-put-number : tie.Need-mul-put-number Inv-loop μ-loop
+mul-put-number c = search needs
+
+add-put-number : tie.Need-add-put-number Inv-loop μ-loop
+add-put-number c = search needs
+
+mul-put-number-2 : tie.Need-mul-put-number-2 Inv-loop μ-loop
+mul-put-number-2 c = search needs
+
+add-put-number-2 : tie.Need-add-put-number-2 Inv-loop μ-loop
+add-put-number-2 c = search needs
+
+mul-put-number-3 : tie.Need-mul-put-number-3 Inv-loop μ-loop
+mul-put-number-3 c = search needs
+
+element-copy-out-put-number : tie.Need-element-copy-out-put-number Inv-loop μ-loop
+element-copy-out-put-number c = search needs
+
+put-number-requires : tie.Need-put-number-requires Inv-loop μ-loop
+unfolding rowsText bytesOf
+put-number-requires c κs =
+    let s = c .before .before .before .before .before in
+    wrote-room _ (s .args .size) (omega arith) (omega arith) (s .pre .3) (c .before .before .before .loop .inv .1)
+
+add-a : tie.Need-add-a Inv-loop μ-loop
+add-a c = search needs
+
+loop-less : tie.Need-loop-less Inv-loop μ-loop
+loop-less c = search needs
+
+loop-again : tie.Need-loop-again Inv-loop μ-loop
+unfolding rowAt place
+loop-again c =
+    (omega arith, wrote-next _ (omega arith) (c .before .before .before .before .before .before .loop .inv .1) (c .before .before .put-number .ensures))
+
+same-length : tie.Need-same-length Inv-loop μ-loop
+same-length c = search needs
+
+returns : tie.Need-returns Inv-loop μ-loop
+unfolding rowsText
+returns c = rw (let e : c .before .loop .a ≡ c .before .before .before .args .size = omega arith in e) at (c .before .loop .inv .1)
+
+pub write-rows-spec : {M : Type 1} → statement M
+write-rows-spec =
+    tie.close
+    (tie.spec
+    Inv-loop
+    μ-loop
+    loop-holds
+    mul-put-number
+    add-put-number
+    mul-put-number-2
+    add-put-number-2
+    mul-put-number-3
+    element-copy-out-put-number
+    put-number-requires
+    add-a
+    loop-less
+    loop-again
+    same-length
+    returns)

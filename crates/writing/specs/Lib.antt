@@ -1,0 +1,2 @@
+-- The parts of a text and what writing them does.
+pub mod Texts
