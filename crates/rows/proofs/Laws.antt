@@ -1,23 +1,22 @@
 -- Laws of the array of rows, for any number w of values. All rest on the laws of `place` and on `rowAt-same` and `rowAt-other`.
-use mathlib.Core.Bool.{Bool, true, false}
+use mathlib.Core.Bool.{Bool, true}
 use mathlib.Core.List.{List}
-use mathlib.Core.Path.{_≡_, refl, sym, ap, _∙_, subst, fun-ext}
+use mathlib.Core.Path.{_≡_, sym, ap, _∙_, subst}
 use Prim.Native.Nat.{ℕ, zero, suc, _+_, _*_, _/_, _%_, _^_, _≤_, _<_}
 use native.Mathlib.Nat.{add-zero, mod-lt, mod-eq-of-lt, div-eq-of-lt, div-add-mod', div-lt-iff-lt-mul, mul-add-div-right, mul-add-mod-self-right, mul-le-mul-right}
 use native.Mathlib.Omega.{arith}
 use lib.Dec.{ltb, eqb}
-use lib.ListN.{length, getD, set, List·getD-eq-default}
-use lib.Seq.{getD-set-same, getD-set-other}
-use borrow.Author.Tests.{ltb-true, ltb-false, lt-ltb, le-ltb, eq-eqb, eqb-true}
+use lib.ListN.{length, getD, set}
+use lib.Seq.{ext-getD, getD-set-same, getD-set-other}
+use borrow.Author.Tests.{ltb-true, ltb-false, lt-ltb, leb-true, le-leb, eq-eqb, eqb-true}
 use Rattle.bounded.specs.Bool.{and, if}
-use Rattle.bounded.specs.Fold.{every, some}
-use Rattle.bounded.specs.Table.{tabulate}
-use Rattle.bounded.proofs.Bool.{by-cases, clash, bool-ext, and-i, and-l, and-r, true-and, if-true, if-false}
+use Rattle.bounded.specs.Fold.{some}
+use Rattle.bounded.proofs.Bool.{by-cases, clash, bool-ext, and-i, and-l, and-r, true-and, implies-i, implies-e, if-true, if-false}
 use Rattle.bounded.proofs.Fold.{every-i, every-e}
 use Rattle.bounded.proofs.Table.{getD-tabulate, getD-tabulate-past, is-table}
 use Rattle.words.specs.Word.{has, word}
 use Rattle.words.proofs.Laws.{has-word, has-below, has-zero, word-lt, is-word, same-members}
-use Rattle.rows.specs.Rows.{place, rowAt, columnAt, unionAt, mirroredAt, allowsOf, rowsOf}
+use Rattle.rows.specs.Rows.{place, rowAt, columnAt, unionAt, mirroredAt, partnersAt, partnersWithin, allowsOf, rowsOf}
 
 -- ---- the place of a row
 
@@ -68,6 +67,14 @@ every-place w P h k l =
     let p : zero < w = omega arith in
     let q : k / w < 16 * 16 = div-lt-iff-lt-mul p .1 l in
     subst P (place-of w k) (h (k / w / 16) (k / w % 16) (k % w) (omega arith) (omega arith) (mod-lt k p))
+
+-- Two arrays with the same rows are the same.
+pub rows-ext : (w : ℕ) (rows rows′ : List ℕ) → length rows ≡ 16 * 16 * w → length rows′ ≡ 16 * 16 * w
+    → ((i j a : ℕ) → i < 16 → j < 16 → a < w → rowAt w rows i j a ≡ rowAt w rows′ i j a) → rows ≡ rows′
+unfolding rowAt
+rows-ext w rows rows′ e f h =
+    ext-getD 0 rows rows′ (e ∙ sym f)
+    (λ k l. every-place w (λ (n : ℕ). getD rows n 0 ≡ getD rows′ n 0) h k (omega arith))
 
 -- ---- an array and the rule that it holds
 
@@ -147,6 +154,21 @@ unfolding mirroredAt rowAt
 mirrored-i w rows i j f h =
     every-i w _ (λ b k. eq-eqb _ _
     (same-members w _ _ (column-lt w rows i j b) (f (place w j i b)) (λ a l. has-column w rows i j b a l ∙ h a b l k)))
+
+-- The values of a list have partners within bounds exactly when each of them has.
+pub partners-e : (w : ℕ) (rows : List ℕ) (i j di dj least most : ℕ) → partnersWithin w rows i j di dj least most ≡ true
+    → (a : ℕ) → a < w → has di a ≡ true → (least ≤ partnersAt w rows i j dj a) × (partnersAt w rows i j dj a ≤ most)
+unfolding partnersWithin
+partners-e w rows i j di dj least most t a l m =
+    let b = implies-e _ _ (every-e w _ t a l) m in
+    (leb-true least _ (and-l _ _ b), leb-true _ most (and-r _ _ b))
+
+pub partners-i : (w : ℕ) (rows : List ℕ) (i j di dj least most : ℕ)
+    → ((a : ℕ) → a < w → has di a ≡ true → (least ≤ partnersAt w rows i j dj a) × (partnersAt w rows i j dj a ≤ most))
+    → partnersWithin w rows i j di dj least most ≡ true
+unfolding partnersWithin
+partners-i w rows i j di dj least most h =
+    every-i w _ (λ a l. implies-i _ _ (λ m. and-i _ _ (le-leb least _ (h a l m .0)) (le-leb _ most (h a l m .1))))
 
 -- ---- a store
 

@@ -1,4 +1,5 @@
 pub mod Array
 pub mod Laws
 pub mod Loops
+pub mod Partners
 pub mod Frames

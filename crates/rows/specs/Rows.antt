@@ -38,6 +38,11 @@ unfoldable pub partnersWithin : ℕ → List ℕ → ℕ → ℕ → ℕ → ℕ
 partnersWithin w rows i j di dj least most =
     every w (λ (a : ℕ). implies (has di a) (and (leb least (partnersAt w rows i j dj a)) (leb (partnersAt w rows i j dj a) most)))
 
+-- Rule 1: "The list of i loses each value that has no allowed partner in the list of j."
+unfoldable pub supportedAt : ℕ → List ℕ → ℕ → ℕ → ℕ → ℕ → ℕ
+supportedAt w rows i j di dj =
+    word w (λ (a : ℕ). and (has di a) (some w (λ (b : ℕ). and (has dj b) (has (rowAt w rows i j a) b))))
+
 -- What an array of rows allows: nothing past 16 variables or w values.
 unfoldable pub allowsOf : ℕ → List ℕ → ℕ → ℕ → ℕ → ℕ → Bool
 allowsOf w rows i j a b = and (and (ltb j 16) (ltb a w)) (has (rowAt w rows i j a) b)

@@ -1,6 +1,6 @@
 // The flat array of rows, on lent arrays and numbers.
 ghost use mathlib.Core.Path.{_≡_};
-ghost use Prim.Native.Nat.{ℕ, _<_, _≤_};
+ghost use Prim.Native.Nat.{ℕ, _<_};
 ghost use lib.ListN.{length, set};
 ghost use Rattle.rows.specs.Rows.{place, rowAt, columnAt, unionAt, mirroredAt, partnersWithin};
 ghost use Rattle.rows.specs.Frames.{Mirrored};

@@ -1,5 +1,6 @@
 // Option sheets: the state and the public calls.
 mod answers;
+mod reader;
 mod state;
 
 pub use answers::Answer;
@@ -11,4 +12,5 @@ pub use answers::TestAnswer;
 pub use answers::Verdict;
 pub use answers::VerdictAnswer;
 pub use answers::WriteAnswer;
+pub use reader::read;
 pub use state::State;

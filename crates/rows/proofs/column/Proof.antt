@@ -1,13 +1,14 @@
 -- The loop's invariant: the members so far are the word of the first `a` digits of the column. A turn adds one: `digit-joins`.
-use mathlib.Core.Path.{_≡_, sym, ap}
-use Prim.Native.Nat.{ℕ, suc, _-_, _^_, _≤_}
+use mathlib.Core.Path.{_≡_, sym, ap, _∙_}
+use Prim.Native.Nat.{ℕ, _-_, _≤_}
 use native.Mathlib.Omega.{arith}
 use lib.Pow.{pow-mono}
 use borrow.Author.Needs.{needs}
+use Rattle.bounded.specs.Bool.{bit}
 use Rattle.words.specs.Word.{has, word}
 use Rattle.words.proofs.Laws.{word-zero}
 use Rattle.rows.specs.Rows.{rowAt, columnAt}
-use Rattle.rows.proofs.Loops.{digit-joins}
+use Rattle.rows.proofs.Loops.{digit-joins, digit-of}
 use Rattle.rows.proofs.column.Statement.{statement}
 use Rattle.rows.proofs.column.Tie as tie
 use Rattle.rows.proofs.column.Reads as reads
@@ -45,11 +46,12 @@ loop-less : tie.Need-loop-less Inv-loop μ-loop
 loop-less c = search needs
 
 loop-again : tie.Need-loop-again Inv-loop μ-loop
-loop-again c = (
-  omega arith,
-  digit-joins 65536 _ _ _ _ _ (pow-mono {j = 16} (omega arith)) (c .before .before .loop .inv .1)
-      (ap (λ (n : ℕ). has n (c .before .before .before .args .b)) (c .row .ensures)),
-)
+loop-again c =
+    let b = c .before .before .before .args .b in (
+      omega arith,
+      digit-joins 65536 _ _ _ _ (pow-mono {j = 16} (omega arith)) (c .before .before .loop .inv .1)
+          (digit-of (c .row .result) b ∙ ap (λ (n : ℕ). bit (has n b)) (c .row .ensures)),
+    )
 
 returns : tie.Need-returns Inv-loop μ-loop
 unfolding columnAt

@@ -1,6 +1,6 @@
 -- The loop's invariant: the first `b` rows of `j` against `i` are filled. A turn fills one more: `filled-more`.
 use mathlib.Core.Path.{_≡_, _∙_}
-use Prim.Native.Nat.{ℕ, _-_, _≤_}
+use Prim.Native.Nat.{_-_, _≤_}
 use native.Mathlib.Omega.{arith}
 use borrow.Author.Needs.{needs}
 use Rattle.rows.specs.Rows.{columnAt}

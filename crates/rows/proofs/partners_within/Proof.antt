@@ -1,5 +1,5 @@
 -- The loop's invariant: each of the first `a` values of the list has partners within the bounds. A turn tests one more: `test-joins`.
--- The ones of row AND list are the partners: `partners-counted`.
+-- The ones of row AND list are the partners: `partners-tested`.
 use mathlib.Core.Path.{_≡_, refl}
 use Prim.Native.Nat.{ℕ, _-_, _≤_}
 use native.Mathlib.Omega.{arith}
@@ -9,7 +9,8 @@ use Rattle.bounded.specs.Bool.{and, implies}
 use Rattle.bounded.specs.Fold.{every}
 use Rattle.words.specs.Word.{has}
 use Rattle.rows.specs.Rows.{partnersAt, partnersWithin}
-use Rattle.rows.proofs.Loops.{test-joins, partners-tested}
+use Rattle.rows.proofs.Loops.{test-joins}
+use Rattle.rows.proofs.Partners.{partners-tested}
 use Rattle.rows.proofs.partners_within.Statement.{statement}
 use Rattle.rows.proofs.partners_within.Tie as tie
 
@@ -46,7 +47,8 @@ loop-again : tie.Need-loop-again Inv-loop μ-loop
 loop-again c = (
   omega arith,
   test-joins _ _ _ _ (c .before .before .before .before .before .loop .inv .1)
-      (partners-tested 16 _ _ _ _ _ _ _ _ _ _ _ _ (c .before .before .before .row .ensures) (c .before .before .both .ensures) (c .before .count .ensures) (c .member .ensures)),
+      (partners-tested 16 _ _ _ _ _ _ _ (c .before .before .before .row .ensures) (c .before .before .both .ensures) _ _ _ _ _
+      (c .before .count .ensures) (c .member .ensures)),
 )
 
 returns : tie.Need-returns Inv-loop μ-loop

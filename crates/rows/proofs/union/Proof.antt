@@ -1,6 +1,6 @@
 -- The loop's invariant: the members so far are those of some of the first `a` rows. A turn joins one more row: `word-joins`.
 use mathlib.Core.Path.{_≡_, sym, ap}
-use Prim.Native.Nat.{ℕ, _-_, _^_, _≤_}
+use Prim.Native.Nat.{ℕ, _-_, _≤_}
 use native.Mathlib.Omega.{arith}
 use borrow.Author.Needs.{needs}
 use Rattle.bounded.specs.Fold.{some}

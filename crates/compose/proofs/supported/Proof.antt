@@ -1,0 +1,79 @@
+-- The loop's invariant: the members so far are the first `a` values that have a partner. A turn adds one digit: `digit-joins`, `partner-found`.
+use mathlib.Core.Path.{_≡_, sym}
+use Prim.Native.Nat.{ℕ, _-_, _≤_}
+use native.Mathlib.Omega.{arith}
+use lib.Pow.{pow-mono}
+use borrow.Author.Needs.{needs}
+use Rattle.bounded.specs.Bool.{and}
+use Rattle.bounded.specs.Fold.{some}
+use Rattle.words.specs.Word.{has, word}
+use Rattle.words.proofs.Laws.{word-zero}
+use Rattle.rows.specs.Rows.{rowAt}
+use Rattle.rows.proofs.Loops.{digit-joins}
+use Rattle.rows.proofs.Partners.{partner-found, supported-cut}
+use Rattle.compose.proofs.supported.Statement.{statement}
+use Rattle.compose.proofs.supported.Tie as tie
+
+abbrev Inv-loop : tie.InvT-loop
+Inv-loop rows i j di dj members₀ a₀ members a = (a ≤ 16)
+    × (members ≡ word a (λ (v : ℕ). some 16 (λ (b : ℕ). and (has dj b) (has (rowAt 16 rows i j v) b))))
+
+abbrev μ-loop : tie.MeasureT-loop
+μ-loop rows i j di dj members₀ a₀ members a = 16 - a
+
+loop-holds : tie.Need-loop-holds Inv-loop μ-loop
+loop-holds c = (omega arith, sym (word-zero _))
+
+row-requires : tie.Need-row-requires Inv-loop μ-loop
+row-requires c κs = search needs
+
+both-requires : tie.Need-both-requires Inv-loop μ-loop
+both-requires c κs = search needs
+
+cast-members : tie.Need-cast-members Inv-loop μ-loop
+cast-members c = search needs
+
+cast-members-2 : tie.Need-cast-members-2 Inv-loop μ-loop
+cast-members-2 c = search needs
+
+shl-members : tie.Need-shl-members Inv-loop μ-loop
+shl-members c = search needs
+
+add-a : tie.Need-add-a Inv-loop μ-loop
+add-a c = search needs
+
+loop-less : tie.Need-loop-less Inv-loop μ-loop
+loop-less c = search needs
+
+loop-again : tie.Need-loop-again Inv-loop μ-loop
+loop-again c = (
+  omega arith,
+  digit-joins 65536 _ _ _ _ (pow-mono {j = 16} (omega arith)) (c .before .before .before .loop .inv .1)
+      (partner-found 16 _ _ _ _ _ _ _ (c .before .row .ensures) (c .both .ensures)),
+)
+
+both-requires-2 : tie.Need-both-requires-2 Inv-loop μ-loop
+both-requires-2 c κs = search needs
+
+returns : tie.Need-returns Inv-loop μ-loop
+returns c = supported-cut 16 _ _ _ _ _ _ _
+    (rw (let e : c .before .before .loop .a ≡ 16 = omega arith in e) at (c .before .before .loop .inv .1))
+    (c .both2 .ensures)
+
+pub supported-spec : {M : Type 1} → statement M
+supported-spec =
+    tie.close
+    (tie.spec
+    Inv-loop
+    μ-loop
+    loop-holds
+    row-requires
+    both-requires
+    cast-members
+    cast-members-2
+    shl-members
+    add-a
+    loop-less
+    loop-again
+    both-requires-2
+    returns)
