@@ -1,2 +1,4 @@
 -- The text that sheetcut prints.
 pub mod Text
+pub mod Parts
+pub mod Printed

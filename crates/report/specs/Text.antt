@@ -2,11 +2,12 @@
 use mathlib.Core.Bool.{Bool}
 use mathlib.Core.List.{List, [], _∷_, _++_}
 use Prim.Native.Char.{Char, code}
-use Prim.Native.Nat.{ℕ, zero, suc, _+_, _-_, _/_, _%_}
+use Prim.Native.Nat.{ℕ, zero, suc, _+_, _-_}
 use Prim.Native.String.{String, [] as noText, _∷_ as _before_}
-use lib.Dec.{eqb, ltb}
+use lib.Dec.{eqb}
 use lib.ListN.{getD, take}
 use Rattle.bounded.specs.Bool.{if}
+use Rattle.buffers.specs.Digits.{decimal, hex4}
 use Rattle.network.specs.Completion.{Verdict, NONE, BUILT, OPEN}
 use Rattle.sheet.specs.declared.state.State.{State}
 use Rattle.sheet.specs.Answers.{VerdictTold, rules, no-verdict}
@@ -16,23 +17,6 @@ use Rattle.sheet.specs.Cut.{CutTold, cutSheet}
 unfoldable pub ascii : String → List ℕ
 ascii noText = []
 ascii (c before s) = code c ∷ ascii s
-
--- A number in decimal, in at most so many digits, with no zero in front.
-unfoldable pub decimalWithin : ℕ → ℕ → List ℕ
-decimalWithin zero n = []
-decimalWithin (suc most) n = if (ltb n 10) ((48 + n) ∷ []) (decimalWithin most (n / 10) ++ ((48 + n % 10) ∷ []))
-
--- "other numbers are decimal"
-unfoldable pub decimal : ℕ → List ℕ
-decimal n = decimalWithin (suc n) n
-
--- "upper-case hexadecimal digits"
-unfoldable pub hexDigit : ℕ → ℕ
-hexDigit d = if (ltb d 10) (48 + d) (55 + d)
-
--- "LIST is four upper-case hexadecimal digits"
-unfoldable pub hex4 : ℕ → List ℕ
-hex4 n = hexDigit (n / 4096 % 16) ∷ hexDigit (n / 256 % 16) ∷ hexDigit (n / 16 % 16) ∷ hexDigit (n % 16) ∷ []
 
 -- "Another refusal prints its number and place, decimal, in that form, and nothing else."
 unfoldable pub refusedText : ℕ → ℕ → List ℕ

@@ -1,1 +1,5 @@
 // The text that sheetcut prints.
+mod parts;
+mod text;
+
+pub use text::Text;

@@ -1,0 +1,3 @@
+-- Texts in a lent buffer, and numbers as digits.
+pub mod Wrote
+pub mod Digits

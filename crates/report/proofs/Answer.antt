@@ -1,0 +1,52 @@
+-- The text of an answer: what it is in either case, and that its numbers are as small as its type says.
+use mathlib.Core.List.{List}
+use mathlib.Core.Path.{_≡_, refl, sym, _∙_, ap, ap₂}
+use Prim.Native.Nat.{ℕ, _≤_, _<_}
+use native.Mathlib.Omega.{arith}
+use Rattle.cause.specs.declared.Cause.{Cause}
+use Rattle.cause.specs.declared.Cause.the-variants.{Length, Version, VariableCount, Size, ConstraintCount, CutOff, LeftOver, PairRange, PairOrder, PairRepeated, RowRange, Unsound, VariableNumber, SameVariable, NotFree, NotStated, NotFunctional, SolutionLength, ValueRange, ValuesForbidden, BufferLength, NotFresh}
+use Rattle.cause.specs.Number.{numberOf}
+use Rattle.sheet.specs.declared.answers.CutAnswer.{CutAnswer}
+use Rattle.sheet.specs.declared.answers.ReadOutcome.{ReadOutcome}
+use Rattle.sheet.specs.declared.answers.ReadOutcome.the-variants.{Accepted, Refused}
+use Rattle.sheet.specs.Answers.{readNumber, readPlace, verdictTold}
+use Rattle.sheet.specs.Cut.{cutTold}
+use Rattle.report.specs.Text.{refusedText, textAs}
+use Rattle.report.specs.Parts.{cutLines}
+use Rattle.report.proofs.Fits.{text-accepted, text-refused}
+
+-- The numbers of causes are 1 to 18.
+pub number-range : (c : Cause) → (1 ≤ numberOf c) × (numberOf c ≤ 18)
+number-range Length = omega arith
+number-range Version = omega arith
+number-range VariableCount = omega arith
+number-range Size = omega arith
+number-range ConstraintCount = omega arith
+number-range CutOff = omega arith
+number-range LeftOver = omega arith
+number-range PairRange = omega arith
+number-range PairOrder = omega arith
+number-range PairRepeated = omega arith
+number-range RowRange = omega arith
+number-range Unsound = omega arith
+number-range VariableNumber = omega arith
+number-range SameVariable = omega arith
+number-range NotFree = omega arith
+number-range NotStated = omega arith
+number-range NotFunctional = omega arith
+number-range SolutionLength = omega arith
+number-range ValueRange = omega arith
+number-range ValuesForbidden = omega arith
+number-range BufferLength = omega arith
+number-range NotFresh = omega arith
+
+pub accepted-text : (a : CutAnswer) → a .outcome ≡ Accepted
+    → textAs (cutTold a) ≡ cutLines (a .state .n) (a .state .leaders) (a .state .domains) (a .steps) (verdictTold (a .verdict) (a .solution))
+unfolding cutTold readNumber
+accepted-text a e = text-accepted (cutTold a) (ap readNumber e)
+
+pub refused-text : (a : CutAnswer) {c : Cause} {at number place : ℕ} → a .outcome ≡ Refused c at → number ≡ readNumber (a .outcome)
+    → place ≡ readPlace (a .outcome) → textAs (cutTold a) ≡ refusedText number place
+unfolding cutTold readNumber
+refused-text a {c} e n p =
+    text-refused (cutTold a) (λ z. omega (arith, number-range c, sym z ∙ ap readNumber e)) ∙ ap₂ refusedText (sym n) (sym p)
