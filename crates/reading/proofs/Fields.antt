@@ -3,15 +3,14 @@ use mathlib.Core.Bool.{Bool, true, false, _||_, not as negated}
 use mathlib.Core.List.{List}
 use mathlib.Core.Path.{_≡_, refl, sym, _∙_, ap, fun-ext}
 use Prim.Native.Nat.{ℕ, _+_, _-_, _*_, _/_, _%_, _^_, _≤_, _<_}
-use native.Mathlib.Nat.{add-zero, mul-one, one-mul}
+use native.Mathlib.Nat.{one-mul}
 use native.Mathlib.Numerals.{add-one}
 use native.Mathlib.Omega.{arith}
 use mir.Syntax.{w8, w64}
 use mir.Val.{Fits}
-use lib.Dec.{eqb, ltb, leb}
+use lib.Dec.{eqb, ltb}
 use lib.ListN.{length, getD}
-use borrow.Author.Needs.{needs}
-use borrow.Author.Tests.{lt-ltb, le-ltb, le-leb, lt-leb, eq-eqb, ne-eqb, ltb-true, ltb-false, leb-true, leb-false, eqb-true, eqb-false}
+use borrow.Author.Tests.{lt-ltb, le-ltb, le-leb, lt-leb, eq-eqb, ltb-true, ltb-false, leb-false, eqb-true}
 use Rattle.bounded.specs.Bool.{or, not, if}
 use Rattle.bounded.proofs.Bool.{by-cases, bool-ext, if-true, if-false, not-i, not-false-i, not-false-e, or-l, or-r, or-false-l, or-false-r}
 use Rattle.words.proofs.Machine.{shl-is}
@@ -67,10 +66,10 @@ module _ (k : ℕ) (test : ℕ → Test) (bytes : List ℕ) (at : ℕ) where
   unfolding field judged readOf
   field-fault v c e h t = rw (le-ltb _ _ h, ← e, t) (if-false false _ _ refl)
 
-  pub field-fine : (v : ℕ) → v ≡ numberAt k bytes at → at + k ≤ length bytes → test v ≡ fine
-      → field k test bytes at ≡ readOf (Value v (at + k))
+  pub field-fine : (v next : ℕ) → v ≡ numberAt k bytes at → next ≡ at + k → next ≤ length bytes → test v ≡ fine
+      → field k test bytes at ≡ readOf (Value v next)
   unfolding field judged readOf
-  field-fine v e h t = rw (le-ltb _ _ h, ← e, t) (if-false false _ _ refl)
+  field-fine v next e p h t = rw (p, le-ltb (length bytes) (at + k) (rw p at h), ← e, t) (if-false false _ _ refl)
 
   judged-got : (t : Test) (v u next : ℕ) → judged t v at k ≡ got u next → (t ≡ fine) × (v ≡ u) × (at + k ≡ next)
   unfolding judged
@@ -85,7 +84,12 @@ module _ (k : ℕ) (test : ℕ → Test) (bytes : List ℕ) (at : ℕ) where
       (λ t. absurd (let z : _≡_ {A = ℕ} 0 1 = cc (field-cut (ltb-true _ _ t)) in let x : ⊥ = omega arith in x))
       (λ t.
       let j = judged-got _ _ v next (sym (if-false _ _ _ t) ∙ e) in
-      record { value = sym (j .1); passed = ap test (sym (j .1)) ∙ j .0; ends = sym (j .2); inside = omega (arith, ltb-false (length bytes) (at + k) t, j .2) })
+      record {
+        value = sym (j .1);
+        passed = ap test (sym (j .1)) ∙ j .0;
+        ends = sym (j .2);
+        inside = omega (arith, ltb-false (length bytes) (at + k) t, j .2);
+      })
 
 -- The number in one byte, and in two.
 pub number-one : (bytes : List ℕ) (at : ℕ) → getD bytes at 0 ≡ numberAt 1 bytes at
@@ -225,5 +229,9 @@ unfolding pairTest
 pair-passed n previous pair e =
     let f = or-fault _ _ _ e in
     let g = or-fault _ _ _ (f .1) in
-    let h = or-fault _ _ _ (g .1) in
-    (ltb-false _ _ (sym (eqb-zero (pair / 256)) ∙ or-false-l _ _ (or-false-l _ _ (f .0))), ltb-true _ _ (not-false-e _ (g .0)), ltb-false _ _ (or-false-r _ _ (or-false-r _ _ (f .0))), ltb-true _ _ (not-false-e _ (h .0)))
+    let h = or-fault _ _ _ (g .1) in (
+      ltb-false _ _ (sym (eqb-zero (pair / 256)) ∙ or-false-l _ _ (or-false-l _ _ (f .0))),
+      ltb-true _ _ (not-false-e _ (g .0)),
+      ltb-false _ _ (or-false-r _ _ (or-false-r _ _ (f .0))),
+      ltb-true _ _ (not-false-e _ (h .0)),
+    )

@@ -1,6 +1,6 @@
 -- Items parsed one by one: what is left to parse after some of them, and what the whole comes to.
 use mathlib.Core.List.{List, [], _∷_, _++_, append-nil}
-use mathlib.Core.Path.{_≡_, refl, sym, _∙_, ap}
+use mathlib.Core.Path.{_≡_, refl, _∙_}
 use Prim.Native.Nat.{ℕ, zero, suc}
 use lib.Seq.{append-snoc}
 use Rattle.cause.specs.declared.Cause.{Cause}

@@ -1,24 +1,23 @@
 -- A whole sheet, field after field: what each answer makes of the parse, and that the arrays hold the sheet in the end.
 use mathlib.Core.Bool.{Bool, true, false}
 use mathlib.Core.List.{List, []}
-use mathlib.Core.Path.{_≡_, refl, sym, _∙_, ap}
-use Prim.Native.Nat.{ℕ, _+_, _-_, _*_, _/_, _%_, _≤_, _<_}
+use mathlib.Core.Path.{_≡_, sym, _∙_}
+use Prim.Native.Nat.{ℕ, _-_, _*_, _/_, _%_, _≤_, _<_}
 use native.Mathlib.Nat.{mul-le-mul}
 use native.Mathlib.Omega.{arith}
 use mir.Syntax.{w64}
 use mir.Val.{Fits}
-use lib.Dec.{ltb, eqb}
+use lib.Dec.{ltb}
 use lib.ListN.{length, getD, take, List·getD-eq-default}
 use lib.Seq.{getD-take}
 use borrow.Author.Tests.{lt-ltb, le-ltb, ltb-true, ltb-false, eq-eqb, ne-eqb}
-use Rattle.bounded.specs.Bool.{or, not, if}
 use Rattle.bounded.specs.Table.{tabulate}
 use Rattle.bounded.proofs.Bool.{by-cases, if-true, if-false, not-i, not-false-i, or-false-l}
 use Rattle.bounded.proofs.Table.{is-table}
-use Rattle.words.specs.Word.{has, word}
+use Rattle.words.specs.Word.{word}
 use Rattle.cause.specs.declared.Cause.{Cause}
 use Rattle.cause.specs.declared.Cause.the-variants.{Length, Version, VariableCount, ConstraintCount, LeftOver}
-use Rattle.network.specs.Sheet.{Table, Sheet, tabled, rowFor, networkOf}
+use Rattle.network.specs.Sheet.{Table, Sheet, networkOf}
 use Rattle.rows.specs.Rows.{place, rowAt, rowsOf}
 use Rattle.rows.proofs.Laws.{every-place, place-first, place-second, place-value}
 use Rattle.reading.specs.declared.field.Read.{Read}
@@ -27,7 +26,7 @@ use Rattle.format.specs.declared.outcome.Outcome.{Outcome}
 use Rattle.format.specs.declared.outcome.Outcome.the-variants.{Accepted}
 use Rattle.format.specs.Layout.{sizeTest, constraintsTest, version1}
 use Rattle.format.specs.Parse.{Parse, got, bad, bind, field, fields, parseTables, ended, parseBody, wrongLength, parse}
-use Rattle.reading.specs.Fields.{readAs, readOf, rangeTest}
+use Rattle.reading.specs.Fields.{readAs, rangeTest}
 use Rattle.reading.specs.Reading.{Sized, SizesRead, Held, TablesRead, BodyRead}
 use Rattle.format.specs.Arrays.{outcomeOf, Holds, ReadInto}
 use Rattle.reading.proofs.Fields.{field-got, count-range, constraints-range, range-passed, as-got, as-bad, no-value, value-is}
@@ -41,7 +40,8 @@ sizes-held n sizes sized few =
     is-table 16 _ sizes 0 (sized .length-is)
     (λ k l. by-cases (ltb k n)
     (λ h. sym (getD-take n sizes k 0 (ltb-true k n h)))
-    (λ h. sized .past k (ltb-false k n h) ∙ sym (List·getD-eq-default (take n sizes) 0 (omega (arith, taken-length n sizes sized few, ltb-false k n h)))))
+    (λ h. sized .past k (ltb-false k n h)
+    ∙ sym (List·getD-eq-default (take n sizes) 0 (omega (arith, taken-length n sizes sized few, ltb-false k n h)))))
 
 -- An array that has a rule's row at every place is the rule's array.
 rows-held : (w : ℕ) (rows : List ℕ) (p : ℕ → ℕ → ℕ → ℕ → Bool) → length rows ≡ 16 * 16 * w
@@ -69,7 +69,8 @@ pub pairs-fit : (n : ℕ) → n ≤ 16 → Fits w64 (n * (n - 1))
 pairs-fit n h = let l : n - 1 ≤ 15 = omega arith in let b : n * (n - 1) ≤ 16 * 15 = mul-le-mul h l in omega arith
 
 -- A refusal, whatever the arrays hold.
-body-refused : (bytes sizes stated rows : List ℕ) (c : Cause) (at : ℕ) → parseBody version1 bytes ≡ bad c at → BodyRead bytes sizes stated rows (Refused c at)
+body-refused : (bytes sizes stated rows : List ℕ) (c : Cause) (at : ℕ) → parseBody version1 bytes ≡ bad c at
+    → BodyRead bytes sizes stated rows (Refused c at)
 unfolding readAs
 body-refused bytes sizes stated rows c at e =
     record {
@@ -79,79 +80,120 @@ body-refused bytes sizes stated rows c at e =
       holds = λ n next. no-value c at n next;
     }
 
+-- What is left to parse after the sizes, after p and after the tables.
+pub afterTables : List ℕ → List ℕ → List Table → ℕ → Parse Sheet
+afterTables bytes sizes tables next = ended (record { sizes = sizes; tables = tables }) bytes next
+
+pub afterConstraints : List ℕ → List ℕ → ℕ → ℕ → Parse Sheet
+afterConstraints bytes sizes p next = bind (parseTables version1 sizes p 0 bytes next) (afterTables bytes sizes)
+
+pub afterSizes : List ℕ → ℕ → List ℕ → ℕ → Parse Sheet
+afterSizes bytes n sizes next = bind (field 1 (constraintsTest n) bytes next) (afterConstraints bytes sizes)
+
+-- n is read,
+pub record Counted (bytes : List ℕ) (n : ℕ) : Type 0 where
+  pub some : 1 ≤ n
+  pub few : n ≤ 16
+  pub left : parseBody version1 bytes ≡ bind (fields 1 (sizeTest 16) n bytes 4) (afterSizes bytes n)
+
+-- then the sizes,
+pub record Listed (bytes : List ℕ) (n : ℕ) (sizes : List ℕ) (next : ℕ) : Type 0 where
+  pub some : 1 ≤ n
+  pub few : n ≤ 16
+  pub sized : Sized n sizes
+  pub left : parseBody version1 bytes ≡ bind (field 1 (constraintsTest n) bytes next) (afterConstraints bytes (take n sizes))
+
+-- then p,
+pub record Constrained (bytes : List ℕ) (n : ℕ) (sizes : List ℕ) (p from : ℕ) : Type 0 where
+  pub few : n ≤ 16
+  pub sized : Sized n sizes
+  pub inside : from ≤ length bytes
+  pub left : parseBody version1 bytes ≡ bind (parseTables version1 (take n sizes) p 0 bytes from) (afterTables bytes (take n sizes))
+
+-- and the tables.
+pub record Tabled (bytes : List ℕ) (n : ℕ) (sizes stated rows : List ℕ) (end : ℕ) : Type 0 where
+  pub few : n ≤ 16
+  pub sized : Sized n sizes
+  pub tables : List Table
+  pub last : ℕ
+  pub held : Held tables last stated rows
+  pub left : parseBody version1 bytes ≡ afterTables bytes (take n sizes) tables end
+
 module _ (bytes : List ℕ) where
-  -- n is refused.
-  pub body-no-count : (c : Cause) (place : ℕ) → field 1 (rangeTest 1 16 VariableCount) bytes 3 ≡ bad c place
+  pub no-count : (c : Cause) (place : ℕ) → field 1 (rangeTest 1 16 VariableCount) bytes 3 ≡ bad c place
       → (sizes stated rows : List ℕ) → BodyRead bytes sizes stated rows (Refused c place)
   unfolding parseBody bind
-  body-no-count c place e sizes stated rows = body-refused bytes sizes stated rows c place (rw (count-range, e))
+  no-count c place e sizes stated rows = body-refused bytes sizes stated rows c place (rw (count-range, e))
 
-  module _ (n after : ℕ) (counted : field 1 (rangeTest 1 16 VariableCount) bytes 3 ≡ got n after) where
-    pub count-in : (1 ≤ n) × (n ≤ 16)
-    count-in = range-passed 1 16 n VariableCount (field-got _ _ _ _ n after counted .passed)
+  pub counted : (n next : ℕ) → field 1 (rangeTest 1 16 VariableCount) bytes 3 ≡ got n next → Counted bytes n
+  unfolding parseBody bind version1 afterSizes afterConstraints afterTables
+  counted n next e =
+      let g = field-got _ _ _ _ n next e in
+      let r = range-passed 1 16 n VariableCount (g .passed) in
+      record { some = r .0; few = r .1; left = rw (count-range, e, g .ends) }
 
-    body-counted : parseBody version1 bytes
-        ≡ bind (fields 1 (sizeTest 16) n bytes 4) (λ sizes next.
-        bind (field 1 (constraintsTest n) bytes next) (λ p next.
-        bind (parseTables version1 sizes p 0 bytes next) (λ tables next.
-        ended (record { sizes = sizes; tables = tables }) bytes next)))
-    unfolding parseBody bind version1
-    body-counted = rw (count-range, counted, field-got _ _ _ _ n after counted .ends)
+  module _ (n : ℕ) (so-far : Counted bytes n) (sizes : List ℕ) (r : Read) (read : SizesRead bytes n sizes r) where
+    pub no-sizes : (c : Cause) (place : ℕ) → r ≡ Refused c place → (stated rows : List ℕ) → BodyRead bytes sizes stated rows (Refused c place)
+    unfolding bind
+    no-sizes c place q stated rows =
+        body-refused bytes sizes stated rows c place (so-far .left ∙ rw (as-bad _ r _ c place (read .parsed) q))
 
-    module _ (sizes : List ℕ) (listed : Read) (sizes-read : SizesRead bytes n sizes listed) where
-      -- A size is refused.
-      pub body-no-sizes : (c : Cause) (place : ℕ) → listed ≡ Refused c place → (stated rows : List ℕ) → BodyRead bytes sizes stated rows (Refused c place)
-      unfolding bind readAs
-      body-no-sizes c place q stated rows = body-refused bytes sizes stated rows c place (body-counted ∙ rw (as-bad _ listed _ c place (sizes-read .parsed) q))
+    pub listed : (v next : ℕ) → r ≡ Value v next → Listed bytes n sizes next
+    unfolding bind afterSizes
+    listed v next q =
+        record { some = so-far .some; few = so-far .few; sized = read .sized; left = so-far .left ∙ rw (as-got _ r _ v next (read .parsed) q) }
 
-      module _ (v next : ℕ) (q : listed ≡ Value v next) where
-        body-listed : parseBody version1 bytes
-            ≡ bind (field 1 (constraintsTest n) bytes next) (λ p next.
-            bind (parseTables version1 (take n sizes) p 0 bytes next) (λ tables next.
-            ended (record { sizes = take n sizes; tables = tables }) bytes next))
-        unfolding bind readAs
-        body-listed = body-counted ∙ rw (as-got _ listed _ v next (sizes-read .parsed) q)
+  module _ (n : ℕ) (sizes : List ℕ) (next : ℕ) (so-far : Listed bytes n sizes next) where
+    pub no-constraints : (c : Cause) (place : ℕ) → field 1 (rangeTest 0 (n * (n - 1) / 2) ConstraintCount) bytes next ≡ bad c place
+        → (stated rows : List ℕ) → BodyRead bytes sizes stated rows (Refused c place)
+    unfolding bind
+    no-constraints c place e stated rows = body-refused bytes sizes stated rows c place (so-far .left ∙ rw (constraints-range n, e))
 
-        -- p is refused.
-        pub body-no-constraints : (c : Cause) (place : ℕ) → field 1 (rangeTest 0 (n * (n - 1) / 2) ConstraintCount) bytes next ≡ bad c place
-            → (stated rows : List ℕ) → BodyRead bytes sizes stated rows (Refused c place)
-        unfolding bind
-        body-no-constraints c place e stated rows = body-refused bytes sizes stated rows c place (body-listed ∙ rw (constraints-range n, e))
+    pub constrained : (p from : ℕ) → field 1 (rangeTest 0 (n * (n - 1) / 2) ConstraintCount) bytes next ≡ got p from
+        → Constrained bytes n sizes p from
+    unfolding bind afterConstraints
+    constrained p from e =
+        record {
+          few = so-far .few;
+          sized = so-far .sized;
+          inside = field-got _ _ _ _ p from e .inside;
+          left = so-far .left ∙ rw (constraints-range n, e);
+        }
 
-        module _ (p from : ℕ) (constrained : field 1 (rangeTest 0 (n * (n - 1) / 2) ConstraintCount) bytes next ≡ got p from) where
-          pub tables-inside : from ≤ length bytes
-          tables-inside = field-got _ _ _ _ p from constrained .inside
+  module _
+      (n : ℕ) (sizes : List ℕ) (p from : ℕ) (so-far : Constrained bytes n sizes p from)
+      (stated rows : List ℕ) (r : Read) (read : TablesRead bytes from n p sizes stated rows r)
+    where
+      pub no-tables : (c : Cause) (place : ℕ) → r ≡ Refused c place → BodyRead bytes sizes stated rows (Refused c place)
+      unfolding bind
+      no-tables c place q = body-refused bytes sizes stated rows c place (so-far .left ∙ rw (as-bad _ r _ c place (read .parsed) q))
 
-          body-constrained : parseBody version1 bytes
-              ≡ bind (parseTables version1 (take n sizes) p 0 bytes from) (λ tables next. ended (record { sizes = take n sizes; tables = tables }) bytes next)
-          unfolding bind
-          body-constrained = body-listed ∙ rw (constraints-range n, constrained)
+      pub tabled-all : (v end : ℕ) → r ≡ Value v end → Tabled bytes n sizes stated rows end
+      unfolding bind
+      tabled-all v end q =
+          record {
+            few = so-far .few;
+            sized = so-far .sized;
+            tables = read .tables;
+            last = read .last;
+            held = read .held v end q;
+            left = so-far .left ∙ rw (as-got _ r _ v end (read .parsed) q);
+          }
 
-          module _ (stated rows : List ℕ) (all : Read) (tables-read : TablesRead bytes from n p sizes stated rows all) where
-            -- A table is refused.
-            pub body-no-tables : (c : Cause) (place : ℕ) → all ≡ Refused c place → BodyRead bytes sizes stated rows (Refused c place)
-            unfolding bind readAs
-            body-no-tables c place t = body-refused bytes sizes stated rows c place (body-constrained ∙ rw (as-bad _ all _ c place (tables-read .parsed) t))
+  module _ (n : ℕ) (sizes stated rows : List ℕ) (end : ℕ) (so-far : Tabled bytes n sizes stated rows end) where
+    pub left-over : end < length bytes → BodyRead bytes sizes stated rows (Refused LeftOver end)
+    unfolding afterTables ended
+    left-over h = body-refused bytes sizes stated rows LeftOver end (so-far .left ∙ if-true _ _ _ (lt-ltb _ _ h))
 
-            module _ (u end : ℕ) (t : all ≡ Value u end) where
-              body-tabled : parseBody version1 bytes ≡ ended (record { sizes = take n sizes; tables = tables-read .tables }) bytes end
-              unfolding bind readAs
-              body-tabled = body-constrained ∙ rw (as-got _ all _ u end (tables-read .parsed) t)
-
-              -- Bytes are left over.
-              pub body-left-over : end < length bytes → BodyRead bytes sizes stated rows (Refused LeftOver end)
-              unfolding ended
-              body-left-over h = body-refused bytes sizes stated rows LeftOver end (body-tabled ∙ if-true _ _ _ (lt-ltb _ _ h))
-
-              pub body-read : length bytes ≤ end → BodyRead bytes sizes stated rows (Value n end)
-              unfolding ended readAs
-              body-read h =
-                  record {
-                    sheet = record { sizes = take n sizes; tables = tables-read .tables };
-                    parsed = body-tabled ∙ if-false _ _ _ (le-ltb _ _ h);
-                    count-is = λ w x. value-is (λ w _. w ≡ length (take n sizes)) n end w x (sym (taken-length n sizes (sizes-read .sized) (count-in .1)));
-                    holds = λ w x d. sheet-held n (tables-read .last) sizes (tables-read .tables) stated rows (sizes-read .sized) (count-in .1) (tables-read .held u end t);
-                  }
+    pub body-read : length bytes ≤ end → BodyRead bytes sizes stated rows (Value n end)
+    unfolding afterTables ended readAs
+    body-read h =
+        record {
+          sheet = record { sizes = take n sizes; tables = so-far .tables };
+          parsed = so-far .left ∙ if-false _ _ _ (le-ltb _ _ h);
+          count-is = λ w x. value-is (λ w _. w ≡ length (take n sizes)) n end w x (sym (taken-length n sizes (so-far .sized) (so-far .few)));
+          holds = λ w x d. sheet-held n (so-far .last) sizes (so-far .tables) stated rows (so-far .sized) (so-far .few) (so-far .held);
+        }
 
 -- ---- the whole sheet
 

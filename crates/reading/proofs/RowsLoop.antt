@@ -1,8 +1,7 @@
 -- The loop that reads the rows of a table.
 use mathlib.Core.List.{List, [], _∷_, _++_}
-use mathlib.Core.Path.{_≡_, refl, sym, _∙_, ap}
-use Prim.Native.Nat.{ℕ, zero, suc, _+_, _-_, _*_, _^_, _≤_, _<_}
-use native.Mathlib.Nat.{add-zero}
+use mathlib.Core.Path.{_≡_, refl, _∙_, ap}
+use Prim.Native.Nat.{ℕ, zero, suc, _+_, _-_, _*_, _≤_, _<_}
 use native.Mathlib.Numerals.{add-one}
 use native.Mathlib.Omega.{arith}
 use mir.Syntax.{w16}
@@ -13,14 +12,13 @@ use Rattle.bounded.specs.Table.{tabulate}
 use Rattle.bounded.proofs.Fold.{below-suc}
 use Rattle.cause.specs.declared.Cause.{Cause}
 use Rattle.rows.specs.Rows.{place}
-use Rattle.rows.specs.Frames.{Filled}
 use Rattle.rows.proofs.Frames.{filled-none, filled-more}
 use Rattle.reading.specs.declared.field.Read.the-variants.{Value, Refused}
 use Rattle.format.specs.Layout.{withinTest}
 use Rattle.format.specs.Parse.{got, bad, numberAt, field, fields}
 use Rattle.reading.specs.Fields.{readAs}
 use Rattle.reading.specs.Reading.{rowIn, RowsStored, RowsRead}
-use Rattle.reading.proofs.Fields.{FieldGot, field-got, within-passed, no-value, value-is}
+use Rattle.reading.proofs.Fields.{field-got, within-passed, no-value, value-is}
 use Rattle.reading.proofs.Many.{prepend, fields-begin, fields-end, fields-go-on, fields-stop}
 
 -- The first a rows stand in the array, and the next one at a place.
@@ -30,7 +28,8 @@ pub record RowsSoFar (bytes : List ℕ) (from i j count size : ℕ) (before rows
   pub parsed : fields 2 (withinTest size) count bytes from ≡ prepend (tabulate a (rowIn bytes from)) (fields 2 (withinTest size) (count - a) bytes at)
   pub stored : RowsStored bytes from i j a size before rows at
 
-pub rows-none : (bytes : List ℕ) (from i j count size : ℕ) (rows : List ℕ) → from ≤ length bytes → RowsSoFar bytes from i j count size rows rows from 0
+pub rows-none : (bytes : List ℕ) (from i j count size : ℕ) (rows : List ℕ) → from ≤ length bytes
+    → RowsSoFar bytes from i j count size rows rows from 0
 unfolding tabulate
 rows-none bytes from i j count size rows h =
     record {

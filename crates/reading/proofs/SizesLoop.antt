@@ -1,6 +1,6 @@
 -- The loop that reads the sizes.
-use mathlib.Core.List.{List, [], _∷_, _++_}
-use mathlib.Core.Path.{_≡_, refl, sym, _∙_, ap}
+use mathlib.Core.List.{List}
+use mathlib.Core.Path.{_≡_, refl, _∙_, ap}
 use Prim.Native.Nat.{ℕ, zero, suc, _+_, _-_, _≤_, _<_}
 use native.Mathlib.Numerals.{add-one}
 use native.Mathlib.Omega.{arith}
@@ -14,11 +14,10 @@ use Rattle.bounded.proofs.Bool.{by-cases, if-true, if-false}
 use Rattle.bounded.proofs.Table.{getD-set}
 use Rattle.cause.specs.declared.Cause.{Cause}
 use Rattle.cause.specs.declared.Cause.the-variants.{Size}
-use Rattle.reading.specs.declared.field.Read.{Read}
 use Rattle.reading.specs.declared.field.Read.the-variants.{Value, Refused}
 use Rattle.format.specs.Layout.{sizeTest}
 use Rattle.format.specs.Parse.{got, bad, field, fields}
-use Rattle.reading.specs.Fields.{readAs, readOf, rangeTest}
+use Rattle.reading.specs.Fields.{readAs, rangeTest}
 use Rattle.reading.specs.Reading.{Sized, SizesRead}
 use Rattle.reading.proofs.Fields.{field-got, size-range, range-passed}
 use Rattle.reading.proofs.Many.{prepend, fields-begin, fields-end, fields-go-on, fields-stop}
@@ -81,7 +80,8 @@ module _ (bytes : List ℕ) (n : ℕ) (sizes : List ℕ) (at i : ℕ) (before : 
             record {
               length-is = length-set sizes i v ∙ before .sized .length-is;
               small = λ k. stored (λ x. x ≤ 16) sizes i k v room (λ _. passed .1) (λ _. before .sized .small k);
-              past = λ k h. stored (λ x. x ≡ 0) sizes i k v room (λ q. absurd (let x : ⊥ = omega arith in x)) (λ _. before .sized .past k (omega arith));
+              past = λ k h. stored (λ x. x ≡ 0) sizes i k v room (λ q. absurd (let x : ⊥ = omega arith in x))
+                  (λ _. before .sized .past k (omega arith));
             };
       }
 
@@ -94,7 +94,8 @@ module _ (bytes : List ℕ) (n : ℕ) (sizes : List ℕ) (at i : ℕ) (before : 
         sized = rw e at (before .sized);
       }
 
-  pub sizes-refused : i < n → (c : Cause) (place : ℕ) → field 1 (rangeTest 1 16 Size) bytes at ≡ bad c place → SizesRead bytes n sizes (Refused c place)
+  pub sizes-refused : i < n → (c : Cause) (place : ℕ) → field 1 (rangeTest 1 16 Size) bytes at ≡ bad c place
+      → SizesRead bytes n sizes (Refused c place)
   unfolding readAs
   sizes-refused l c place e =
       record {

@@ -1,9 +1,7 @@
 -- One table, and the loop that reads them all.
-use mathlib.Core.Bool.{false}
 use mathlib.Core.List.{List, [], _∷_, _++_}
-use mathlib.Core.Path.{_≡_, refl, sym, _∙_, ap}
-use Prim.Native.Nat.{ℕ, zero, suc, _+_, _-_, _*_, _/_, _%_, _^_, _≤_, _<_}
-use native.Mathlib.Nat.{div-add-mod'}
+use mathlib.Core.Path.{_≡_, refl, _∙_}
+use Prim.Native.Nat.{ℕ, suc, _+_, _-_, _*_, _/_, _%_, _≤_, _<_}
 use native.Mathlib.Numerals.{add-one}
 use native.Mathlib.Omega.{arith}
 use lib.ListN.{length, getD, take, length-take, replicate}
@@ -12,11 +10,11 @@ use lib.Seq.{getD-take}
 use Rattle.bounded.specs.Table.{tabulate}
 use Rattle.cause.specs.declared.Cause.{Cause}
 use Rattle.network.specs.Sheet.{Table}
-use Rattle.rows.specs.Frames.{Filled, Mirrored}
+use Rattle.rows.specs.Frames.{Mirrored}
 use Rattle.reading.specs.declared.field.Read.{Read}
 use Rattle.reading.specs.declared.field.Read.the-variants.{Value, Refused}
 use Rattle.format.specs.Layout.{pairTest, withinTest, version1}
-use Rattle.format.specs.Parse.{Parse, got, bad, bind, field, fields, pairOf, sizeOf, parseTable, parseTables}
+use Rattle.format.specs.Parse.{got, bad, bind, field, fields, pairOf, sizeOf, parseTable, parseTables}
 use Rattle.reading.specs.Fields.{readAs}
 use Rattle.reading.specs.Reading.{Sized, marked, Held, rowIn, RowsRead, TableStored, TableRead, TablesRead}
 use Rattle.reading.proofs.Fields.{as-got, as-bad, no-value, value-is, field-got, pair-passed}
@@ -36,8 +34,8 @@ pub record PairIn (bytes : List ℕ) (n previous : ℕ) (sizes : List ℕ) (pair
   pub first-small : getD sizes (pair / 256 - 1) 0 ≤ 16
   pub second-small : getD sizes (pair % 256 - 1) 0 ≤ 16
 
-pub pair-in : (bytes : List ℕ) (at n previous : ℕ) (sizes : List ℕ) (pair next : ℕ) → Sized n sizes → field 2 (pairTest n previous) bytes at ≡ got pair next
-    → PairIn bytes n previous sizes pair next
+pub pair-in : (bytes : List ℕ) (at n previous : ℕ) (sizes : List ℕ) (pair next : ℕ) → Sized n sizes
+    → field 2 (pairTest n previous) bytes at ≡ got pair next → PairIn bytes n previous sizes pair next
 pair-in bytes at n previous sizes pair next sized e =
     let g = field-got _ _ _ _ pair next e in
     let p = pair-passed n previous pair (g .passed) in
@@ -107,7 +105,8 @@ module _ (n : ℕ) (sizes : List ℕ) (sized : Sized n sizes) (few : n ≤ 16) w
 
           -- The table is read, its other side made, and its pair stated from both sides.
           pub table-read : (v end : ℕ) → r ≡ Value v end → (rows₂ : List ℕ) → Mirrored 16 rows₁ rows₂ (pair / 256 - 1) (pair % 256 - 1)
-              → (stated stated₁ stated₂ : List ℕ) → stated₁ ≡ marked stated (pair / 256 - 1) (pair % 256 - 1) → stated₂ ≡ marked stated₁ (pair % 256 - 1) (pair / 256 - 1)
+              → (stated stated₁ stated₂ : List ℕ)
+              → stated₁ ≡ marked stated (pair / 256 - 1) (pair % 256 - 1) → stated₂ ≡ marked stated₁ (pair % 256 - 1) (pair / 256 - 1)
               → TableRead bytes at n previous sizes stated rows stated₂ rows₂ (Value pair end)
           unfolding bind readAs pairOf tableAt
           table-read v end q rows₂ mirrored stated stated₁ stated₂ e₁ e₂ =
@@ -122,7 +121,8 @@ module _ (n : ℕ) (sizes : List ℕ) (sized : Sized n sizes) (few : n ≤ 16) w
                       ends = b .ends;
                       held = λ ts held.
                           rw (e₂, e₁)
-                          (rw (let m : pair / 256 * 256 + pair % 256 ≡ pair = omega arith in m) at (held-more ts previous stated rows held (tableAt bytes next sizes pair) (pair / 256 - 1) (pair % 256 - 1)
+                          (rw (let m : pair / 256 * 256 + pair % 256 ≡ pair = omega arith in m) at
+                          (held-more ts previous stated rows held (tableAt bytes next sizes pair) (pair / 256 - 1) (pair % 256 - 1)
                           (omega (arith, p .first-in)) (omega arith) (omega arith) (omega arith) (omega arith)
                           rows₁ rows₂ (rowIn bytes next) (getD sizes (pair / 256 - 1) 0) refl
                           (λ a l. omega (arith, b .small a l, pow-mono (p .second-small)))
@@ -135,11 +135,12 @@ pub record TablesSoFar (bytes : List ℕ) (from n count : ℕ) (sizes stated row
   pub done : List Table
   pub within : t ≤ count
   pub ends : at ≤ length bytes
-  pub parsed : parseTables version1 (take n sizes) count 0 bytes from ≡ prepend done (parseTables version1 (take n sizes) (count - t) previous bytes at)
+  pub parsed : parseTables version1 (take n sizes) count 0 bytes from
+      ≡ prepend done (parseTables version1 (take n sizes) (count - t) previous bytes at)
   pub held : Held done previous stated rows
 
-pub tables-none : (bytes : List ℕ) (from n count : ℕ) (sizes stated rows : List ℕ) → from ≤ length bytes → stated ≡ replicate 16 0 → rows ≡ replicate 4096 0
-    → TablesSoFar bytes from n count sizes stated rows from 0 0
+pub tables-none : (bytes : List ℕ) (from n count : ℕ) (sizes stated rows : List ℕ) → from ≤ length bytes
+    → stated ≡ replicate 16 0 → rows ≡ replicate 4096 0 → TablesSoFar bytes from n count sizes stated rows from 0 0
 unfolding parseTables
 tables-none bytes from n count sizes stated rows h e d =
     record {
@@ -151,7 +152,8 @@ tables-none bytes from n count sizes stated rows h e d =
     }
 
 module _
-    (bytes : List ℕ) (from n count : ℕ) (sizes stated rows : List ℕ) (at previous t : ℕ) (so-far : TablesSoFar bytes from n count sizes stated rows at previous t)
+    (bytes : List ℕ) (from n count : ℕ) (sizes stated rows : List ℕ) (at previous t : ℕ)
+    (so-far : TablesSoFar bytes from n count sizes stated rows at previous t)
   where
     pub tables-end : count ≤ t → TablesRead bytes from n count sizes stated rows (Value count at)
     unfolding parseTables readAs

@@ -1,5 +1,5 @@
 -- What the functions that read a sheet leave behind: their contracts.
-use mathlib.Core.Bool.{true}
+use mathlib.Core.Bool.{Bool, true}
 use mathlib.Core.List.{List, [], _∷_, _++_}
 use mathlib.Core.Path.{_≡_}
 use Prim.Native.Nat.{ℕ, suc, _+_, _*_, _^_, _≤_, _<_}
@@ -33,14 +33,20 @@ pub record SizesRead (bytes : List ℕ) (n : ℕ) (sizes : List ℕ) (r : Read) 
 unfoldable pub marked : List ℕ → ℕ → ℕ → List ℕ
 marked stated i j = set stated i (word 16 (λ (v : ℕ). or (has (getD stated i 0) v) (eqb v j)))
 
+-- What tables state and allow, "read alike from both sides".
+abbrev pub statedBy : List Table → ℕ → ℕ → Bool
+statedBy tables i j = or (tabled tables i j) (tabled tables j i)
+
+abbrev pub allowedBy : List Table → ℕ → ℕ → ℕ → ℕ → Bool
+allowedBy tables i j a b = or (has (rowFor tables i j a) b) (has (rowFor tables j i b) a)
+
 -- The arrays hold the tables read so far, and nothing else: both sides of each pair. As a number no pair is above `last`.
 pub record Held (tables : List Table) (last : ℕ) (stated rows : List ℕ) : Type 0 where
   pub ordered : (i j : ℕ) → tabled tables i j ≡ true → (i < j) × (suc i * 256 + suc j ≤ last)
   pub stated-length : length stated ≡ 16
-  pub stated-are : (i : ℕ) → i < 16 → getD stated i 0 ≡ word 16 (λ (j : ℕ). or (tabled tables i j) (tabled tables j i))
+  pub stated-are : (i : ℕ) → i < 16 → getD stated i 0 ≡ word 16 (statedBy tables i)
   pub rows-length : length rows ≡ 4096
-  pub rows-are : (i j a : ℕ) → i < 16 → j < 16 → a < 16
-      → rowAt 16 rows i j a ≡ word 16 (λ (b : ℕ). or (has (rowFor tables i j a) b) (has (rowFor tables j i b) a))
+  pub rows-are : (i j a : ℕ) → i < 16 → j < 16 → a < 16 → rowAt 16 rows i j a ≡ word 16 (allowedBy tables i j a)
 
 -- The row of value a, the first row standing at a place.
 unfoldable pub rowIn : List ℕ → ℕ → ℕ → ℕ

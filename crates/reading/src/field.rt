@@ -1,6 +1,6 @@
 // One field of a sheet at a time: its bytes, and its own test.
 ghost use mathlib.Core.Path.{_≡_};
-ghost use Prim.Native.Nat.{ℕ, _+_, _<_, _≤_};
+ghost use Prim.Native.Nat.{_+_, _<_, _≤_};
 ghost use lib.ListN.{length};
 ghost use Rattle.format.specs.Layout.{pairTest, withinTest};
 ghost use Rattle.format.specs.Parse.{numberAt, field};
@@ -39,27 +39,28 @@ pub fn number(bytes: &[u8], at: usize) -> usize
     high * 256 + low
 }
 
-// The pair of a table.
-pub fn pair_field(bytes: &[u8], at: usize, n: usize, previous: usize) -> Read
-    requires { ⌜ at ≤ length (now bytes) ⌝ }
-    ensures { λ r. ⌜ field 2 (pairTest n previous) (now (bytes .entry)) at ≡ readOf r ⌝ }
+// The pair of a table: a at `first` and b after it.
+pub fn pair_field(bytes: &[u8], first: usize, n: usize, previous: usize) -> Read
+    requires { ⌜ first ≤ length (now bytes) ⌝ }
+    ensures { λ r. ⌜ field 2 (pairTest n previous) (now (bytes .entry)) first ≡ readOf r ⌝ }
 {
-    if bytes.len() < at + 2 {
-        return Read::Refused(Cause::CutOff, at);
+    let second = first + 1;
+    if bytes.len() <= second {
+        return Read::Refused(Cause::CutOff, first);
     }
-    let pair = number(bytes, at);
+    let pair = number(bytes, first);
     let a = pair / 256;
     let b = pair % 256;
     if (a == 0) | (b == 0) | (n < a) | (n < b) {
-        return Read::Refused(Cause::PairRange, at);
+        return Read::Refused(Cause::PairRange, first);
     }
     if b <= a {
-        return Read::Refused(Cause::PairOrder, at);
+        return Read::Refused(Cause::PairOrder, first);
     }
     if pair <= previous {
-        return Read::Refused(Cause::PairRepeated, at);
+        return Read::Refused(Cause::PairRepeated, first);
     }
-    Read::Value(pair, at + 2)
+    Read::Value(pair, second + 1)
 }
 
 // A row, against a variable of `size` values.

@@ -1,6 +1,6 @@
 // The sizes of a sheet.
 ghost use mathlib.Core.Path.{_≡_};
-ghost use Prim.Native.Nat.{ℕ, _≤_};
+ghost use Prim.Native.Nat.{_≤_};
 ghost use lib.ListN.{replicate};
 ghost use Rattle.reading.specs.Reading.{SizesRead};
 use crate::field;

@@ -1,6 +1,6 @@
 // The tables of a sheet, stored as they are read.
 ghost use mathlib.Core.Path.{_≡_};
-ghost use Prim.Native.Nat.{ℕ, _<_, _≤_};
+ghost use Prim.Native.Nat.{_<_, _≤_};
 ghost use lib.ListN.{length, replicate};
 ghost use Rattle.reading.specs.Reading.{Sized, marked, RowsRead, TableRead, TablesRead};
 use crate::field;
@@ -50,7 +50,8 @@ fn read_table(
     rows: &mut [u16; 4096],
 ) -> Read
     requires { ⌜ (at ≤ length (now bytes)) × (n ≤ 16) × (length (now rows) ≡ 4096) × Sized n (now sizes) ⌝ }
-    ensures { λ r. ⌜ TableRead (now (bytes .entry)) at n previous (now (sizes .entry)) (now (stated .entry)) (now (rows .entry)) (now (stated .exit)) (now (rows .exit)) r ⌝ }
+    ensures { λ r. ⌜ TableRead (now (bytes .entry)) at n previous (now (sizes .entry))
+        (now (stated .entry)) (now (rows .entry)) (now (stated .exit)) (now (rows .exit)) r ⌝ }
 {
     let head = field::pair_field(bytes, at, n, previous);
     let Read::Value(pair, next) = head else {

@@ -8,7 +8,7 @@ use native.Mathlib.Numerals.{add-one}
 use native.Mathlib.Omega.{arith}
 use lib.Dec.{eqb, ltb}
 use lib.Pow.{shr-shr}
-use lib.ListN.{length, getD, drop, length-append}
+use lib.ListN.{length, getD, length-append}
 use borrow.Author.Tests.{lt-ltb}
 use Rattle.bounded.specs.Bool.{and, bit, if}
 use Rattle.bounded.specs.Fold.{sum, count}
@@ -129,7 +129,7 @@ module _ (n : ℕ) (sizes stated rows : List ℕ) where
       ∙ collect-cong _ (laterText n sizes stated (heldRow sizes rows)) n 0 (λ i _ _. held-later i)
       ∙ from-zero n (laterText n sizes stated (heldRow sizes rows))
 
--- ---- counting tables and bytes
+-- ---- how many tables there are, and the whole text
 
 count-widen : (e c : ℕ) (p : ℕ → Bool) → ((v : ℕ) → c ≤ v → p v ≡ false) → count (c + e) p ≡ count c p
 unfolding count sum
@@ -137,7 +137,7 @@ count-widen zero c p h = ap (λ (d : ℕ). count d p) (add-zero c)
 count-widen (suc e) c p h =
     ap (λ (d : ℕ). count d p) (add-suc c e) ∙ omega (arith, bit-false (p (c + e)) (h (c + e) (omega arith)), count-widen e c p h)
 
--- "All entries past n are zero": no variable is stated with one at n or above.
+-- "all entries past n are zero": no variable is stated with one at n or above.
 module _ (n : ℕ) (stated : List ℕ) (few : n ≤ 16) (below : (i j : ℕ) → has (getD stated i 0) j ≡ true → j < n) where
   -- So the members above i are those between i and n.
   later-below : (i : ℕ) → count (n - (i + 1)) (λ (v : ℕ). has (getD stated i 0) (i + 1 + v)) ≡ later (getD stated i 0) i
@@ -173,12 +173,7 @@ module _ (n : ℕ) (stated : List ℕ) (few : n ≤ 16) (below : (i j : ℕ) →
     unfolding bytesHeld print sheetText version1
     held-text = ap (λ (b : List ℕ). 1 ∷ (bytesOf 2 (length b) ++ b)) held-body
 
--- ---- the whole sheet
-
--- What was written from the start of a buffer.
-pub wrote-whole : (a b text : List ℕ) (r : ℕ) → Wrote a b text 0 r → (r ≡ length text) × (b ≡ text ++ drop (length text) a)
-wrote-whole a b text r w =
-    let e : r ≡ length text = omega arith in (e, rw e at (w .holds))
+-- ---- the parts of a sheet
 
 module _ (n : ℕ) (sizes stated : List ℕ) (row : ℕ → ℕ → ℕ → ℕ) where
   pub body-parts : length (bodyText n sizes stated row) ≡ 2 + length (sizesText n sizes) + length (tablesText n sizes stated row)
@@ -267,11 +262,12 @@ bytes-low x = ap₂ (λ (a b : ℕ). a ∷ b ∷ []) (omega arith) (omega arith)
 
 module _ (n : ℕ) (sizes stated rows : List ℕ) (few : n ≤ 16) (small : (i : ℕ) → getD sizes i 0 ≤ 16)
     (S : Sound (heldBy n sizes stated rows)) where
-  -- A row has no bit at or above the size of the second variable, and the array's rows are read alike there.
+  -- Within the sizes a row of the array is read as it stands,
   row-allows : (i j a b : ℕ) → j < n → a < getD sizes i 0 → allowsOf 16 rows i j a b ≡ has (rowAt 16 rows i j a) b
   unfolding allowsOf
   row-allows i j a b l m = rw (lt-ltb j 16 (omega arith), lt-ltb a 16 (omega (arith, small i)), true-and, true-and)
 
+  -- and it has no bit at or above the size of the second variable. So its two bytes are those of the table's row.
   row-same : (i j a : ℕ) → j < n → a < getD sizes i 0 → bytesOf 2 (heldRow sizes rows i j a) ≡ bytesOf 2 (rowAt 16 rows i j a)
   unfolding heldRow heldBy
   row-same i j a l m =
@@ -286,15 +282,16 @@ module _ (n : ℕ) (sizes stated rows : List ℕ) (few : n ≤ 16) (small : (i :
   unfolding heldBy
   stated-below i j t = S .stated-in i j t .1
 
-  -- The whole is at most 4101 bytes, and has at most 120 tables.
   sound-wellformed : WellFormed version1 (sheetOf (heldBy n sizes stated rows))
   unfolding heldBy
   sound-wellformed = sheetOf-wellformed (heldBy n sizes stated rows) S few small
 
+  -- "The largest sheet has 4,101 bytes",
   pub sound-most : length (bytesHeld n sizes stated rows) ≤ 4101
   unfolding bytesHeld version1
   sound-most = sound-wellformed .not-too-long
 
+  -- with 120 tables.
   pub sound-count : tableCount n stated ≤ 120
   sound-count =
       omega (
@@ -304,6 +301,7 @@ module _ (n : ℕ) (sizes stated rows : List ℕ) (few : n ≤ 16) (small : (i :
         mul-le-mul {n₁ = n} {m₁ = n - 1} {n₂ = 16} {m₂ = 15} few (omega arith),
       )
 
+  -- What the code writes is the sheet of the network.
   pub sound-text : bytesHeld n sizes stated rows ≡ sheetText n sizes stated (rowAt 16 rows)
   sound-text = held-text n stated few stated-below sizes rows ∙ same-sheet n sizes stated (heldRow sizes rows) (rowAt 16 rows) row-same
 

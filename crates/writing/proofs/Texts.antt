@@ -1,7 +1,7 @@
 -- Laws of writing: texts one after the other in a buffer, what they are together, and how long they are.
 use mathlib.Core.Bool.{true, false}
 use mathlib.Core.List.{List, [], _∷_, _++_, append-assoc, append-nil}
-use mathlib.Core.Path.{_≡_, refl, sym, _∙_, ap, ap₂}
+use mathlib.Core.Path.{_≡_, refl, sym, _∙_, ap}
 use Prim.Native.Nat.{ℕ, zero, suc, _+_, _-_, _/_, _%_, _≤_, _<_}
 use native.Mathlib.Nat.{add-zero}
 use native.Mathlib.Numerals.{add-one}
@@ -37,10 +37,20 @@ wrote-then {a} {b} {c} {x} {y} {at} {mid} {r} h k =
       keeps = k .keeps ∙ h .keeps;
     }
 
+-- What was written from the start of a buffer.
+pub wrote-whole : (a b text : List ℕ) (r : ℕ) → Wrote a b text 0 r → (r ≡ length text) × (b ≡ text ++ drop (length text) a)
+wrote-whole a b text r w =
+    let e : r ≡ length text = omega arith in (e, rw e at (w .holds))
+
 -- A number below 65536 in two bytes.
-pub two-bytes : (v : ℕ) → v < 65536 → bytesOf 2 v ≡ v / 256 ∷ v % 256 ∷ []
+pub wrote-number : {a b c : List ℕ} {high low at mid r : ℕ} (v : ℕ) → v < 65536 → high ≡ v / 256 → low ≡ v % 256
+    → Wrote a b (high ∷ []) at mid → Wrote b c (low ∷ []) mid r
+    → Wrote a c (bytesOf 2 v) at r
 unfolding bytesOf
-two-bytes v h = ap₂ (λ (x y : ℕ). x ∷ y ∷ []) (omega arith) (omega arith)
+wrote-number {high = high} {low = low} v l p q x y =
+    let e : v / 256 % 256 ≡ high = omega arith in
+    let f : v / 1 % 256 ≡ low = omega arith in
+    rw (e, f) (wrote-then x y)
 
 -- ---- texts that are joined
 
@@ -110,7 +120,7 @@ module _ (sizes stated : List ℕ) (row : ℕ → ℕ → ℕ → ℕ) (i j : �
   unfolding tableText
   table-stated h = if-true _ _ _ h
 
-  pub wrote-table : {a b c d : List ℕ} {at second third r : ℕ} → has (getD stated i 0) j ≡ true
-      → Wrote a b ((i + 1) ∷ []) at second → Wrote b c ((j + 1) ∷ []) second third → Wrote c d (rowsText (getD sizes i 0) (row i j)) third r
+  pub wrote-table : {a b c d : List ℕ} {p q at second third r : ℕ} → has (getD stated i 0) j ≡ true → p ≡ suc i → q ≡ suc j
+      → Wrote a b (p ∷ []) at second → Wrote b c (q ∷ []) second third → Wrote c d (rowsText (getD sizes i 0) (row i j)) third r
       → Wrote a d (tableText sizes stated row i j) at r
-  wrote-table h x y z = rw (table-stated h, ← add-one i, ← add-one j) (wrote-then x (wrote-then y z))
+  wrote-table h e f x y z = rw (table-stated h, ← e, ← f) (wrote-then x (wrote-then y z))

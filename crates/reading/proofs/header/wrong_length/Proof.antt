@@ -1,28 +1,21 @@
+-- Too short, too long, and else the count decides.
 use borrow.Author.Needs.{needs}
 use Rattle.reading.proofs.Fields.{short-wrong, long-wrong, count-wrong}
 use Rattle.reading.proofs.header.wrong_length.Statement.{statement}
 use Rattle.reading.proofs.header.wrong_length.Tie as tie
-use Rattle.reading.proofs.header.wrong_length.Reads as reads
-use Rattle.reading.proofs.header.wrong_length.Lts as lts
-use Rattle.reading.proofs.field.number.Reads as number-reads
 
--- src/header.rt:13:9
 returns : tie.Need-returns
 returns c = search (short-wrong, needs)
 
--- src/header.rt:16:9
 returns-2 : tie.Need-returns-2
 returns-2 c = search (long-wrong, needs)
 
--- src/header.rt:18:24
 number-requires : tie.Need-number-requires
 number-requires c κs = search needs
 
--- src/header.rt:18:20
 add-result : tie.Need-add-result
 add-result c = search needs
 
--- src/header.rt:9:1
 returns-3 : tie.Need-returns-3
 returns-3 c = search (count-wrong, needs)
 

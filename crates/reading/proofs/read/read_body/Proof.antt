@@ -1,124 +1,119 @@
-use native.Mathlib.Omega.{arith}
-use Rattle.reading.proofs.Fields.{read-got, read-bad}
-use Rattle.reading.proofs.Reading.{body-no-count, count-in, pairs-fit, body-no-sizes, body-no-constraints, tables-inside, body-no-tables, body-left-over, body-read}
+-- Field after field: each answer is refused with its own cause and place, or leaves less to parse.
+use denote.Ref.{now}
 use borrow.Author.Needs.{needs}
+use Rattle.reading.proofs.Fields.{read-got, read-bad}
+use Rattle.reading.proofs.Reading.{Counted, Listed, Constrained, Tabled, counted, listed, constrained, tabled-all}
+use Rattle.reading.proofs.Reading.{no-count, no-sizes, no-constraints, no-tables, left-over, body-read, pairs-fit}
 use Rattle.reading.proofs.read.read_body.Statement.{statement}
 use Rattle.reading.proofs.read.read_body.Tie as tie
-use Rattle.reading.proofs.read.read_body.Reads as reads
-use Rattle.reading.proofs.read.read_body.Lts as lts
-use Rattle.reading.proofs.field.byte_field.Reads as byte-field-reads
-use Rattle.reading.proofs.sizes.read_sizes.Reads as read-sizes-reads
-use Rattle.reading.proofs.tables.read_tables.Reads as read-tables-reads
 
--- src/read.rt:20:9
 byte-field-requires : tie.Need-byte-field-requires
 byte-field-requires c κs = search needs
 
--- src/read.rt:21:21
 enum-known-count : tie.Need-enum-known-count
 enum-known-count c = search needs
 
--- src/read.rt:22:9
 enum-told : tie.Need-enum-told
 enum-told c = search needs
 
--- src/read.rt:22:9
 returns : tie.Need-returns
 returns c =
     rw (c .enum-told .given .1)
-    (body-no-count _ _ _ (read-bad _ _ _ _ (c .before .before .byte-field .ensures) (c .enum-told .given .1)) _ _ _)
+    (no-count _ _ _ (read-bad _ _ _ _ (c .before .before .byte-field .ensures) (c .enum-told .given .1)) _ _ _)
 
--- src/read.rt:24:9
+-- n is read.
+at-n : (c : tie.After-known-told) → Counted (now (c .before .before .before .before .before .args .bytes)) (c .before .count .given .0 .0)
+at-n c = counted _ _ _ (read-got _ _ _ _ (c .before .before .before .byte-field .ensures) (c .before .count .given .1))
+
 read-sizes-requires : tie.Need-read-sizes-requires
-read-sizes-requires c κs = (count-in _ _ _ (read-got _ _ _ _ (c .before .before .before .before .byte-field .ensures) (c .before .before .count .given .1)) .1, c .before .before .before .before .before .before .pre .0)
+read-sizes-requires c κs = (at-n (c .before) .few, c .before .before .before .before .before .before .pre .0)
 
--- src/read.rt:25:24
 enum-known-listed : tie.Need-enum-known-listed
 enum-known-listed c = search needs
 
--- src/read.rt:26:9
 enum-told-2 : tie.Need-enum-told-2
 enum-told-2 c = search needs
 
--- src/read.rt:26:9
 returns-2 : tie.Need-returns-2
 returns-2 c =
     rw (c .enum-told2 .given .1)
-    (body-no-sizes _ _ _ (read-got _ _ _ _ (c .before .before .before .before .before .before .before .byte-field .ensures) (c .before .before .before .before .before .count .given .1))
-    _ _ (c .before .before .read-sizes .ensures) _ _ (c .enum-told2 .given .1) _ _)
+    (no-sizes _ _ (at-n (c .before .before .before .before)) _ _ (c .before .before .read-sizes .ensures) _ _ (c .enum-told2 .given .1) _ _)
 
--- src/read.rt:28:63
+-- The sizes are read.
+at-sizes : (c : tie.After-known-told2)
+    → (let sizes = c .before .before .before in
+    let n = sizes .before .before .before in
+    Listed (now (n .before .before .before .before .args .bytes)) (n .count .given .0 .0) (sizes .read-sizes .last .1 .1 .0)
+    (c .before .listed .given .0 .1 .0))
+at-sizes c =
+    let sizes = c .before .before .before in
+    listed _ _ (at-n (sizes .before .before)) _ _ (sizes .read-sizes .ensures) _ _ (c .before .listed .given .1)
+
 sub-byte-field : tie.Need-sub-byte-field
-sub-byte-field c = count-in _ _ _ (read-got _ _ _ _ (c .before .before .before .before .before .before .before .before .byte-field .ensures) (c .before .before .before .before .before .before .count .given .1)) .0
+sub-byte-field c = at-sizes c .some
 
--- src/read.rt:28:58
 mul-byte-field : tie.Need-mul-byte-field
-mul-byte-field c = pairs-fit _ (count-in _ _ _ (read-got _ _ _ _ (c .before .before .before .before .before .before .before .before .byte-field .ensures) (c .before .before .before .before .before .before .count .given .1)) .1)
+mul-byte-field c = pairs-fit _ (at-sizes c .few)
 
--- src/read.rt:28:9
 byte-field-requires-2 : tie.Need-byte-field-requires-2
 byte-field-requires-2 c κs = search needs
 
--- src/read.rt:29:21
 enum-known-constraints : tie.Need-enum-known-constraints
 enum-known-constraints c = search needs
 
--- src/read.rt:30:9
 enum-told-3 : tie.Need-enum-told-3
 enum-told-3 c = search needs
 
--- src/read.rt:30:9
 returns-3 : tie.Need-returns-3
 returns-3 c =
     rw (c .enum-told3 .given .1)
-    (body-no-constraints _ _ _ (read-got _ _ _ _ (c .before .before .before .before .before .before .before .before .before .before .before .byte-field .ensures) (c .before .before .before .before .before .before .before .before .before .count .given .1))
-    _ _ (c .before .before .before .before .before .before .read-sizes .ensures) _ _ (c .before .before .before .before .listed .given .1)
-    _ _ (read-bad _ _ _ _ (c .before .before .byte-field2 .ensures) (c .enum-told3 .given .1)) _ _)
+    (no-constraints _ _ _ _ (at-sizes (c .before .before .before)) _ _
+    (read-bad _ _ _ _ (c .before .before .byte-field2 .ensures) (c .enum-told3 .given .1)) _ _)
 
--- src/read.rt:32:9
+-- p is read.
+at-p : (c : tie.After-known-told3)
+    → (let sizes = c .before .before .before .before .before .before .before in
+    let n = sizes .before .before .before in
+    Constrained (now (n .before .before .before .before .args .bytes)) (n .count .given .0 .0) (sizes .read-sizes .last .1 .1 .0)
+    (c .before .constraints .given .0 .0) (c .before .constraints .given .0 .1 .0))
+at-p c =
+    constrained _ _ _ _ (at-sizes (c .before .before .before .before)) _ _
+    (read-got _ _ _ _ (c .before .before .before .byte-field2 .ensures) (c .before .constraints .given .1))
+
 read-tables-requires : tie.Need-read-tables-requires
-read-tables-requires c κs = (
-  tables-inside _ _ _ (read-got _ _ _ _ (c .before .before .before .before .before .before .before .before .before .before .before .before .before .before .before .byte-field .ensures) (c .before .before .before .before .before .before .before .before .before .before .before .before .before .count .given .1))
-      _ _ (c .before .before .before .before .before .before .before .before .before .before .read-sizes .ensures) _ _ (c .before .before .before .before .before .before .before .before .listed .given .1)
-      _ _ (read-got _ _ _ _ (c .before .before .before .before .before .before .byte-field2 .ensures) (c .before .before .before .before .constraints .given .1)),
-  count-in _ _ _ (read-got _ _ _ _ (c .before .before .before .before .before .before .before .before .before .before .before .before .before .before .before .byte-field .ensures) (c .before .before .before .before .before .before .before .before .before .before .before .before .before .count .given .1)) .1,
-  c .before .before .before .before .before .before .before .before .before .before .before .before .before .before .before .before .before .pre .1,
-  c .before .before .before .before .before .before .before .before .before .before .before .before .before .before .before .before .before .pre .2,
-  c .before .before .before .before .before .before .before .before .before .before .read-sizes .ensures .sized,
-)
+read-tables-requires c κs =
+    let p = c .before .before .before in
+    let start = p .before .before .before .before .before .before .before .before .before .before .before .before .before .before in
+    (at-p p .inside, at-p p .few, start .pre .1, start .pre .2, at-p p .sized)
 
--- src/read.rt:33:24
 enum-known-all : tie.Need-enum-known-all
 enum-known-all c = search needs
 
--- src/read.rt:34:9
 enum-told-4 : tie.Need-enum-told-4
 enum-told-4 c = search needs
 
--- src/read.rt:34:9
 returns-4 : tie.Need-returns-4
 returns-4 c =
+    let tables = c .before .before in
     rw (c .enum-told4 .given .1)
-    (body-no-tables _ _ _ (read-got _ _ _ _ (c .before .before .before .before .before .before .before .before .before .before .before .before .before .before .before .before .before .before .byte-field .ensures) (c .before .before .before .before .before .before .before .before .before .before .before .before .before .before .before .before .count .given .1))
-    _ _ (c .before .before .before .before .before .before .before .before .before .before .before .before .before .read-sizes .ensures) _ _ (c .before .before .before .before .before .before .before .before .before .before .before .listed .given .1)
-    _ _ (read-got _ _ _ _ (c .before .before .before .before .before .before .before .before .before .byte-field2 .ensures) (c .before .before .before .before .before .before .before .constraints .given .1))
-    _ _ _ (c .before .before .read-tables .ensures) _ _ (c .enum-told4 .given .1))
+    (no-tables _ _ _ _ _ (at-p (tables .before .before .before .before)) _ _ _ (tables .read-tables .ensures) _ _ (c .enum-told4 .given .1))
 
--- src/read.rt:37:9
+-- The tables are read.
+at-end : (c : tie.After-known-told4)
+    → (let tables = c .before .before .before in
+    let sizes = tables .before .before .before .before .before .before .before .before .before .before .before in
+    let n = sizes .before .before .before in
+    Tabled (now (n .before .before .before .before .args .bytes)) (n .count .given .0 .0) (sizes .read-sizes .last .1 .1 .0)
+    (tables .read-tables .last .1 .1 .1 .1 .1 .0) (tables .read-tables .last .1 .1 .1 .1 .1 .1 .0) (c .before .all .given .0 .1 .0))
+at-end c =
+    let tables = c .before .before .before in
+    tabled-all _ _ _ _ _ (at-p (tables .before .before .before .before)) _ _ _ (tables .read-tables .ensures) _ _ (c .before .all .given .1)
+
 returns-5 : tie.Need-returns-5
-returns-5 c =
-    body-left-over _ _ _ (read-got _ _ _ _ (c .before .before .before .before .before .before .before .before .before .before .before .before .before .before .before .before .before .before .before .before .byte-field .ensures) (c .before .before .before .before .before .before .before .before .before .before .before .before .before .before .before .before .before .before .count .given .1))
-    _ _ (c .before .before .before .before .before .before .before .before .before .before .before .before .before .before .before .read-sizes .ensures) _ _ (c .before .before .before .before .before .before .before .before .before .before .before .before .before .listed .given .1)
-    _ _ (read-got _ _ _ _ (c .before .before .before .before .before .before .before .before .before .before .before .byte-field2 .ensures) (c .before .before .before .before .before .before .before .before .before .constraints .given .1))
-    _ _ _ (c .before .before .before .before .read-tables .ensures) _ _ (c .before .before .all .given .1) (c .if1 .taken)
+returns-5 c = left-over _ _ _ _ _ _ (at-end (c .before)) (c .if1 .taken)
 
--- src/read.rt:16:1
 returns-6 : tie.Need-returns-6
-returns-6 c =
-    body-read _ _ _ (read-got _ _ _ _ (c .before .before .before .before .before .before .before .before .before .before .before .before .before .before .before .before .before .before .before .before .byte-field .ensures) (c .before .before .before .before .before .before .before .before .before .before .before .before .before .before .before .before .before .before .count .given .1))
-    _ _ (c .before .before .before .before .before .before .before .before .before .before .before .before .before .before .before .read-sizes .ensures) _ _ (c .before .before .before .before .before .before .before .before .before .before .before .before .before .listed .given .1)
-    _ _ (read-got _ _ _ _ (c .before .before .before .before .before .before .before .before .before .before .before .byte-field2 .ensures) (c .before .before .before .before .before .before .before .before .before .constraints .given .1))
-    _ _ _ (c .before .before .before .before .read-tables .ensures) _ _ (c .before .before .all .given .1) (c .if1 .left)
+returns-6 c = body-read _ _ _ _ _ _ (at-end (c .before)) (c .if1 .left)
 
 pub read-body-spec : {M : Type 1} → statement M
 read-body-spec =

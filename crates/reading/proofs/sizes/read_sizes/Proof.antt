@@ -6,9 +6,6 @@ use Rattle.reading.proofs.Fields.{read-got, read-bad}
 use Rattle.reading.proofs.SizesLoop.{SizesSoFar, size-fits, sizes-none, sizes-more, sizes-end, sizes-refused}
 use Rattle.reading.proofs.sizes.read_sizes.Statement.{statement}
 use Rattle.reading.proofs.sizes.read_sizes.Tie as tie
-use Rattle.reading.proofs.sizes.read_sizes.Reads as reads
-use Rattle.reading.proofs.sizes.read_sizes.Lts as lts
-use Rattle.reading.proofs.field.byte_field.Reads as byte-field-reads
 
 abbrev Inv-loop : tie.InvT-loop
 Inv-loop bytes n sizes₀ at₀ i₀ sizes at i = SizesSoFar bytes n sizes at i

@@ -6,10 +6,6 @@ use Rattle.reading.proofs.Fields.{read-got, read-bad}
 use Rattle.reading.proofs.RowsLoop.{RowsSoFar, rows-none, row-fits, rows-more, rows-refused, rows-end}
 use Rattle.reading.proofs.tables.read_rows.Statement.{statement}
 use Rattle.reading.proofs.tables.read_rows.Tie as tie
-use Rattle.reading.proofs.tables.read_rows.Reads as reads
-use Rattle.reading.proofs.tables.read_rows.Lts as lts
-use Rattle.reading.proofs.field.row_field.Reads as row-field-reads
-use Rattle.rows.proofs.put.Reads as put-reads
 
 abbrev Inv-loop : tie.InvT-loop
 Inv-loop bytes from i j count size rows₀ at₀ a₀ rows at a = RowsSoFar bytes from i j count size rows₀ rows at a
@@ -50,8 +46,9 @@ loop-less c = search needs
 
 loop-again : tie.Need-loop-again Inv-loop μ-loop
 loop-again c =
-    rows-more _ _ _ _ _ _ _ _ _ _ (c .before .before .before .before .before .before .before .loop .inv) (omega arith) (omega arith) (omega arith) (omega arith) (omega arith) _ _
-    (read-got _ _ _ _ (c .before .before .before .before .before .row-field .ensures) (c .before .before .before .row .given .1))
+    let read = c .before .before .before .before .before in
+    rows-more _ _ _ _ _ _ _ _ _ _ (read .before .before .loop .inv) (omega arith) (omega arith) (omega arith) (omega arith) (omega arith) _ _
+    (read-got _ _ _ _ (read .row-field .ensures) (c .before .before .before .row .given .1))
     _ (c .put .ensures)
 
 returns-2 : tie.Need-returns-2 Inv-loop μ-loop

@@ -1,12 +1,10 @@
+-- The loop's invariant: the tables before the counter are held, and the next is at `at`.
 use Prim.Native.Nat.{_-_}
 use native.Mathlib.Omega.{arith}
 use borrow.Author.Needs.{needs}
 use Rattle.reading.proofs.TablesLoop.{TablesSoFar, tables-none, tables-more, tables-refused, tables-end}
 use Rattle.reading.proofs.tables.read_tables.Statement.{statement}
 use Rattle.reading.proofs.tables.read_tables.Tie as tie
-use Rattle.reading.proofs.tables.read_tables.Reads as reads
-use Rattle.reading.proofs.tables.read_tables.Lts as lts
-use Rattle.reading.proofs.tables.read_table.Reads as read-table-reads
 
 abbrev Inv-loop : tie.InvT-loop
 Inv-loop bytes from n count sizes stated₀ rows₀ at₀ previous₀ counter₀ stated rows at previous counter =
@@ -16,42 +14,37 @@ abbrev μ-loop : tie.MeasureT-loop
 μ-loop bytes from n count sizes stated₀ rows₀ at₀ previous₀ counter₀ stated rows at previous counter =
     count - counter
 
--- src/tables.rt:87:5
 loop-holds : tie.Need-loop-holds Inv-loop μ-loop
 loop-holds c = search (tables-none, needs)
 
--- src/tables.rt:88:13
 read-table-requires : tie.Need-read-table-requires Inv-loop μ-loop
 read-table-requires c κs = search needs
 
--- src/tables.rt:89:25
 enum-known-table : tie.Need-enum-known-table Inv-loop μ-loop
 enum-known-table c = search needs
 
--- src/tables.rt:90:13
 enum-told : tie.Need-enum-told Inv-loop μ-loop
 enum-told c = search needs
 
--- src/tables.rt:90:13
 returns : tie.Need-returns Inv-loop μ-loop
 returns c =
+    let read = c .before .before in
     rw (c .enum-told .given .1)
-    (tables-refused _ _ _ _ _ _ _ _ _ _ (c .before .before .before .before .before .before .loop .inv) (omega arith) _ _ _ (c .before .before .read-table .ensures) _ _ (c .enum-told .given .1))
+    (tables-refused _ _ _ _ _ _ _ _ _ _ (read .before .before .before .before .loop .inv) (omega arith)
+    _ _ _ (read .read-table .ensures) _ _ (c .enum-told .given .1))
 
--- src/tables.rt:87:9
 add-counter : tie.Need-add-counter Inv-loop μ-loop
 add-counter c = search needs
 
--- src/tables.rt:87:5
 loop-less : tie.Need-loop-less Inv-loop μ-loop
 loop-less c = search needs
 
--- src/tables.rt:87:5
 loop-again : tie.Need-loop-again Inv-loop μ-loop
 loop-again c =
-    tables-more _ _ _ _ _ _ _ _ _ _ (c .before .before .before .before .before .before .before .loop .inv) (omega arith) _ _ _ (c .before .before .before .read-table .ensures) _ _ (c .before .table .given .1)
+    let read = c .before .before .before in
+    tables-more _ _ _ _ _ _ _ _ _ _ (read .before .before .before .before .loop .inv) (omega arith)
+    _ _ _ (read .read-table .ensures) _ _ (c .before .table .given .1)
 
--- src/tables.rt:73:1
 returns-2 : tie.Need-returns-2 Inv-loop μ-loop
 returns-2 c = search (tables-end, needs)
 

@@ -1,6 +1,7 @@
--- The high byte and then the low one: `two-bytes`.
+-- The high byte and then the low one: `wrote-number`.
+use native.Mathlib.Omega.{arith}
 use borrow.Author.Needs.{needs}
-use Rattle.writing.proofs.Texts.{two-bytes, wrote-then}
+use Rattle.writing.proofs.Texts.{wrote-number}
 use Rattle.writing.proofs.writing.put_number.Statement.{statement}
 use Rattle.writing.proofs.writing.put_number.Tie as tie
 
@@ -22,8 +23,8 @@ same-length c = search needs
 returns : tie.Need-returns
 returns c =
     let s = c .before .before .before .before .before .before .before .before .before in
-    rw (two-bytes (s .args .number) (s .fits .number .fits))
-    (wrote-then (c .before .before .before .before .before .before .put-byte .ensures) (c .before .before .put-byte2 .ensures))
+    wrote-number (s .args .number) (s .fits .number .fits) (omega arith) (omega arith)
+    (c .before .before .before .before .before .before .put-byte .ensures) (c .before .before .put-byte2 .ensures)
 
 pub put-number-spec : {M : Type 1} → statement M
 put-number-spec =

@@ -8,7 +8,8 @@ use Rattle.rows.specs.Rows.{rowAt}
 use Rattle.format.specs.Print.{bytesOf}
 use Rattle.format.specs.Writing.{bytesHeld}
 use Rattle.writing.specs.Texts.{tableCount, sizesText, tablesText, bodyText, sheetText}
-use Rattle.writing.proofs.Held.{stated-below, sound-most, sound-count, sound-text, sheet-parts, body-parts, wrote-sheet, wrote-whole}
+use Rattle.writing.proofs.Held.{stated-below, sound-most, sound-count, sound-text, sheet-parts, body-parts, wrote-sheet}
+use Rattle.writing.proofs.Texts.{wrote-whole}
 use Rattle.writing.proofs.writing.write_into.Statement.{statement}
 use Rattle.writing.proofs.writing.write_into.Tie as tie
 
