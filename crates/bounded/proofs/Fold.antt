@@ -247,3 +247,18 @@ pairs-i n p h = every-i n _ (λ x l. every-i n (p x) (λ y m. h x y l m))
 
 pub pairs-e : (n : ℕ) (p : ℕ → ℕ → Bool) → every n (λ (x : ℕ). every n (p x)) ≡ true → (x y : ℕ) → x < n → y < n → p x y ≡ true
 pairs-e n p h x y l m = every-e n (p x) (every-e n _ h x l) y m
+
+-- Past the last number that passes nothing more is counted,
+pub count-widen : (n m : ℕ) (p : ℕ → Bool) → n ≤ m → ((k : ℕ) → n ≤ k → p k ≡ false) → count m p ≡ count n p
+count-widen n zero p l h = ap (λ (x : ℕ). count x p) (omega arith)
+count-widen n (suc m) p l h =
+    by-cases (ltb m n)
+    (λ t. ap (λ (x : ℕ). count x p) (omega (arith, ltb-true m n t)))
+    (λ t. let e : count (suc m) p ≡ bit (p m) + count m p = unfold count sum in refl in
+    omega (arith, e, bit-false (p m) (h m (ltb-false m n t)), count-widen n m p (ltb-false m n t) h))
+
+-- and the lowest that passes is the same.
+pub first-widen : (n m : ℕ) (p : ℕ → Bool) → n ≤ m → some n p ≡ true → first m p ≡ first n p
+first-widen n m p l h =
+    let s : first n p < n = first-some n p h in
+    first-is m p (first n p) (omega arith) (first-passes n p s) (first-below n p)

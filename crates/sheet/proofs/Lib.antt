@@ -4,4 +4,6 @@ pub mod Reading
 pub mod Steps
 pub mod RoundTrip
 pub mod Solutions
+pub mod Builds
+pub mod Verdicts
 pub mod Promise

@@ -9,7 +9,7 @@ use lib.Pow.{pow-pos}
 use borrow.Author.Needs.{needs}
 use borrow.Author.Tests.{leb-true}
 use Rattle.bounded.specs.Table.{tabulate}
-use Rattle.bounded.proofs.Array.{Array, u8-array, u16-array, array-past, getD-table, table-array}
+use Rattle.bounded.proofs.Array.{Array, u8-array, u16-array, getD-table, table-array}
 use Rattle.bounded.proofs.Bool.{not-true→false, and-l}
 use Rattle.bounded.proofs.Table.{is-table}
 use Rattle.words.specs.Word.{has, word}
@@ -18,10 +18,12 @@ use Rattle.network.specs.Network.{Network}
 use Rattle.network.specs.Promise.{Keeps}
 use Rattle.network.specs.Sound.{Sound, Bounded, sound, countSound}
 use Rattle.network.proofs.Sound.{free-e, free-or-led, leader-n, sound→Sound, sound-n, sound-size, Sound→Bounded, Sound→sound}
-use Rattle.rows.proofs.Array.{member-within, rows-array, allowed-within}
+use Rattle.rows.proofs.Array.{rows-array}
 use Rattle.rows.proofs.Laws.{allows-rows, rows-allows}
 use Rattle.sheet.specs.View.{view, pack, zeroState, soundState}
+use Rattle.parts.specs.Parts.{partsView, Lent}
 use Rattle.sheet.specs.declared.state.State.{State}
+use Rattle.parts.proofs.Parts.{parts-bounded}
 
 -- What the types of the fields say of every state.
 pub record Shaped (s : State) : Type 0 where
@@ -58,17 +60,26 @@ sets-has : (l : List ℕ) → Array 16 (2 ^ 16) l → sets (λ (i a : ℕ). has 
 unfolding sets
 sets-has l A = sym (is-table 16 _ l 0 (A .array-length) λ i m. sym (word-has 16 (getD l i 0) (A .element-lt i)))
 
+-- The arrays of a state, lent.
+pub shaped-lent : (s : State) → Shaped s → Lent (s .sizes) (s .domains) (s .leaders) (s .stated) (s .rows)
+shaped-lent s h =
+    record {
+      sizes-lent = h .sizes-array;
+      domains-lent = h .domains-array;
+      leaders-lent = h .leaders-array;
+      stated-lent = h .stated-array;
+      rows-lent = h .rows-array;
+    }
+
 -- The network of a state lies within the bounds.
 pub view-bounded : (s : State) → Shaped s → Bounded 16 16 (view s)
-unfolding view
-view-bounded s h =
-    record {
-      size-bound = array-past 16 (2 ^ 8) (s .sizes) (h .sizes-array);
-      leader-bound = array-past 16 (2 ^ 8) (s .leaders) (h .leaders-array);
-      domain-bound = member-within 16 16 (s .domains) (h .domains-array);
-      stated-bound = member-within 16 16 (s .stated) (h .stated-array);
-      allows-bound = allowed-within 16 (s .rows) (h .rows-array);
-    }
+unfolding view partsView
+view-bounded s h = parts-bounded (s .n) (s .sizes) (s .domains) (s .leaders) (s .stated) (s .rows) (shaped-lent s h)
+
+-- What is told of the parts is told of the state.
+pub sound-told : (s : State) (r : Bool) → r ≡ sound 16 16 (partsView (s .n) (s .sizes) (s .domains) (s .leaders) (s .stated) (s .rows)) → r ≡ soundState s
+unfolding soundState view partsView
+sound-told s r h = h
 
 -- A network within the bounds is that of its state.
 pub view-pack : (N : Network) → Bounded 16 16 N → view (pack N) ≡ N
@@ -117,6 +128,10 @@ state-sound s h t = sound→Sound 16 16 (view s) (view-bounded s h) t
 pub state-n : (s : State) → soundState s ≡ true → view s .n ≤ 16
 unfolding soundState
 state-n s t = sound-n 16 16 (view s) t
+
+pub n-most : (s : State) → soundState s ≡ true → s .n ≤ 16
+unfolding view
+n-most s t = state-n s t
 
 pub state-size : (s : State) → Shaped s → soundState s ≡ true → (i : ℕ) → view s .size i ≤ 16
 unfolding soundState

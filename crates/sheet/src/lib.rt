@@ -1,6 +1,8 @@
 // Option sheets: the state and the public calls.
 mod answers;
 mod reader;
+mod solving;
+mod soundness;
 mod state;
 
 pub use answers::Answer;
@@ -13,4 +15,8 @@ pub use answers::Verdict;
 pub use answers::VerdictAnswer;
 pub use answers::WriteAnswer;
 pub use reader::read;
+pub use solving::complete;
+pub use solving::test;
+pub use solving::verdict;
+pub use soundness::is_sound;
 pub use state::State;

@@ -1,0 +1,106 @@
+-- What each way through a test of soundness says of its definition, in the order of the code.
+use mathlib.Core.Bool.{Bool, true, false}
+use mathlib.Core.List.{List}
+use mathlib.Core.Path.{_≡_, refl, sym, ap, _∙_}
+use Prim.Native.Nat.{ℕ, pred, _≤_, _<_}
+use native.Mathlib.Omega.{arith}
+use lib.Dec.{eqb, leb, ltb}
+use lib.ListN.{getD}
+use borrow.Author.Tests.{lt-ltb, le-ltb, lt-leb, le-leb, eq-eqb, ne-eqb}
+use Rattle.bounded.specs.Bool.{and, implies, not, if}
+use Rattle.bounded.proofs.Bool.{not-i, not-false-i, implies-true, implies-false, true-and, false-and, if-true, if-false}
+use Rattle.words.specs.Word.{has, word}
+use Rattle.rows.specs.Rows.{unionAt, mirroredAt, partnersWithin}
+use Rattle.parts.specs.Parts.{sizeFits, within, statedWith, variableFits, pairFits, followerFits, freeOrFits}
+
+-- A test joined to one that failed fails, and one joined to a test that held counts alone.
+pub and-fails : (a b : Bool) → a ≡ false → and a b ≡ false
+and-fails a b h = rw h (false-and b)
+
+pub and-holds : (a b : Bool) → a ≡ true → and a b ≡ b
+and-holds a b h = rw h (true-and b)
+
+-- The bound of a word's members, known by another name.
+pub within-same : (r : Bool) (x k k′ : ℕ) → r ≡ within x k → k ≡ k′ → r ≡ within x k′
+within-same r x k k′ h e = rw e at h
+
+-- ---- a size
+
+module _ (n i size : ℕ) where
+  pub size-past : n ≤ i → eqb size 0 ≡ sizeFits n i size
+  unfolding sizeFits
+  size-past h = sym (if-false _ _ _ (le-ltb i n h))
+
+  pub size-none : i < n → size < 1 → false ≡ sizeFits n i size
+  unfolding sizeFits
+  size-none h k = sym (if-true _ _ _ (lt-ltb i n h) ∙ and-fails _ _ (lt-leb 1 size k))
+
+  pub size-some : i < n → 1 ≤ size → leb size 16 ≡ sizeFits n i size
+  unfolding sizeFits
+  size-some h k = sym (if-true _ _ _ (lt-ltb i n h) ∙ and-holds _ _ (le-leb 1 size k))
+
+-- ---- the stated pairs of a variable
+
+module _ (n : ℕ) (stated : List ℕ) (i : ℕ) where
+  pub variable-past : within (getD stated i 0) n ≡ false → false ≡ variableFits n stated i
+  unfolding variableFits
+  variable-past h = sym (and-fails _ _ h)
+
+  pub variable-self : within (getD stated i 0) n ≡ true → has (getD stated i 0) i ≡ true → false ≡ variableFits n stated i
+  unfolding variableFits
+  variable-self h k = sym (and-holds _ _ h ∙ and-fails _ _ (not-false-i _ k))
+
+  pub variable-told : within (getD stated i 0) n ≡ true → has (getD stated i 0) i ≡ false
+      → eqb (getD stated i 0) (statedWith stated i) ≡ variableFits n stated i
+  unfolding variableFits
+  variable-told h k = sym (and-holds _ _ h ∙ and-holds _ _ (not-i _ k))
+
+-- ---- the rows of a pair; its union is at hand as a number
+
+module _ (rows : List ℕ) (i j : ℕ) (stated : Bool) (size members : ℕ) (joint : members ≡ unionAt 16 rows i j) where
+  pub pair-unstated : stated ≡ false → eqb members 0 ≡ pairFits rows i j stated size
+  unfolding pairFits
+  pair-unstated s = rw joint (sym (if-false _ _ _ s))
+
+  pub pair-outside : stated ≡ true → within members size ≡ false → false ≡ pairFits rows i j stated size
+  unfolding pairFits
+  pair-outside s h = sym (if-true _ _ _ s ∙ and-fails _ _ (rw joint at h))
+
+  pub pair-higher : stated ≡ true → within members size ≡ true → j ≤ i → true ≡ pairFits rows i j stated size
+  unfolding pairFits
+  pair-higher s h l = sym (if-true _ _ _ s ∙ and-holds _ _ (rw joint at h) ∙ implies-false _ _ (le-ltb i j l))
+
+  pub pair-lower : stated ≡ true → within members size ≡ true → i < j → mirroredAt 16 rows i j ≡ pairFits rows i j stated size
+  unfolding pairFits
+  pair-lower s h l = sym (if-true _ _ _ s ∙ and-holds _ _ (rw joint at h) ∙ implies-true _ _ (lt-ltb i j l))
+
+-- ---- a follower
+
+module _ (n : ℕ) (domains leaders stated rows : List ℕ) (i l : ℕ) where
+  pub leader-past : n ≤ l → false ≡ followerFits n domains leaders stated rows i l
+  unfolding followerFits
+  leader-past h = sym (and-fails _ _ (le-ltb l n h))
+
+  pub leader-led : l < n → (getD leaders l 0 ≡ 0 → ⊥) → false ≡ followerFits n domains leaders stated rows i l
+  unfolding followerFits
+  leader-led h k = sym (and-holds _ _ (lt-ltb l n h) ∙ and-fails _ _ (ne-eqb _ 0 k))
+
+  pub follower-loose : l < n → getD leaders l 0 ≡ 0 → (getD stated i 0 ≡ word 16 (λ (u : ℕ). eqb u l) → ⊥)
+      → false ≡ followerFits n domains leaders stated rows i l
+  unfolding followerFits
+  follower-loose h k d = sym (and-holds _ _ (lt-ltb l n h) ∙ and-holds _ _ (eq-eqb _ 0 k) ∙ and-fails _ _ (ne-eqb _ _ d))
+
+  pub follower-tied : l < n → getD leaders l 0 ≡ 0 → getD stated i 0 ≡ word 16 (λ (u : ℕ). eqb u l)
+      → partnersWithin 16 rows l i (getD domains l 0) (getD domains i 0) 1 1 ≡ followerFits n domains leaders stated rows i l
+  unfolding followerFits
+  follower-tied h k e = sym (and-holds _ _ (lt-ltb l n h) ∙ and-holds _ _ (eq-eqb _ 0 k) ∙ and-holds _ _ (eq-eqb _ _ e))
+
+module _ (n : ℕ) (domains leaders stated rows : List ℕ) (i : ℕ) where
+  pub variable-free : getD leaders i 0 ≡ 0 → true ≡ freeOrFits n domains leaders stated rows i
+  unfolding freeOrFits
+  variable-free h = sym (implies-false _ _ (not-false-i _ (eq-eqb _ 0 h)))
+
+  pub variable-led : (l : ℕ) → (getD leaders i 0 ≡ 0 → ⊥) → l ≡ pred (getD leaders i 0)
+      → followerFits n domains leaders stated rows i l ≡ freeOrFits n domains leaders stated rows i
+  unfolding freeOrFits
+  variable-led l h e = rw e (sym (implies-true _ _ (not-i _ (ne-eqb _ 0 h))))

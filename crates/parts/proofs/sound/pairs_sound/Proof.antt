@@ -1,0 +1,49 @@
+-- The loop's invariant: the stated pairs of the first `i` variables pass. A turn tests one more.
+use native.Mathlib.Omega.{arith}
+use borrow.Author.Needs.{needs}
+use mathlib.Core.Path.{_≡_, refl}
+use Prim.Native.Nat.{ℕ, _-_, _≤_}
+use Rattle.bounded.specs.Fold.{every}
+use Rattle.rows.proofs.Loops.{test-joins}
+use Rattle.parts.specs.Parts.{variableFits, pairsFit}
+use Rattle.parts.proofs.sound.pairs_sound.Statement.{statement}
+use Rattle.parts.proofs.sound.pairs_sound.Tie as tie
+
+abbrev Inv-loop : tie.InvT-loop
+Inv-loop n stated all₀ i₀ all i = (i ≤ 16) × (all ≡ every i (variableFits n stated))
+
+abbrev μ-loop : tie.MeasureT-loop
+μ-loop n stated all₀ i₀ all i = 16 - i
+
+loop-holds : tie.Need-loop-holds Inv-loop μ-loop
+unfolding every
+loop-holds c = (omega arith, refl)
+
+variable-sound-requires : tie.Need-variable-sound-requires Inv-loop μ-loop
+variable-sound-requires c κs = search needs
+
+add-i : tie.Need-add-i Inv-loop μ-loop
+add-i c = search needs
+
+loop-less : tie.Need-loop-less Inv-loop μ-loop
+loop-less c = search needs
+
+loop-again : tie.Need-loop-again Inv-loop μ-loop
+loop-again c = (omega arith, test-joins _ _ _ _ (c .before .before .loop .inv .1) (c .variable-sound .ensures))
+
+returns : tie.Need-returns Inv-loop μ-loop
+unfolding pairsFit
+returns c = rw (let e : c .before .loop .i ≡ 16 = omega arith in e) at (c .before .loop .inv .1)
+
+pub pairs-sound-spec : {M : Type 1} → statement M
+pairs-sound-spec =
+    tie.close
+    (tie.spec
+    Inv-loop
+    μ-loop
+    loop-holds
+    variable-sound-requires
+    add-i
+    loop-less
+    loop-again
+    returns)

@@ -1,0 +1,71 @@
+-- The loop's invariant: the members are those of the first `j` words that have `i`. A turn moves one more digit: `digit-joins`.
+use mathlib.Core.Path.{_≡_, refl, sym}
+use Prim.Native.Nat.{ℕ, _-_, _≤_}
+use lib.Pow.{pow-mono}
+use lib.ListN.{getD}
+use Rattle.words.specs.Word.{has, word}
+use Rattle.words.proofs.Laws.{word-zero}
+use Rattle.rows.proofs.Loops.{digit-of, digit-joins}
+use Rattle.parts.specs.Parts.{statedWith}
+use native.Mathlib.Omega.{arith}
+use borrow.Author.Needs.{needs}
+use Rattle.parts.proofs.sound.stated_with.Statement.{statement}
+use Rattle.parts.proofs.sound.stated_with.Tie as tie
+
+abbrev Inv-loop : tie.InvT-loop
+Inv-loop stated i members₀ j₀ members j = (j ≤ 16) × (members ≡ word j (λ (k : ℕ). has (getD stated k 0) i))
+
+abbrev μ-loop : tie.MeasureT-loop
+μ-loop stated i members₀ j₀ members j = 16 - j
+
+loop-holds : tie.Need-loop-holds Inv-loop μ-loop
+loop-holds c = (omega arith, sym (word-zero _))
+
+mul-members : tie.Need-mul-members Inv-loop μ-loop
+mul-members c = search needs
+
+element-copy-out-members : tie.Need-element-copy-out-members Inv-loop μ-loop
+element-copy-out-members c = search needs
+
+cast-members : tie.Need-cast-members Inv-loop μ-loop
+cast-members c = search needs
+
+shr-members : tie.Need-shr-members Inv-loop μ-loop
+shr-members c = search needs
+
+cast-members-2 : tie.Need-cast-members-2 Inv-loop μ-loop
+cast-members-2 c = search needs
+
+shl-members : tie.Need-shl-members Inv-loop μ-loop
+shl-members c = search needs
+
+add-j : tie.Need-add-j Inv-loop μ-loop
+add-j c = search needs
+
+loop-less : tie.Need-loop-less Inv-loop μ-loop
+loop-less c = search needs
+
+loop-again : tie.Need-loop-again Inv-loop μ-loop
+loop-again c = (omega arith, digit-joins 65536 _ _ _ _ (pow-mono {j = 16} (omega arith)) (c .before .before .loop .inv .1) (digit-of _ _))
+
+returns : tie.Need-returns Inv-loop μ-loop
+unfolding statedWith
+returns c = rw (let e : c .before .loop .j ≡ 16 = omega arith in e) at (c .before .loop .inv .1)
+
+pub stated-with-spec : {M : Type 1} → statement M
+stated-with-spec =
+    tie.close
+    (tie.spec
+    Inv-loop
+    μ-loop
+    loop-holds
+    mul-members
+    element-copy-out-members
+    cast-members
+    shr-members
+    cast-members-2
+    shl-members
+    add-j
+    loop-less
+    loop-again
+    returns)

@@ -1,0 +1,74 @@
+-- What the tester, the completer and the verdict test and write, on lent arrays. Where `leaders` is all zero every option is judged as a live one:
+-- so the tester asks of all what the completer asks of the live options.
+use mathlib.Core.Bool.{Bool}
+use mathlib.Core.List.{List}
+use mathlib.Core.Path.{_≡_}
+use Prim.Native.Nat.{ℕ, suc, pred, _≤_, _<_}
+use lib.Dec.{eqb, ltb}
+use lib.ListN.{length, getD}
+use Rattle.bounded.specs.Bool.{and, implies, not, if}
+use Rattle.bounded.specs.Fold.{every, count, first}
+use Rattle.words.specs.Word.{has}
+use Rattle.rows.specs.Rows.{rowAt, allowsOf}
+
+-- Each value is below its size.
+unfoldable pub valuesBelow : ℕ → List ℕ → List ℕ → Bool
+valuesBelow n sizes values = every n (λ (i : ℕ). ltb (getD values i 0) (getD sizes i 0))
+
+-- "each value is in its option's list", of live options
+unfoldable pub valueKept : ℕ → ℕ → ℕ → Bool
+valueKept leader domain value = implies (eqb leader 0) (has domain value)
+
+unfoldable pub valuesKept : ℕ → List ℕ → List ℕ → List ℕ → Bool
+valuesKept n leaders domains values = every n (λ (i : ℕ). valueKept (getD leaders i 0) (getD domains i 0) (getD values i 0))
+
+-- "each stated pair of two live options allows its two values"
+unfoldable pub pairKept : ℕ → ℕ → Bool → List ℕ → ℕ → ℕ → ℕ → ℕ → Bool
+pairKept leader other stated rows i j a b = implies (and (eqb leader 0) (and (eqb other 0) stated)) (allowsOf 16 rows i j a b)
+
+unfoldable pub sideKept : ℕ → List ℕ → ℕ → List ℕ → List ℕ → ℕ → Bool
+sideKept n leaders stated rows values i =
+    every n (λ (j : ℕ). pairKept (getD leaders i 0) (getD leaders j 0) (has stated j) rows i j (getD values i 0) (getD values j 0))
+
+unfoldable pub pairsKept : ℕ → List ℕ → List ℕ → List ℕ → List ℕ → Bool
+pairsKept n leaders stated rows values = every n (λ (i : ℕ). sideKept n leaders (getD stated i 0) rows values i)
+
+-- The lowest value of a domain of i that goes with value a of l, or 16.
+unfoldable pub partnerOf : List ℕ → ℕ → ℕ → ℕ → ℕ → ℕ
+partnerOf rows l i domain a = first 16 (λ (b : ℕ). and (has domain b) (has (rowAt 16 rows l i a) b))
+
+-- A live option keeps its value, and a follower gets the partner of its leader's.
+unfoldable pub valueCompleted : List ℕ → List ℕ → List ℕ → List ℕ → ℕ → ℕ
+valueCompleted domains leaders rows values i =
+    if (eqb (getD leaders i 0) 0)
+    (getD values i 0)
+    (partnerOf rows (pred (getD leaders i 0)) i (getD domains i 0) (getD values (pred (getD leaders i 0)) 0))
+
+-- What the completer goes by: each leader is a live option that has a value.
+pub record Led (n : ℕ) (leaders values : List ℕ) : Type 0 where
+  pub led-n : n ≤ 16
+  pub led-length : n ≤ length values
+  pub leader-below : (i l : ℕ) → i < n → getD leaders i 0 ≡ suc l → l < n
+  pub leader-live : (i l : ℕ) → i < n → getD leaders i 0 ≡ suc l → getD leaders l 0 ≡ 0
+  pub leader-value : (i l : ℕ) → i < n → getD leaders i 0 ≡ suc l → getD values l 0 < 16
+
+-- What it leaves: the first n values are completed, and the others are as before.
+pub record Completed (n : ℕ) (domains leaders rows before after : List ℕ) : Type 0 where
+  pub same-length : length after ≡ length before
+  pub value-completed : (i : ℕ) → i < n → getD after i 0 ≡ valueCompleted domains leaders rows before i
+  pub value-past : (i : ℕ) → n ≤ i → getD after i 0 ≡ getD before i 0
+
+-- A live option has a value left.
+unfoldable pub domainOpen : ℕ → ℕ → Bool
+domainOpen leader domain = implies (eqb leader 0) (not (eqb domain 0))
+
+unfoldable pub domainsOpen : ℕ → List ℕ → List ℕ → Bool
+domainsOpen n leaders domains = every n (λ (i : ℕ). domainOpen (getD leaders i 0) (getD domains i 0))
+
+-- The lowest value of each domain, 16 where it is empty, and 0 past n.
+unfoldable pub lowestOf : ℕ → List ℕ → ℕ → ℕ
+lowestOf n domains i = if (ltb i n) (first 16 (has (getD domains i 0))) 0
+
+-- How many options are live.
+unfoldable pub liveCount : ℕ → List ℕ → ℕ
+liveCount n leaders = count n (λ (i : ℕ). eqb (getD leaders i 0) 0)

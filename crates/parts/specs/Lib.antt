@@ -1,0 +1,3 @@
+-- A state as n and five lent arrays.
+pub mod Parts
+pub mod Choices

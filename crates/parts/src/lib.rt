@@ -1,0 +1,13 @@
+// The lent arrays of a state: soundness, and builds against them.
+mod sound;
+mod values;
+
+pub use sound::sound_parts;
+pub use sound::wide;
+pub use values::complete_values;
+pub use values::domains_open;
+pub use values::live_count;
+pub use values::lowest_build;
+pub use values::pairs_kept;
+pub use values::values_below;
+pub use values::values_kept;

@@ -1,0 +1,221 @@
+// Soundness of a state, on lent arrays: each sentence of document 01 is a test of its own. A sound state passes them all, so no test of one
+// array leaves early.
+ghost use mathlib.Core.Path.{_≡_};
+ghost use Prim.Native.Nat.{ℕ, _<_, _≤_};
+ghost use lib.ListN.{getD};
+ghost use Rattle.network.specs.Sound.{sound};
+ghost use Rattle.parts.specs.Parts.{partsView, Lent, sizeFits, sizesFit, domainsFit, statedWith, variableFits, pairsFit, pairFits, sideFits, rowsFit, followerFits, freeOrFits, followersFit};
+
+pub fn wide(x: u8) -> usize
+    ensures { λ r. ⌜ r ≡ x ⌝ }
+{
+    x as usize
+}
+
+// A size is 1 to 16, and 0 past `n`.
+fn size_sound(n: usize, i: usize, size: u8) -> bool
+    ensures { λ r. ⌜ r ≡ sizeFits n i size ⌝ }
+{
+    if n <= i {
+        return size == 0;
+    }
+    if size < 1 {
+        return false;
+    }
+    size <= 16
+}
+
+fn sizes_sound(n: usize, sizes: &[u8; 16]) -> bool
+    ensures { λ r. ⌜ r ≡ sizesFit n (now (sizes .entry)) ⌝ }
+{
+    let mut all = true;
+    for i in 0..16 {
+        all &= size_sound(n, i, sizes[i]);
+    }
+    all
+}
+
+// Each domain lies within its size.
+fn domains_sound(sizes: &[u8; 16], domains: &[u16; 16]) -> bool
+    requires { ⌜ ((i : ℕ) → getD (now sizes) i 0 ≤ 16) ⌝ }
+    ensures { λ r. ⌜ r ≡ domainsFit (now (sizes .entry)) (now (domains .entry)) ⌝ }
+{
+    let mut all = true;
+    for i in 0..16 {
+        all &= words::within(domains[i], wide(sizes[i]));
+    }
+    all
+}
+
+// The variables that say that they are stated with `i`.
+fn stated_with(stated: &[u16; 16], i: usize) -> u16
+    requires { ⌜ i < 16 ⌝ }
+    ensures { λ r. ⌜ r ≡ statedWith (now (stated .entry)) i ⌝ }
+{
+    let mut members: u16 = 0;
+    for j in 0..16 {
+        members |= ((stated[j] >> i) & 1) << j;
+    }
+    members
+}
+
+// The pairs of `i` lie below `n`, none is with `i` itself, and the others say the same.
+fn variable_sound(n: usize, stated: &[u16; 16], i: usize) -> bool
+    requires { ⌜ (n ≤ 16) × (i < 16) ⌝ }
+    ensures { λ r. ⌜ r ≡ variableFits n (now (stated .entry)) i ⌝ }
+{
+    let members = stated[i];
+    if !words::within(members, n) {
+        return false;
+    }
+    if words::member(members, i) {
+        return false;
+    }
+    members == stated_with(stated, i)
+}
+
+fn pairs_sound(n: usize, stated: &[u16; 16]) -> bool
+    requires { ⌜ n ≤ 16 ⌝ }
+    ensures { λ r. ⌜ r ≡ pairsFit n (now (stated .entry)) ⌝ }
+{
+    let mut all = true;
+    for i in 0..16 {
+        all &= variable_sound(n, stated, i);
+    }
+    all
+}
+
+// The rows of `i` against `j`, whose size is `size`. The other side is compared where it is stated alone, and once.
+fn pair_rows(rows: &[u16; 4096], i: usize, j: usize, stated: bool, size: usize) -> bool
+    requires { ⌜ (i < 16) × (j < 16) × (size ≤ 16) ⌝ }
+    ensures { λ r. ⌜ r ≡ pairFits (now (rows .entry)) i j stated size ⌝ }
+{
+    let members = rows::union(rows, i, j);
+    if !stated {
+        return members == 0;
+    }
+    if !words::within(members, size) {
+        return false;
+    }
+    if j <= i {
+        return true;
+    }
+    rows::mirrored(rows, i, j)
+}
+
+// The rows of `i` against every variable; `stated` is its own word.
+fn side_sound(sizes: &[u8; 16], rows: &[u16; 4096], stated: u16, i: usize) -> bool
+    requires { ⌜ (i < 16) × ((j : ℕ) → getD (now sizes) j 0 ≤ 16) ⌝ }
+    ensures { λ r. ⌜ r ≡ sideFits (now (sizes .entry)) (now (rows .entry)) stated i ⌝ }
+{
+    let mut all = true;
+    for j in 0..16 {
+        all &= pair_rows(rows, i, j, words::member(stated, j), wide(sizes[j]));
+    }
+    all
+}
+
+fn rows_sound(sizes: &[u8; 16], stated: &[u16; 16], rows: &[u16; 4096]) -> bool
+    requires { ⌜ ((j : ℕ) → getD (now sizes) j 0 ≤ 16) ⌝ }
+    ensures { λ r. ⌜ r ≡ rowsFit (now (sizes .entry)) (now (stated .entry)) (now (rows .entry)) ⌝ }
+{
+    let mut all = true;
+    for i in 0..16 {
+        all &= side_sound(sizes, rows, stated[i], i);
+    }
+    all
+}
+
+// `i` follows `l`.
+fn follower_sound(
+    n: usize,
+    domains: &[u16; 16],
+    leaders: &[u8; 16],
+    stated: &[u16; 16],
+    rows: &[u16; 4096],
+    i: usize,
+    l: usize,
+) -> bool
+    requires { ⌜ (n ≤ 16) × (i < 16) ⌝ }
+    ensures { λ r. ⌜ r ≡ followerFits n (now (domains .entry)) (now (leaders .entry)) (now (stated .entry)) (now (rows .entry)) i l ⌝ }
+{
+    if n <= l {
+        return false;
+    }
+    if leaders[l] != 0 {
+        return false;
+    }
+    if stated[i] != words::single(l) {
+        return false;
+    }
+    rows::partners_within(rows, l, i, domains[l], domains[i], 1, 1)
+}
+
+// A variable is free or follows another.
+fn free_or_sound(
+    n: usize,
+    domains: &[u16; 16],
+    leaders: &[u8; 16],
+    stated: &[u16; 16],
+    rows: &[u16; 4096],
+    i: usize,
+) -> bool
+    requires { ⌜ (n ≤ 16) × (i < 16) ⌝ }
+    ensures { λ r. ⌜ r ≡ freeOrFits n (now (domains .entry)) (now (leaders .entry)) (now (stated .entry)) (now (rows .entry)) i ⌝ }
+{
+    let leader = leaders[i];
+    if leader == 0 {
+        return true;
+    }
+    follower_sound(n, domains, leaders, stated, rows, i, wide(leader) - 1)
+}
+
+fn followers_sound(
+    n: usize,
+    domains: &[u16; 16],
+    leaders: &[u8; 16],
+    stated: &[u16; 16],
+    rows: &[u16; 4096],
+) -> bool
+    requires { ⌜ n ≤ 16 ⌝ }
+    ensures { λ r. ⌜ r ≡ followersFit n (now (domains .entry)) (now (leaders .entry)) (now (stated .entry)) (now (rows .entry)) ⌝ }
+{
+    let mut all = true;
+    for i in 0..16 {
+        all &= free_or_sound(n, domains, leaders, stated, rows, i);
+    }
+    all
+}
+
+// The whole test, on the parts of a state. `n` is tested before any loop.
+pub fn sound_parts<'a>(
+    n: usize,
+    sizes: &'a [u8; 16],
+    domains: &'a [u16; 16],
+    leaders: &'a [u8; 16],
+    stated: &'a [u16; 16],
+    rows: &'a [u16; 4096],
+) -> bool
+    requires { ⌜ Lent (now sizes) (now domains) (now leaders) (now stated) (now rows) ⌝ }
+    ensures { λ r. ⌜ r ≡ sound 16 16 (partsView n (now (sizes .entry)) (now (domains .entry)) (now (leaders .entry)) (now (stated .entry)) (now (rows .entry))) ⌝ }
+{
+    if n < 1 {
+        return false;
+    }
+    if 16 < n {
+        return false;
+    }
+    if !sizes_sound(n, sizes) {
+        return false;
+    }
+    if !domains_sound(sizes, domains) {
+        return false;
+    }
+    if !pairs_sound(n, stated) {
+        return false;
+    }
+    if !rows_sound(sizes, stated, rows) {
+        return false;
+    }
+    followers_sound(n, domains, leaders, stated, rows)
+}
