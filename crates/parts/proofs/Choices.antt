@@ -14,14 +14,14 @@ use borrow.Author.Tests.{lt-ltb, le-ltb, eq-eqb, ne-eqb, ltb-true, ltb-false, eq
 use Rattle.bounded.specs.Bool.{and, implies, not, bit, if}
 use Rattle.bounded.specs.Fold.{sum, count, first}
 use Rattle.bounded.specs.Table.{tabulate}
-use Rattle.bounded.proofs.Bool.{by-cases, bool-ext, and-false, implies-true, implies-false, if-true, if-false}
+use Rattle.bounded.proofs.Bool.{by-cases, bool-ext, true-and, false-and, and-false, implies-true, implies-false, if-true, if-false}
 use Rattle.bounded.proofs.Fold.{below-suc, count-le, first-cong}
 use Rattle.bounded.proofs.Table.{length-tabulate, getD-tabulate, is-table}
 use Rattle.words.specs.Word.{has, word}
 use Rattle.words.proofs.Laws.{has-word}
 use Rattle.rows.specs.Rows.{rowAt, allowsOf}
 use Rattle.rows.proofs.Laws.{allows-row}
-use Rattle.parts.specs.Choices.{valueKept, pairKept, partnerOf, valueCompleted, Led, Completed, domainOpen, lowestOf}
+use Rattle.parts.specs.Choices.{valueKept, pairKept, partnerOf, valueCompleted, Led, Completed, domainOpen, lowestOf, freshValue}
 use Rattle.parts.proofs.Tests.{and-fails, and-holds}
 
 -- ---- the value of a variable
@@ -34,6 +34,16 @@ module _ (leader domain value : ℕ) where
   pub value-live : leader ≡ 0 → has domain value ≡ valueKept leader domain value
   unfolding valueKept
   value-live h = sym (implies-true _ _ (eq-eqb leader 0 h))
+
+-- A follower is not fresh, and a live option is where its list is full.
+module _ (leader domain size : ℕ) where
+  pub fresh-led : (leader ≡ 0 → ⊥) → false ≡ freshValue leader domain size
+  unfolding freshValue
+  fresh-led h = rw (ne-eqb leader 0 h) (sym (false-and _))
+
+  pub fresh-live : (full : ℕ) → leader ≡ 0 → full ≡ word 16 (λ (v : ℕ). ltb v size) → eqb domain full ≡ freshValue leader domain size
+  unfolding freshValue
+  fresh-live full h e = rw (eq-eqb leader 0 h, e) (sym (true-and _))
 
 -- ---- the values of a pair
 

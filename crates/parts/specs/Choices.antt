@@ -8,7 +8,7 @@ use lib.Dec.{eqb, ltb}
 use lib.ListN.{length, getD}
 use Rattle.bounded.specs.Bool.{and, implies, not, if}
 use Rattle.bounded.specs.Fold.{every, count, first}
-use Rattle.words.specs.Word.{has}
+use Rattle.words.specs.Word.{has, word}
 use Rattle.rows.specs.Rows.{rowAt, allowsOf}
 
 -- Each value is below its size.
@@ -72,3 +72,10 @@ lowestOf n domains i = if (ltb i n) (first 16 (has (getD domains i 0))) 0
 -- How many options are live.
 unfoldable pub liveCount : ℕ → List ℕ → ℕ
 liveCount n leaders = count n (λ (i : ℕ). eqb (getD leaders i 0) 0)
+
+-- A live option with a full list: what the writer asks of each, "a follower exists or a list is not full".
+unfoldable pub freshValue : ℕ → ℕ → ℕ → Bool
+freshValue leader domain size = and (eqb leader 0) (eqb domain (word 16 (λ (v : ℕ). ltb v size)))
+
+unfoldable pub freshParts : ℕ → List ℕ → List ℕ → List ℕ → Bool
+freshParts n sizes domains leaders = every n (λ (i : ℕ). freshValue (getD leaders i 0) (getD domains i 0) (getD sizes i 0))

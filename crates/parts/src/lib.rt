@@ -6,6 +6,7 @@ pub use sound::sound_parts;
 pub use sound::wide;
 pub use values::complete_values;
 pub use values::domains_open;
+pub use values::fresh_parts;
 pub use values::live_count;
 pub use values::lowest_build;
 pub use values::pairs_kept;

@@ -9,7 +9,7 @@ ghost use Rattle.bounded.specs.Bool.{bit};
 ghost use Rattle.bounded.specs.Fold.{first};
 ghost use Rattle.bounded.specs.Table.{tabulate};
 ghost use Rattle.words.specs.Word.{has};
-ghost use Rattle.parts.specs.Choices.{valuesBelow, valueKept, valuesKept, pairKept, sideKept, pairsKept, partnerOf, valueCompleted, Led, Completed, domainOpen, domainsOpen, lowestOf, liveCount};
+ghost use Rattle.parts.specs.Choices.{valuesBelow, valueKept, valuesKept, pairKept, sideKept, pairsKept, partnerOf, valueCompleted, Led, Completed, domainOpen, domainsOpen, lowestOf, liveCount, freshValue, freshParts};
 
 // Each value is below its size.
 pub fn values_below(n: usize, sizes: &[u8; 16], values: &[u8]) -> bool
@@ -250,4 +250,32 @@ pub fn lowest_build<'a>(
     let mut values = lowest_values(n, domains);
     complete_values(n, domains, leaders, rows, &mut values);
     values
+}
+
+// A live option with a full list.
+fn fresh_value(leader: u8, domain: u16, size: u8) -> bool
+    requires { ⌜ size ≤ 16 ⌝ }
+    ensures { λ r. ⌜ r ≡ freshValue leader domain size ⌝ }
+{
+    if leader != 0 {
+        return false;
+    }
+    domain == words::full(wide(size))
+}
+
+// No follower, and each list is full.
+pub fn fresh_parts<'a>(
+    n: usize,
+    sizes: &'a [u8; 16],
+    domains: &'a [u16; 16],
+    leaders: &'a [u8; 16],
+) -> bool
+    requires { ⌜ (n ≤ 16) × ((i : ℕ) → getD (now sizes) i 0 ≤ 16) ⌝ }
+    ensures { λ r. ⌜ r ≡ freshParts n (now (sizes .entry)) (now (domains .entry)) (now (leaders .entry)) ⌝ }
+{
+    let mut all = true;
+    for i in 0..n {
+        all &= fresh_value(leaders[i], domains[i], sizes[i]);
+    }
+    all
 }

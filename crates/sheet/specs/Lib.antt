@@ -1,5 +1,6 @@
 -- What the public calls mean.
 pub mod View
+pub mod StepParts
 pub mod Answers
 pub mod Read
 pub mod Write

@@ -1,9 +1,13 @@
 // Option sheets: the state and the public calls.
 mod answers;
+mod elimination;
 mod reader;
+mod reduction;
+mod search;
 mod solving;
 mod soundness;
 mod state;
+mod writer;
 
 pub use answers::Answer;
 pub use answers::CutAnswer;
@@ -20,3 +24,4 @@ pub use solving::test;
 pub use solving::verdict;
 pub use soundness::is_sound;
 pub use state::State;
+pub use writer::write;

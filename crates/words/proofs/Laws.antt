@@ -11,7 +11,7 @@ use lib.Count.{ones, ones-cat, trailingZeros, under}
 use lib.Dec.{eqb, ltb}
 use lib.Pow.{pow-pos, pow-mono, pow-add, high, mod-pow-add, shr-shr}
 use borrow.Author.Tests.{ltb-true, ltb-false, lt-ltb, le-ltb, eq-eqb, ne-eqb}
-use Rattle.bounded.specs.Bool.{and, or, implies, bit, if}
+use Rattle.bounded.specs.Bool.{and, or, implies, not, bit, if}
 use Rattle.bounded.specs.Fold.{every, some, sum, count, first}
 use Rattle.bounded.proofs.Bool.{by-cases, clash, bool-ext, not-true→false, implies-i, implies-e, bit-le, bit-true}
 use Rattle.bounded.proofs.Fold.{below-suc, every-i, every-e, none-of, count-two, count-unique, first-cong}
@@ -203,6 +203,22 @@ has-and = has-op bitAnd min and and-shr and-step min-test
 -- `|` has the members of either word.
 pub has-or : (x y v : ℕ) → has (bitOr x y) v ≡ or (has x v) (has y v)
 has-or = has-op bitOr max or or-shr or-step max-test
+
+bit-not : (t : Bool) → bit (not t) + bit t ≡ 1
+unfolding bit not
+bit-not true = refl
+bit-not false = refl
+
+complement-word : (w : ℕ) (p : ℕ → Bool) → suc (word w (λ (v : ℕ). not (p v)) + word w p) ≡ 2 ^ w
+complement-word zero p = rw (word-zero p, word-zero (λ (v : ℕ). not (p v)))
+complement-word (suc w) p =
+    omega (arith, word-suc w p, word-suc w (λ (v : ℕ). not (p v)), complement-word w p, ap (λ (n : ℕ). n * 2 ^ w) (bit-not (p w)))
+
+-- `!` has the values that a word lacks.
+pub has-complement : (w x v : ℕ) → x < 2 ^ w → v < w → has (2 ^ w - 1 - x) v ≡ not (has x v)
+has-complement w x v h l =
+    let e : 2 ^ w - 1 - x ≡ word w (λ (u : ℕ). not (has x u)) = omega (arith, complement-word w (has x), word-has w x h) in
+    rw e (has-word w _ v l)
 
 -- Half of a word has its members, but 0, each one less.
 pub has-half : (x v : ℕ) → has (x / 2) v ≡ has x (suc v)

@@ -1,7 +1,7 @@
 -- What the machine's operations give, as sets of values: the laws by which `search` answers what the functions are asked.
 -- A shift to the left is taken modulo m, the number of values of the machine's words.
 use mathlib.Core.Bool.{Bool, true, false}
-use mathlib.Core.Path.{_≡_, refl, _∙_}
+use mathlib.Core.Path.{_≡_, refl, ap, _∙_}
 use Prim.Native.Nat.{ℕ, _-_, _*_, _/_, _%_, _^_, _≤_, _<_}
 use native.Mathlib.Nat.{mod-eq-of-lt, one-le-mul, one-mul, mul-le-mul-left}
 use native.Mathlib.Omega.{arith}
@@ -12,10 +12,10 @@ use lib.Pow.{pow-pos, pow-mono, pow-lt}
 use mir.Syntax.{Width}
 use mir.Val.{Fits, bits}
 use borrow.Author.Needs.{needs}
-use Rattle.bounded.specs.Bool.{and, or, implies, bit}
+use Rattle.bounded.specs.Bool.{and, or, implies, not, bit}
 use Rattle.bounded.specs.Fold.{every}
 use Rattle.words.specs.Word.{has, word}
-use Rattle.words.proofs.Laws.{has-digit, is-word, has-and, has-or, has-one, has-full, ones-count, trailing-first, within-every}
+use Rattle.words.proofs.Laws.{has-digit, is-word, has-and, has-or, has-complement, has-one, has-full, ones-count, trailing-first, within-every}
 
 eqb-bit : (b : Bool) → eqb (bit b) 1 ≡ b
 unfolding bit
@@ -57,6 +57,12 @@ both-is w x y h = is-word w (bitAnd x y) _ (omega (arith, and-le-l x y)) (λ v l
 pub either-is : (w x y : ℕ) → x < 2 ^ w → y < 2 ^ w → bitOr x y ≡ word w (λ (u : ℕ). or (has x u) (has y u))
 either-is w x y h k = is-word w (bitOr x y) _ (or-lt w x y h k) (λ v l. has-or x y v)
 
+-- `&` with `!` is the word of the members that the other lacks.
+pub without-is : (w x y : ℕ) → x < 2 ^ w → y < 2 ^ w → bitAnd x (2 ^ w - 1 - y) ≡ word w (λ (u : ℕ). and (has x u) (not (has y u)))
+without-is w x y h k =
+    is-word w (bitAnd x (2 ^ w - 1 - y)) _ (omega (arith, and-le-l x (2 ^ w - 1 - y)))
+    (λ v l. has-and x (2 ^ w - 1 - y) v ∙ ap (and (has x v)) (has-complement w y v k l))
+
 -- A word below 1 shifted by k has no member at or above k, and the other way round.
 pub within-is : (w x k m : ℕ) → x < 2 ^ w → k ≤ w → 2 ^ w < m → ltb x (1 * 2 ^ k % m) ≡ every w (λ (v : ℕ). implies (has x v) (ltb v k))
 within-is w x k m h l b = rw (shl-is w 1 k m l (omega arith), one-mul (2 ^ k)) (within-every w x k h)
@@ -72,4 +78,4 @@ pub trailing-fits : (W : Width) (k x : ℕ) → k < 2 ^ bits W → Fits W (trail
 trailing-fits W k x h = omega (arith, trailing-le k x)
 
 -- The set that the functions' proofs hand to `search`.
-pub ruleset machine = (member-is, shl-pos, single-is, full-is, full-fits, both-is, either-is, within-is, ones-fits, leading-fits, trailing-fits, ones-count, trailing-first, needs)
+pub ruleset machine = (member-is, shl-pos, single-is, full-is, full-fits, both-is, either-is, without-is, within-is, ones-fits, leading-fits, trailing-fits, ones-count, trailing-first, needs)

@@ -2,7 +2,7 @@
 ghost use mathlib.Core.Path.{_≡_};
 ghost use Prim.Native.Nat.{ℕ, _<_, _≤_};
 ghost use lib.Dec.{eqb, ltb};
-ghost use Rattle.bounded.specs.Bool.{and, or, implies};
+ghost use Rattle.bounded.specs.Bool.{and, or, implies, not};
 ghost use Rattle.bounded.specs.Fold.{every, count, first};
 ghost use Rattle.words.specs.Word.{has, word};
 
@@ -42,6 +42,13 @@ pub fn either(x: u16, y: u16) -> u16
     ensures { λ r. ⌜ r ≡ word 16 (λ (u : ℕ). or (has x u) (has y u)) ⌝ }
 {
     x | y
+}
+
+// The members of `x` that `y` lacks.
+pub fn without(x: u16, y: u16) -> u16
+    ensures { λ r. ⌜ r ≡ word 16 (λ (u : ℕ). and (has x u) (not (has y u))) ⌝ }
+{
+    x & !y
 }
 
 // How many members `x` has.

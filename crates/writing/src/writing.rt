@@ -155,7 +155,7 @@ fn tables_length(size: u8, tables: usize) -> usize
 }
 
 // How many bytes the sheet has: 5, a size each, and for each table its pair and its rows. No variable is stated with one at `n` or above.
-pub fn sheet_length(n: usize, sizes: &[u8; 16], stated: &[u16; 16]) -> usize
+pub fn sheet_length<'a>(n: usize, sizes: &'a [u8; 16], stated: &'a [u16; 16]) -> usize
     requires { ⌜ (n ≤ 16) × ((i j : ℕ) → has (getD (now stated) i 0) j ≡ true → j < n) ⌝ }
     ensures { λ r. ⌜ ((rows : List ℕ) → r ≡ length (bytesHeld n (now (sizes .entry)) (now (stated .entry)) rows)) ⌝ }
 {
@@ -177,11 +177,11 @@ fn write_header(n: u8, follow: u16, buffer: &mut [u8]) -> usize
 }
 
 // The sheet of the network that the arrays hold, at the start of the buffer; how many bytes it has.
-pub fn write_into(
+pub fn write_into<'a>(
     n: usize,
-    sizes: &[u8; 16],
-    stated: &[u16; 16],
-    rows: &[u16; 4096],
+    sizes: &'a [u8; 16],
+    stated: &'a [u16; 16],
+    rows: &'a [u16; 4096],
     buffer: &mut [u8],
 ) -> usize
     requires { ⌜ Sound (heldBy n (now sizes) (now stated) (now rows)) ⌝ }
