@@ -1,10 +1,10 @@
 -- Arrays of numbers: what the type of an array says of the list that it holds.
-use mathlib.Core.List.{List}
+use mathlib.Core.List.{List, [], _∷_}
 use mathlib.Core.Path.{_≡_, sym, _∙_}
-use Prim.Native.Nat.{ℕ, zero, _^_, _≤_, _<_}
+use Prim.Native.Nat.{ℕ, zero, suc, _^_, _≤_, _<_}
 use native.Mathlib.Omega.{arith}
 use lib.Dec.{ltb}
-use lib.ListN.{length, getD, List·getD-eq-default}
+use lib.ListN.{length, getD, set, List·getD-eq-default}
 use mir.Syntax.{Width, w8, w16}
 use mir.Val.{Fits, bits}
 use borrow.Author.Tests.{ltb-true, ltb-false}
@@ -30,6 +30,14 @@ u16-array = fits-array w16
 -- Past its end an array reads as 0.
 pub array-past : (n b : ℕ) (l : List ℕ) → Array n b l → (k : ℕ) → n ≤ k → getD l k 0 ≡ 0
 array-past n b l A k h = List·getD-eq-default l 0 (omega arith)
+
+-- A store keeps the elements below b.
+pub set-lt : (b : ℕ) (l : List ℕ) (p v : ℕ) → v < b → ((k : ℕ) → getD l k 0 < b) → (k : ℕ) → getD (set l p v) k 0 < b
+set-lt b [] p v h f k = f k
+set-lt b (x ∷ l) zero v h f zero = h
+set-lt b (x ∷ l) zero v h f (suc k) = f (suc k)
+set-lt b (x ∷ l) (suc p) v h f zero = f zero
+set-lt b (x ∷ l) (suc p) v h f (suc k) = set-lt b l p v h (λ m. f (suc m)) k
 
 -- The table of a rule that is 0 past the end has what the rule says, everywhere.
 pub getD-table : (n : ℕ) (f : ℕ → ℕ) (k : ℕ) → (n ≤ k → f k ≡ 0) → getD (tabulate n f) k 0 ≡ f k

@@ -1,4 +1,4 @@
--- Rule 2, value by value: what a turn of `reach` joins, the cases of `composed`, and the frame of `compose` after one more value.
+-- Rule 2, value by value: what a turn of `reach` joins, the cases of `composed`, and the frames of one more value and of both sides.
 use mathlib.Core.Bool.{Bool, true, false}
 use mathlib.Core.List.{List}
 use mathlib.Core.Path.{_≡_, refl, sym, ap, ap₂, _∙_}
@@ -6,15 +6,18 @@ use Prim.Native.Nat.{ℕ, _+_, _*_, _/_, _^_, _<_}
 use native.Mathlib.Numerals.{add-one}
 use native.Mathlib.Omega.{arith}
 use lib.Bits.{bitAnd, bitOr}
+use lib.ListN.{length, set}
 use Rattle.bounded.specs.Bool.{and, implies}
 use Rattle.bounded.specs.Fold.{some}
 use Rattle.bounded.proofs.Bool.{and-true, and-false, false-and, and-assoc}
-use Rattle.bounded.proofs.Fold.{below-suc, some-cong}
+use Rattle.bounded.proofs.Fold.{some-cong}
 use Rattle.words.specs.Word.{has, word}
 use Rattle.words.proofs.Laws.{empty, has-word, word-lt, word-cong}
-use Rattle.rows.specs.Rows.{rowAt}
-use Rattle.rows.specs.Frames.{BothPut}
-use Rattle.compose.specs.Compose.{reach, composedAt, Composed}
+use Rattle.rows.specs.Rows.{place, rowAt}
+use Rattle.rows.specs.Frames.{Mirrored}
+use Rattle.compose.specs.Compose.{reach, composedAt, Composing, Composed}
+use Rattle.rows.proofs.Laws.{column-lt, has-column}
+use Rattle.rows.proofs.Frames.{filled-more, row-left}
 use Rattle.rows.proofs.Loops.{word-joins, has-chosen, chosen-lt}
 use Rattle.rows.proofs.Partners.{has-cut}
 
@@ -73,48 +76,42 @@ reach-cong : (w : ℕ) (rows rows′ : List ℕ) (i j k dj c : ℕ) → rowAt w 
 unfolding reach
 reach-cong w rows rows′ i j k dj c e f = word-cong w _ _ (λ a l. some-cong w _ _ (λ b m. rw (e, f b m)))
 
-composed-cong : (w : ℕ) (rows rows′ : List ℕ) (i j k ti dj dk : ℕ) (was : Bool) (c : ℕ) → rowAt w rows k j c ≡ rowAt w rows′ k j c
+pub composed-cong : (w : ℕ) (rows rows′ : List ℕ) (i j k ti dj dk : ℕ) (was : Bool) (c : ℕ) → rowAt w rows k j c ≡ rowAt w rows′ k j c
     → ((b : ℕ) → b < w → rowAt w rows j i b ≡ rowAt w rows′ j i b)
     → rowAt w rows k i c ≡ rowAt w rows′ k i c
     → composedAt w rows i j k ti dj dk was c ≡ composedAt w rows′ i j k ti dj dk was c
 unfolding composedAt
 composed-cong w rows rows′ i j k ti dj dk was c e f g = word-cong w _ _ (λ a l. rw (reach-cong w rows rows′ i j k dj c e f, g))
 
--- ---- the frame
+composed-lt : (w : ℕ) (rows : List ℕ) (i j k ti dj dk : ℕ) (was : Bool) (c : ℕ) → composedAt w rows i j k ti dj dk was c < 2 ^ w
+unfolding composedAt
+composed-lt w rows i j k ti dj dk was c = word-lt w _
 
-pub composed-none : (w : ℕ) (rows : List ℕ) (i j k ti dj dk : ℕ) (was : Bool) → Composed w rows rows i j k ti dj dk was 0
-composed-none w rows i j k ti dj dk was = record {
-  done-k = λ v l. absurd (let x : ⊥ = omega arith in x);
-  left-k = λ v l m. refl;
-  done-i = λ a v l m. absurd (let x : ⊥ = omega arith in x);
-  left-i = λ a v l m n. refl;
-  rest = λ x y v lx ly lv o p. refl;
-  size = refl;
-}
+-- ---- the frames
 
-module _ (w : ℕ) (before now after : List ℕ) (i j k ti dj dk : ℕ) (was : Bool) (c : ℕ)
-    (li : i < 16) (lj : j < 16) (lk : k < 16) (i≢j : i ≡ j → ⊥) (j≢k : j ≡ k → ⊥) (k≢i : k ≡ i → ⊥) (lc : c < w)
-    (done : Composed w before now i j k ti dj dk was c) where
+module _ (w : ℕ) (before now : List ℕ) (i j k ti dj dk : ℕ) (was : Bool) (c : ℕ)
+    (li : i < 16) (lj : j < 16) (lk : k < 16) (i≢j : i ≡ j → ⊥) (j≢k : j ≡ k → ⊥) (lc : c < w)
+    (done : Composing w before now i j k ti dj dk was c) where
   -- What is read for value c is as before.
   value-same : composedAt w now i j k ti dj dk was c ≡ composedAt w before i j k ti dj dk was c
   value-same =
       composed-cong w now before i j k ti dj dk was c
-      (done .rest k j c lk lj lc (λ _ q. i≢j (sym q)) (λ q _. k≢i q))
-      (λ b l. done .rest j i b lj li l (λ q _. j≢k q) (λ q _. i≢j (sym q)))
-      (done .left-k c (omega arith) lc)
+      (done .rest k j c lk lj lc (λ _ q _. i≢j (sym q)))
+      (λ b l. done .rest j i b lj li l (λ q _ _. j≢k q))
+      (row-left w before now k i _ c lk li lc done)
 
-  pub composed-more : BothPut w now after k i c (composedAt w now i j k ti dj dk was c) → Composed w before after i j k ti dj dk was (c + 1)
-  composed-more h = rw (add-one c)
-      (record {
-        done-k = λ v l. below-suc c v l
-            (λ q. rw q (h .row ∙ value-same))
-            (λ m. h .rest k i v lk li (omega arith) (λ _ _ q. let x : ⊥ = omega arith in x) (λ q _. k≢i q) ∙ done .done-k v m);
-        left-k = λ v l m.
-            h .rest k i v lk li m (λ _ _ q. let x : ⊥ = omega arith in x) (λ q _. k≢i q) ∙ done .left-k v (omega arith) m;
-        done-i = λ a v l m. below-suc c v m
-            (λ q. rw q (h .column a l ∙ ap (λ (n : ℕ). has n a) value-same))
-            (λ n. h .others a v l (omega arith) (λ q. let x : ⊥ = omega arith in x) ∙ done .done-i a v l n);
-        left-i = λ a v l m n. h .others a v l n (λ q. let x : ⊥ = omega arith in x) ∙ done .left-i a v l (omega arith) n;
-        rest = λ x y v lx ly lv o p. h .rest x y v lx ly lv (λ q r _. o q r) p ∙ done .rest x y v lx ly lv o p;
-        size = h .size ∙ done .size;
-      })
+  pub composing-more : (after : List ℕ) → length before ≡ 16 * 16 * w
+      → after ≡ set now (place w k i c) (composedAt w now i j k ti dj dk was c) → Composing w before after i j k ti dj dk was (c + 1)
+  composing-more after e s = filled-more w before now after k i _ c _ lk li lc e done s value-same
+
+-- All values from k, and then the other side.
+pub composed-both : (w : ℕ) (before now after : List ℕ) (i j k ti dj dk : ℕ) (was : Bool) → i < 16 → k < 16 → (k ≡ i → ⊥)
+    → Composing w before now i j k ti dj dk was w → Mirrored w now after k i → Composed w before after i j k ti dj dk was
+composed-both w before now after i j k ti dj dk was li lk d h m =
+    record {
+      done-k = λ v l. m .rest k i v lk li l (λ q _ _. d q) ∙ h .side v l;
+      done-i = λ a v l n. ap (λ (x : ℕ). has x v) (m .side a l) ∙ has-column w now k i a v n ∙ ap (λ (x : ℕ). has x a) (h .side v n);
+      rest = λ x y v lx ly lv o p. m .rest x y v lx ly lv (λ q r _. p q r) ∙ h .rest x y v lx ly lv (λ q r _. o q r);
+      size = m .size ∙ h .size;
+      words = λ g. m .words (λ a l. column-lt w now k i a) (h .words (λ v l. composed-lt w before i j k ti dj dk was v) g);
+    }

@@ -3,3 +3,4 @@ pub mod Parse
 pub mod RoundTrip
 pub mod SheetOf
 pub mod Builds
+pub mod Places

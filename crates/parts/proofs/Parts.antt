@@ -1,5 +1,5 @@
 -- The tests on the arrays together are the test of soundness: to the facts of a sound network and back.
-use mathlib.Core.Bool.{Bool, true, false}
+use mathlib.Core.Bool.{true}
 use mathlib.Core.List.{List}
 use mathlib.Core.Path.{_≡_, refl, sym, ap, _∙_}
 use Prim.Native.Nat.{ℕ, suc, pred, _^_, _≤_, _<_}
@@ -7,20 +7,21 @@ use native.Mathlib.Omega.{arith}
 use lib.Dec.{eqb, leb, ltb}
 use lib.ListN.{getD}
 use borrow.Author.Tests.{lt-ltb, le-ltb, le-leb, eq-eqb, ne-eqb, ltb-true, ltb-false, leb-true, eqb-true, eqb-false}
-use Rattle.bounded.specs.Bool.{and, implies, not}
-use Rattle.bounded.specs.Fold.{every, some, count}
+use Rattle.bounded.specs.Bool.{and, not}
+use Rattle.bounded.specs.Fold.{count}
 use Rattle.bounded.proofs.Array.{array-past}
 use Rattle.bounded.proofs.Bool.{by-cases, clash, bool-ext, not-true→false, and-i, and-l, and-r, implies-i, implies-e, not-i, not-e, if-true, if-false}
-use Rattle.bounded.proofs.Fold.{every-i, every-e, some-i, some-e, count-cong, count-widen}
+use Rattle.bounded.proofs.Fold.{every-i, every-e, count-cong, count-widen}
 use Rattle.words.specs.Word.{has, word}
 use Rattle.words.proofs.Laws.{has-word, has-below, has-zero, is-word, empty}
 use Rattle.network.specs.Network.{Network, partner}
 use Rattle.network.specs.Sound.{Sound, Bounded, sound, countSound, sizesSound, domainsSound}
 use Rattle.network.proofs.Sound.{sound→Sound, sound-n, sound-size, Sound→sound, leader-n}
-use Rattle.rows.specs.Rows.{rowAt, unionAt, mirroredAt, partnersAt, partnersWithin, allowsOf}
+use Rattle.rows.specs.Rows.{rowAt, mirroredAt, partnersAt, partnersWithin, allowsOf}
+use Rattle.rows.specs.Search.{rowsIn}
 use Rattle.rows.proofs.Array.{member-within, allowed-within}
-use Rattle.rows.proofs.Laws.{allows-row, has-union, union-lt, mirrored-e, mirrored-i}
-use Rattle.parts.specs.Parts.{partsView, Lent, sizeFits, sizesFit, within, domainsFit, statedWith, variableFits, pairsFit, pairFits, sideFits, rowsFit, followerFits, freeOrFits, followersFit, partsFit}
+use Rattle.rows.proofs.Laws.{allows-row, mirrored-e, mirrored-i}
+use Rattle.parts.specs.Parts.{partsView, Lent, sizeFits, sizesFit, within, domainsFit, statedWith, variableFits, pairsFit, againstFits, rowsWithin, sideMirrored, sidesMirrored, rowsFit, followerFits, freeOrFits, followersFit, partsFit}
 
 -- A word within k has its members below k.
 within-e : (x k v : ℕ) → x < 2 ^ 16 → within x k ≡ true → has x v ≡ true → v < k
@@ -72,51 +73,48 @@ module _ (n : ℕ) (sizes domains leaders stated rows : List ℕ) (A : Lent size
       within-e _ _ a (A .domains-lent .element-lt i) (every-e 16 _ h i (member-within 16 16 domains (A .domains-lent) i a d .0)) d
 
   module _ (P : pairsFit n stated ≡ true) where
+    below-e : (i j : ℕ) → has (getD stated i 0) j ≡ true → variableFits n stated i ≡ true
+        → and (within (getD stated i 0) n) (and (not (has (getD stated i 0) i)) (eqb (getD stated i 0) (statedWith stated i))) ≡ true
+    unfolding variableFits
+    below-e i j s t =
+        by-cases (ltb i n)
+        (λ c. sym (if-true _ _ _ c) ∙ t)
+        (λ c. let e : getD stated i 0 ≡ 0 = eqb-true _ _ (sym (if-false _ _ _ c) ∙ t) in clash s (rw e (has-zero j)))
+
     -- What is stated of i: the other is below n and not i, and says the same.
     stated-e : (i j : ℕ) → has (getD stated i 0) j ≡ true → (j < n) × (i ≡ j → ⊥) × (has (getD stated j 0) i ≡ true)
-    unfolding pairsFit variableFits statedWith
+    unfolding pairsFit statedWith
     stated-e i j s =
         let b = member-within 16 16 stated (A .stated-lent) i j s in
-        let t = every-e 16 _ P i (b .0) in
+        let t = below-e i j s (every-e 16 _ P i (b .0)) in
         let rest = and-r _ _ t in (
           within-e _ _ j (A .stated-lent .element-lt i) (and-l _ _ t) s,
           (λ e. clash (rw (← e) at s) (not-e _ (and-l _ _ rest))),
           sym (has-word 16 _ j (b .1)) ∙ ap (λ (x : ℕ). has x j) (sym (eqb-true _ _ (and-r _ _ rest))) ∙ s,
         )
 
-    module _ (R : rowsFit sizes stated rows ≡ true) where
-      pair-e : (i j : ℕ) → i < 16 → j < 16 → pairFits rows i j (has (getD stated i 0) j) (getD sizes j 0) ≡ true
-      unfolding rowsFit sideFits
-      pair-e i j li lj = every-e 16 _ (every-e 16 _ R i li) j lj
-
-      union-e : (i j a b : ℕ) → a < 16 → b < 16 → has (rowAt 16 rows i j a) b ≡ true → has (unionAt 16 rows i j) b ≡ true
-      union-e i j a b la lb h = has-union 16 rows i j b lb ∙ some-i 16 _ a la h
-
+    module _ (R : rowsFit n sizes stated rows ≡ true) where
       -- What a pair allows: it is stated, and within the size of j.
       row-e : (i j a b : ℕ) → i < 16 → j < 16 → a < 16 → b < 16 → has (rowAt 16 rows i j a) b ≡ true
           → (has (getD stated i 0) j ≡ true) × (b < getD sizes j 0)
-      unfolding pairFits
+      unfolding rowsFit rowsWithin againstFits rowsIn
       row-e i j a b li lj la lb h =
-          by-cases (has (getD stated i 0) j)
-          (λ s. (
-            s,
-            within-e _ _ b (union-lt 16 rows i j) (and-l _ _ (sym (if-true _ _ _ s) ∙ pair-e i j li lj)) (union-e i j a b la lb h),
-          ))
-          (λ s. let e : unionAt 16 rows i j ≡ 0 = eqb-true _ _ (sym (if-false _ _ _ s) ∙ pair-e i j li lj) in
-          clash (union-e i j a b la lb h) (rw e (has-zero b)))
+          let side = every-e 16 _ (every-e 16 _ (and-l _ _ R) j lj) i li in
+          let t = implies-e _ _ (every-e 16 _ (every-e 16 _ side a la) b lb) h in
+          (stated-e j i (and-l _ _ t) .2, ltb-true _ _ (and-r _ _ t))
 
-      -- The two sides of a stated pair say the same: the lower one was compared.
-      lower-e : (i j : ℕ) → i < 16 → j < 16 → has (getD stated i 0) j ≡ true → i < j → mirroredAt 16 rows i j ≡ true
-      unfolding pairFits
-      lower-e i j li lj s l = implies-e _ _ (and-r _ _ (sym (if-true _ _ _ s) ∙ pair-e i j li lj)) (lt-ltb i j l)
+      -- The two sides of a stated pair say the same: the higher one was compared.
+      higher-e : (i j : ℕ) → has (getD stated i 0) j ≡ true → j < i → mirroredAt 16 rows i j ≡ true
+      unfolding rowsFit sidesMirrored sideMirrored
+      higher-e i j s l = implies-e _ _ (every-e i _ (every-e n _ (and-r _ _ R) i (stated-e j i (stated-e i j s .2) .0)) j l) s
 
       other-e : (i j a b : ℕ) → i < 16 → j < 16 → a < 16 → b < 16 → has (rowAt 16 rows i j a) b ≡ true → has (rowAt 16 rows j i b) a ≡ true
       other-e i j a b li lj la lb h =
           let s = row-e i j a b li lj la lb h .0 in
           let t = stated-e i j s in
-          by-cases (ltb i j)
-          (λ c. sym (mirrored-e 16 rows i j (lower-e i j li lj s (ltb-true i j c)) a b la lb) ∙ h)
-          (λ c. mirrored-e 16 rows j i (lower-e j i lj li (t .2) (let d : i ≡ j → ⊥ = t .1 in omega (arith, ltb-false i j c))) b a lb la ∙ h)
+          by-cases (ltb j i)
+          (λ c. sym (mirrored-e 16 rows i j (higher-e i j s (ltb-true j i c)) a b la lb) ∙ h)
+          (λ c. mirrored-e 16 rows j i (higher-e j i (t .2) (let d : i ≡ j → ⊥ = t .1 in omega (arith, ltb-false j i c))) b a lb la ∙ h)
 
       allowed-e : (i j a b : ℕ) → allowsOf 16 rows i j a b ≡ true
           → (has (getD stated i 0) j ≡ true) × (a < getD sizes i 0) × (b < getD sizes j 0) × (allowsOf 16 rows j i b a ≡ true)
@@ -224,31 +222,29 @@ module _ (n : ℕ) (sizes domains leaders stated rows : List ℕ) (A : Lent size
   module _ (S : Sound (partsView n sizes domains leaders stated rows)) where
     pairs-i : pairsFit n stated ≡ true
     unfolding pairsFit variableFits statedWith partsView
-    pairs-i = every-i 16 _ λ i _.
-        and-i _ _ (within-i _ _ (λ v m. S .stated-in i v m .1))
-        (and-i _ _ (not-i _ (S .no-self i)) (eq-eqb _ _ (is-word 16 _ _ (A .stated-lent .element-lt i) (λ j _. S .stated-sym i j))))
+    pairs-i = every-i 16 _ λ i _. by-cases (ltb i n)
+        (λ c. if-true _ _ _ c
+        ∙ and-i _ _ (within-i _ _ (λ v m. S .stated-in i v m .1))
+        (and-i _ _ (not-i _ (S .no-self i)) (eq-eqb _ _ (is-word 16 _ _ (A .stated-lent .element-lt i) (λ j _. S .stated-sym i j)))))
+        (λ c. if-false _ _ _ c
+        ∙ eq-eqb _ _ (empty 16 _ (A .stated-lent .element-lt i)
+        (λ v _. not-true→false _ (λ m. let x : ⊥ = omega (arith, ltb-false i n c, S .stated-in i v m) in x))))
 
-    -- A member of the union of a pair is allowed with some value.
-    member-e : {T : Type 0} (i j b : ℕ) → j < 16 → has (unionAt 16 rows i j) b ≡ true → ((a : ℕ) → allowsOf 16 rows i j a b ≡ true → T) → T
-    member-e i j b lj m f =
-        some-e 16 _ (sym (has-union 16 rows i j b (has-below 16 _ b m (union-lt 16 rows i j))) ∙ m)
-        (λ a la h. f a (allows-row 16 rows i j a b lj la ∙ h))
+    within-rows : rowsWithin sizes stated rows ≡ true
+    unfolding rowsWithin againstFits rowsIn partsView
+    within-rows = every-i 16 _ λ j lj. every-i 16 _ λ i _. every-i 16 _ λ a la. every-i 16 _ λ b _. implies-i _ _ λ h.
+        let t : allowsOf 16 rows i j a b ≡ true = allows-row 16 rows i j a b lj la ∙ h in
+        and-i _ _ (sym (S .stated-sym i j) ∙ S .allows-stated i j a b t) (lt-ltb _ _ (S .allows-in i j a b t .1))
 
-    pair-i : (i j : ℕ) → i < 16 → j < 16 → pairFits rows i j (has (getD stated i 0) j) (getD sizes j 0) ≡ true
-    unfolding pairFits partsView
-    pair-i i j li lj =
-        by-cases (has (getD stated i 0) j)
-        (λ s. if-true _ _ _ s
-        ∙ and-i _ _ (within-i _ _ (λ b m. member-e i j b lj m (λ a h. S .allows-in i j a b h .1)))
-        (implies-i _ _ (λ _. mirrored-i 16 rows i j (A .rows-lent .element-lt)
-        (λ a b la lb. sym (allows-row 16 rows i j a b lj la) ∙ S .allows-sym i j a b ∙ allows-row 16 rows j i b a li lb))))
-        (λ s. if-false _ _ _ s
-        ∙ eq-eqb _ _ (empty 16 _ (union-lt 16 rows i j) (λ b _. not-true→false _
-        (λ m. member-e i j b lj m (λ a h. clash (S .allows-stated i j a b h) s)))))
+    same-sides : n ≤ 16 → sidesMirrored n stated rows ≡ true
+    unfolding sidesMirrored sideMirrored partsView
+    same-sides m = every-i n _ λ i li. every-i i _ λ j lj. implies-i _ _ λ _.
+        mirrored-i 16 rows i j (A .rows-lent .element-lt)
+        (λ a b la lb. sym (allows-row 16 rows i j a b (omega arith) la) ∙ S .allows-sym i j a b ∙ allows-row 16 rows j i b a (omega arith) lb)
 
-    rows-i : rowsFit sizes stated rows ≡ true
-    unfolding rowsFit sideFits
-    rows-i = every-i 16 _ λ i li. every-i 16 _ λ j lj. pair-i i j li lj
+    rows-i : n ≤ 16 → rowsFit n sizes stated rows ≡ true
+    unfolding rowsFit
+    rows-i m = and-i _ _ within-rows (same-sides m)
 
     follower-i : (i l : ℕ) → i < 16 → getD sizes i 0 ≤ 16 → getD leaders i 0 ≡ suc l → followerFits n domains leaders stated rows i l ≡ true
     unfolding followerFits partnersWithin partsView
@@ -278,7 +274,7 @@ module _ (n : ℕ) (sizes domains leaders stated rows : List ℕ) (A : Lent size
       (and-i _ _ (and-r _ _ (and-l _ _ t))
       (and-i _ _ (and-l _ _ h)
       (and-i _ _ (and-l _ _ (and-r _ _ h))
-      (and-i _ _ (pairs-i S) (and-i _ _ (rows-i S) (followers-i S (sound-size 16 16 N parts-bounded t)))))))
+      (and-i _ _ (pairs-i S) (and-i _ _ (rows-i S (leb-true _ _ (and-r _ _ (and-l _ _ t)))) (followers-i S (sound-size 16 16 N parts-bounded t)))))))
 
   -- The whole test of the arrays is that of the network.
   pub parts-sound : partsFit n sizes domains leaders stated rows ≡ sound 16 16 (partsView n sizes domains leaders stated rows)

@@ -1,17 +1,19 @@
 -- What each way through a test of soundness says of its definition, in the order of the code.
 use mathlib.Core.Bool.{Bool, true, false}
 use mathlib.Core.List.{List}
-use mathlib.Core.Path.{_≡_, refl, sym, ap, _∙_}
-use Prim.Native.Nat.{ℕ, pred, _≤_, _<_}
+use mathlib.Core.Path.{_≡_, sym, ap, _∙_}
+use Prim.Native.Nat.{ℕ, pred, _+_, _-_, _*_, _^_, _≤_, _<_}
 use native.Mathlib.Omega.{arith}
 use lib.Dec.{eqb, leb, ltb}
 use lib.ListN.{getD}
 use borrow.Author.Tests.{lt-ltb, le-ltb, lt-leb, le-leb, eq-eqb, ne-eqb}
-use Rattle.bounded.specs.Bool.{and, implies, not, if}
+use Rattle.bounded.specs.Bool.{and, not}
 use Rattle.bounded.proofs.Bool.{not-i, not-false-i, implies-true, implies-false, true-and, false-and, if-true, if-false}
 use Rattle.words.specs.Word.{has, word}
-use Rattle.rows.specs.Rows.{unionAt, mirroredAt, partnersWithin}
-use Rattle.parts.specs.Parts.{sizeFits, within, statedWith, variableFits, pairFits, followerFits, freeOrFits}
+use Rattle.words.proofs.Laws.{has-word, has-complement, has-full}
+use Rattle.rows.specs.Rows.{partnersWithin}
+use Rattle.rows.specs.Search.{Bars}
+use Rattle.parts.specs.Parts.{sizeFits, within, statedWith, variableFits, followerFits, freeOrFits}
 
 -- A test joined to one that failed fails, and one joined to a test that held counts alone.
 pub and-fails : (a b : Bool) → a ≡ false → and a b ≡ false
@@ -42,37 +44,37 @@ module _ (n i size : ℕ) where
 -- ---- the stated pairs of a variable
 
 module _ (n : ℕ) (stated : List ℕ) (i : ℕ) where
-  pub variable-past : within (getD stated i 0) n ≡ false → false ≡ variableFits n stated i
+  pub variable-past : n ≤ i → eqb (getD stated i 0) 0 ≡ variableFits n stated i
   unfolding variableFits
-  variable-past h = sym (and-fails _ _ h)
+  variable-past l = sym (if-false _ _ _ (le-ltb i n l))
 
-  pub variable-self : within (getD stated i 0) n ≡ true → has (getD stated i 0) i ≡ true → false ≡ variableFits n stated i
+  pub variable-high : i < n → within (getD stated i 0) n ≡ false → false ≡ variableFits n stated i
   unfolding variableFits
-  variable-self h k = sym (and-holds _ _ h ∙ and-fails _ _ (not-false-i _ k))
+  variable-high l h = sym (if-true _ _ _ (lt-ltb i n l) ∙ and-fails _ _ h)
 
-  pub variable-told : within (getD stated i 0) n ≡ true → has (getD stated i 0) i ≡ false
+  pub variable-self : i < n → within (getD stated i 0) n ≡ true → has (getD stated i 0) i ≡ true → false ≡ variableFits n stated i
+  unfolding variableFits
+  variable-self l h k = sym (if-true _ _ _ (lt-ltb i n l) ∙ and-holds _ _ h ∙ and-fails _ _ (not-false-i _ k))
+
+  pub variable-told : i < n → within (getD stated i 0) n ≡ true → has (getD stated i 0) i ≡ false
       → eqb (getD stated i 0) (statedWith stated i) ≡ variableFits n stated i
   unfolding variableFits
-  variable-told h k = sym (and-holds _ _ h ∙ and-holds _ _ (not-i _ k))
+  variable-told l h k = sym (if-true _ _ _ (lt-ltb i n l) ∙ and-holds _ _ h ∙ and-holds _ _ (not-i _ k))
 
--- ---- the rows of a pair; its union is at hand as a number
+-- ---- the digits that a row may not have
 
-module _ (rows : List ℕ) (i j : ℕ) (stated : Bool) (size members : ℕ) (joint : members ≡ unionAt 16 rows i j) where
-  pub pair-unstated : stated ≡ false → eqb members 0 ≡ pairFits rows i j stated size
-  unfolding pairFits
-  pair-unstated s = rw joint (sym (if-false _ _ _ s))
+pub bars-full : (x k r : ℕ) → x < 2 ^ 16 → x ≡ word 16 (λ (u : ℕ). ltb u k)
+    → ((q v : ℕ) → q < 4 → v < 16 → has r (16 * q + v) ≡ has (2 ^ 16 - 1 - x) v) → Bars (λ (v : ℕ). ltb v k) r
+bars-full x k r l e h =
+    record { bar = λ q v lq lv. h q v lq lv ∙ has-complement 16 x v l lv ∙ ap not (ap (λ (n : ℕ). has n v) e ∙ has-word 16 _ v lv) }
 
-  pub pair-outside : stated ≡ true → within members size ≡ false → false ≡ pairFits rows i j stated size
-  unfolding pairFits
-  pair-outside s h = sym (if-true _ _ _ s ∙ and-fails _ _ (rw joint at h))
+module _ (stated : Bool) (p : ℕ → Bool) where
+  pub bars-stated : stated ≡ true → (x : ℕ) → Bars p x → Bars (λ (v : ℕ). and stated (p v)) x
+  bars-stated s x B = record { bar = λ q v lq lv. B .bar q v lq lv ∙ ap not (sym (and-holds _ _ s)) }
 
-  pub pair-higher : stated ≡ true → within members size ≡ true → j ≤ i → true ≡ pairFits rows i j stated size
-  unfolding pairFits
-  pair-higher s h l = sym (if-true _ _ _ s ∙ and-holds _ _ (rw joint at h) ∙ implies-false _ _ (le-ltb i j l))
-
-  pub pair-lower : stated ≡ true → within members size ≡ true → i < j → mirroredAt 16 rows i j ≡ pairFits rows i j stated size
-  unfolding pairFits
-  pair-lower s h l = sym (if-true _ _ _ s ∙ and-holds _ _ (rw joint at h) ∙ implies-true _ _ (lt-ltb i j l))
+  pub bars-unstated : stated ≡ false → Bars (λ (v : ℕ). and stated (p v)) (2 ^ 64 - 1)
+  bars-unstated s =
+      record { bar = λ q v lq lv. has-full 64 (16 * q + v) ∙ lt-ltb (16 * q + v) 64 (omega arith) ∙ sym (not-i _ (and-fails _ _ s)) }
 
 -- ---- a follower
 

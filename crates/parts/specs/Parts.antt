@@ -9,7 +9,8 @@ use Rattle.bounded.specs.Fold.{every}
 use Rattle.bounded.proofs.Array.{Array}
 use Rattle.words.specs.Word.{has, word}
 use Rattle.network.specs.Network.{Network}
-use Rattle.rows.specs.Rows.{allowsOf, unionAt, mirroredAt, partnersWithin}
+use Rattle.rows.specs.Rows.{allowsOf, mirroredAt, partnersWithin}
+use Rattle.rows.specs.Search.{rowsIn}
 
 -- The network that they hold; `view s` is that of the parts of s.
 unfoldable pub partsView : ℕ → List ℕ → List ℕ → List ℕ → List ℕ → List ℕ → Network
@@ -50,27 +51,33 @@ domainsFit sizes domains = every 16 (λ (i : ℕ). within (getD domains i 0) (ge
 unfoldable pub statedWith : List ℕ → ℕ → ℕ
 statedWith stated i = word 16 (λ (j : ℕ). has (getD stated j 0) i)
 
--- The pairs of i lie below n, "no option is paired with itself", and the others say the same of i. So nothing is stated past n.
+-- The pairs of i lie below n, "no option is paired with itself", and the others say the same of i. Past n there is none.
 unfoldable pub variableFits : ℕ → List ℕ → ℕ → Bool
 variableFits n stated i =
-    and (within (getD stated i 0) n) (and (not (has (getD stated i 0) i)) (eqb (getD stated i 0) (statedWith stated i)))
+    if (ltb i n)
+    (and (within (getD stated i 0) n) (and (not (has (getD stated i 0) i)) (eqb (getD stated i 0) (statedWith stated i))))
+    (eqb (getD stated i 0) 0)
 
 unfoldable pub pairsFit : ℕ → List ℕ → Bool
 pairsFit n stated = every 16 (variableFits n stated)
 
--- The rows of i against j: of a stated pair they lie within the size of j, and what j says is compared once, from the lower side;
--- "unstated pairs allow nothing".
-unfoldable pub pairFits : List ℕ → ℕ → ℕ → Bool → ℕ → Bool
-pairFits rows i j stated size =
-    if stated
-    (and (within (unionAt 16 rows i j) size) (implies (ltb i j) (mirroredAt 16 rows i j)))
-    (eqb (unionAt 16 rows i j) 0)
+-- The rows of every variable against j: what they allow is a pair that the word of j states, and lies within the size of j.
+-- "rows lie within sizes", "unstated pairs allow nothing"
+unfoldable pub againstFits : List ℕ → ℕ → ℕ → (ℕ → Bool) → Bool
+againstFits rows stated j below = every 16 (λ (i : ℕ). rowsIn 16 rows i j (λ (v : ℕ). and (has stated i) (below v)))
 
-unfoldable pub sideFits : List ℕ → List ℕ → ℕ → ℕ → Bool
-sideFits sizes rows stated i = every 16 (λ (j : ℕ). pairFits rows i j (has stated j) (getD sizes j 0))
+unfoldable pub rowsWithin : List ℕ → List ℕ → List ℕ → Bool
+rowsWithin sizes stated rows = every 16 (λ (j : ℕ). againstFits rows (getD stated j 0) j (λ (v : ℕ). ltb v (getD sizes j 0)))
 
-unfoldable pub rowsFit : List ℕ → List ℕ → List ℕ → Bool
-rowsFit sizes stated rows = every 16 (λ (i : ℕ). sideFits sizes rows (getD stated i 0) i)
+-- "a pair seen from its two options says the same": a stated pair is compared once, from its higher side.
+unfoldable pub sideMirrored : List ℕ → ℕ → ℕ → Bool
+sideMirrored rows stated i = every i (λ (j : ℕ). implies (has stated j) (mirroredAt 16 rows i j))
+
+unfoldable pub sidesMirrored : ℕ → List ℕ → List ℕ → Bool
+sidesMirrored n stated rows = every n (λ (i : ℕ). sideMirrored rows (getD stated i 0) i)
+
+unfoldable pub rowsFit : ℕ → List ℕ → List ℕ → List ℕ → Bool
+rowsFit n sizes stated rows = and (rowsWithin sizes stated rows) (sidesMirrored n stated rows)
 
 module _ (n : ℕ) (domains leaders stated rows : List ℕ) where
   -- i follows l: l lies below n, "a leader is a live option", "a follower is stated with its leader and with no other option", and "each
@@ -95,4 +102,4 @@ partsFit n sizes domains leaders stated rows =
     (and (leb n 16)
     (and (sizesFit n sizes)
     (and (domainsFit sizes domains)
-    (and (pairsFit n stated) (and (rowsFit sizes stated rows) (followersFit n domains leaders stated rows))))))
+    (and (pairsFit n stated) (and (rowsFit n sizes stated rows) (followersFit n domains leaders stated rows))))))

@@ -3,6 +3,7 @@ use mathlib.Core.List.{List}
 use mathlib.Core.Path.{_≡_, refl, sym, _∙_, ap, ap₂}
 use Prim.Native.Nat.{ℕ, _≤_, _<_}
 use native.Mathlib.Omega.{arith}
+use lib.ListN.{getD}
 use Rattle.cause.specs.declared.Cause.{Cause}
 use Rattle.cause.specs.declared.Cause.the-variants.{Length, Version, VariableCount, Size, ConstraintCount, CutOff, LeftOver, PairRange, PairOrder, PairRepeated, RowRange, Unsound, VariableNumber, SameVariable, NotFree, NotStated, NotFunctional, SolutionLength, ValueRange, ValuesForbidden, BufferLength, NotFresh}
 use Rattle.cause.specs.Number.{numberOf}
@@ -10,9 +11,13 @@ use Rattle.sheet.specs.declared.answers.CutAnswer.{CutAnswer}
 use Rattle.sheet.specs.declared.answers.ReadOutcome.{ReadOutcome}
 use Rattle.sheet.specs.declared.answers.ReadOutcome.the-variants.{Accepted, Refused}
 use Rattle.sheet.specs.Answers.{readNumber, readPlace, verdictTold}
-use Rattle.sheet.specs.Cut.{cutTold}
+use Rattle.sheet.specs.declared.answers.Verdict.{Verdict}
+use Rattle.sheet.specs.declared.answers.Verdict.the-variants as verdict
+use Rattle.sheet.specs.Cut.{cutTold, cutSheet}
+use Rattle.sheet.proofs.Cuts.{Small, cut-small}
 use Rattle.report.specs.Text.{refusedText, textAs}
 use Rattle.report.specs.Parts.{cutLines}
+use Rattle.report.specs.Printed.{Printable, buildOf}
 use Rattle.report.proofs.Fits.{text-accepted, text-refused}
 
 -- The numbers of causes are 1 to 18.
@@ -50,3 +55,30 @@ pub refused-text : (a : CutAnswer) {c : Cause} {at number place : ℕ} → a .ou
 unfolding cutTold readNumber
 refused-text a {c} e n p =
     text-refused (cutTold a) (λ z. omega (arith, number-range c, sym z ∙ ap readNumber e)) ∙ ap₂ refusedText (sym n) (sym p)
+
+number-small : (o : ReadOutcome) → readNumber o < 100
+unfolding readNumber
+number-small Accepted = omega arith
+number-small (Refused c at) = omega (arith, number-range c)
+
+build-of : (v : Verdict) (build : List ℕ) → buildOf (verdictTold v build) ≡ build
+unfolding buildOf verdictTold
+build-of verdict.None build = refl
+build-of verdict.Built build = refl
+build-of verdict.Open build = refl
+build-of (verdict.Refused c) build = refl
+
+-- The answer for the bytes of a sheet can be printed, whatever they are.
+pub printable-answer : (bytes : List ℕ) → ((k : ℕ) → getD bytes k 0 < 256) → (a : CutAnswer) → cutTold a ≡ cutSheet bytes
+    → ((k : ℕ) → getD (a .state .leaders) k 0 < 256) → ((k : ℕ) → getD (a .solution) k 0 < 256) → Printable (cutTold a)
+unfolding cutTold
+printable-answer bytes octets a e leaders values =
+    let small : Small (cutTold a) = rw e (cut-small bytes octets) in
+    record {
+      number-lt = number-small (a .outcome);
+      place-le = small .place-small;
+      options-le = small .n-small;
+      steps-lt = small .steps-small;
+      leaders-lt = leaders;
+      values-lt = λ k. rw (build-of (a .verdict) (a .solution)) (values k);
+    }

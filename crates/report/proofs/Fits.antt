@@ -6,6 +6,7 @@ use Prim.Native.Nat.{ℕ, zero, suc, _+_, _-_, _*_, _≤_, _<_}
 use native.Mathlib.Omega.{arith}
 use lib.Dec.{eqb}
 use lib.ListN.{length, getD, take, drop, replicate, length-append, length-replicate}
+use lib.Seq.{take-at}
 use borrow.Author.Tests.{eq-eqb, ne-eqb, eqb-true, eqb-false}
 use Rattle.bounded.proofs.Bool.{by-cases, if-true, if-false}
 use Rattle.buffers.specs.Digits.{decimal, hex4}
@@ -122,3 +123,11 @@ pub printed : (size : ℕ) {text bytes : List ℕ} {n : ℕ} → Wrote (replicat
 printed size {text} {bytes} {n} w =
     let e : n ≡ length text = omega arith in
     record { ends = e; holds = w .holds ∙ rw (drop-replicate n size 0, e) }
+
+-- A printed text lies within its array, and is what stands at its start.
+module _ {size : ℕ} {text bytes : List ℕ} {n : ℕ} (p : Printed size text bytes n) where
+  pub printed-within : n ≤ length bytes
+  printed-within = omega (arith, p .ends, ap length (p .holds) ∙ length-append text (replicate (size - length text) 0))
+
+  pub printed-text : take n bytes ≡ text
+  printed-text = ap (take n) (p .holds) ∙ take-at text (replicate (size - length text) 0) n (sym (p .ends))

@@ -3,3 +3,4 @@ mod parts;
 mod text;
 
 pub use text::Text;
+pub use text::report;

@@ -2,12 +2,13 @@
 ghost use mathlib.Core.Path.{_≡_};
 ghost use Rattle.sheet.specs.Answers.{readNumber, readPlace};
 ghost use Rattle.sheet.specs.Cut.{cutTold};
-ghost use Rattle.report.specs.Text.{textAs};
+ghost use Rattle.report.specs.Text.{textAs, textOf};
 ghost use Rattle.report.specs.Printed.{Printed, Printable};
 use crate::parts::put_cut;
 use crate::parts::put_refusal;
 use sheet::CutAnswer;
 use sheet::ReadOutcome;
+use sheet::cut;
 
 pub struct Text {
     // The text, and zeros past it.
@@ -61,4 +62,11 @@ pub(crate) fn written(answer: CutAnswer) -> Text
         &solution,
     );
     Text { bytes, length }
+}
+
+// What sheetcut prints for the bytes on its standard input, of any length and contents.
+pub fn report(bytes: &[u8]) -> Text
+    ensures { λ r. ⌜ Printed 512 (textOf (now (bytes .entry))) (r .bytes) (r .length) ⌝ }
+{
+    written(cut(bytes))
 }

@@ -10,13 +10,12 @@ use lib.ListN.{length, getD, set}
 use lib.Seq.{ext-getD, getD-set-same, getD-set-other}
 use borrow.Author.Tests.{ltb-true, ltb-false, lt-ltb, leb-true, le-leb, eq-eqb, eqb-true}
 use Rattle.bounded.specs.Bool.{and, if}
-use Rattle.bounded.specs.Fold.{some}
 use Rattle.bounded.proofs.Bool.{by-cases, clash, bool-ext, and-i, and-l, and-r, true-and, implies-i, implies-e, if-true, if-false}
 use Rattle.bounded.proofs.Fold.{every-i, every-e}
 use Rattle.bounded.proofs.Table.{getD-tabulate, getD-tabulate-past, is-table}
 use Rattle.words.specs.Word.{has, word}
 use Rattle.words.proofs.Laws.{has-word, has-below, has-zero, word-lt, is-word, same-members}
-use Rattle.rows.specs.Rows.{place, rowAt, columnAt, unionAt, mirroredAt, partnersAt, partnersWithin, allowsOf, rowsOf}
+use Rattle.rows.specs.Rows.{place, rowAt, columnAt, mirroredAt, partnersAt, partnersWithin, allowsOf, rowsOf}
 
 -- ---- the place of a row
 
@@ -112,14 +111,20 @@ module _ (w : ℕ) (p : ℕ → ℕ → ℕ → ℕ → Bool) (bounds : (i j a b
       (λ t. let l = bounds i j a b t in
       allows-row w (rowsOf w p) i j a b (l .1) (l .2) ∙ rw (rowAt-rule w p i j a (l .0) (l .1) (l .2)) (has-word w (p i j a) b (l .3) ∙ t))
 
--- An array of words of w digits is the array of the rule that it holds.
-pub rows-allows : (w : ℕ) (rows : List ℕ) → length rows ≡ 16 * 16 * w → ((k : ℕ) → getD rows k 0 < 2 ^ w) → rowsOf w (allowsOf w rows) ≡ rows
+-- An array of words of w digits whose rows have what a rule allows is the array of the rule.
+pub rows-rule : (w : ℕ) (p : ℕ → ℕ → ℕ → ℕ → Bool) (rows : List ℕ) → length rows ≡ 16 * 16 * w → ((k : ℕ) → getD rows k 0 < 2 ^ w)
+    → ((i j a b : ℕ) → i < 16 → j < 16 → a < w → b < w → has (rowAt w rows i j a) b ≡ p i j a b)
+    → rows ≡ rowsOf w p
 unfolding rowsOf rowAt
-rows-allows w rows e f =
-    sym (is-table (16 * 16 * w) _ rows 0 e
-    (every-place w (λ (k : ℕ). getD rows k 0 ≡ word w (allowsOf w rows (k / w / 16) (k / w % 16) (k % w)))
+rows-rule w p rows e f allowed =
+    is-table (16 * 16 * w) _ rows 0 e
+    (every-place w (λ (k : ℕ). getD rows k 0 ≡ word w (p (k / w / 16) (k / w % 16) (k % w)))
     (λ i j a l m h. rw (place-first w i j a m h, place-second w i j a m h, place-value w i j a h)
-    (is-word w _ _ (f (place w i j a)) (λ v k. sym (allows-row w rows i j a v m h))))))
+    (is-word w _ _ (f (place w i j a)) (λ b k. allowed i j a b l m h k))))
+
+-- So an array of such words is the array of the rule that it holds.
+pub rows-allows : (w : ℕ) (rows : List ℕ) → length rows ≡ 16 * 16 * w → ((k : ℕ) → getD rows k 0 < 2 ^ w) → rowsOf w (allowsOf w rows) ≡ rows
+rows-allows w rows e f = sym (rows-rule w (allowsOf w rows) rows e f (λ i j a b l m h k. sym (allows-row w rows i j a b m h)))
 
 -- ---- the rows of a pair together
 
@@ -131,14 +136,6 @@ pub has-column : (w : ℕ) (rows : List ℕ) (i j b a : ℕ) → a < w → has (
 unfolding columnAt
 has-column w rows i j b a h = has-word w _ a h
 
-pub union-lt : (w : ℕ) (rows : List ℕ) (i j : ℕ) → unionAt w rows i j < 2 ^ w
-unfolding unionAt
-union-lt w rows i j = word-lt w _
-
-pub has-union : (w : ℕ) (rows : List ℕ) (i j b : ℕ) → b < w → has (unionAt w rows i j) b ≡ some w (λ (a : ℕ). has (rowAt w rows i j a) b)
-unfolding unionAt
-has-union w rows i j b h = has-word w _ b h
-
 -- A mirrored pair says the same from its two sides.
 pub mirrored-e : (w : ℕ) (rows : List ℕ) (i j : ℕ) → mirroredAt w rows i j ≡ true
     → (a b : ℕ) → a < w → b < w → has (rowAt w rows i j a) b ≡ has (rowAt w rows j i b) a
@@ -147,13 +144,19 @@ mirrored-e w rows i j t a b h k =
     sym (has-column w rows i j b a h) ∙ ap (λ (n : ℕ). has n a) (eqb-true _ _ (every-e w _ t b k))
 
 -- A pair of words of w digits that says so is mirrored.
+pub mirrored-rows : (w : ℕ) (rows : List ℕ) (i j : ℕ) → ((b : ℕ) → b < w → rowAt w rows j i b < 2 ^ w)
+    → ((a b : ℕ) → a < w → b < w → has (rowAt w rows i j a) b ≡ has (rowAt w rows j i b) a)
+    → mirroredAt w rows i j ≡ true
+unfolding mirroredAt
+mirrored-rows w rows i j f h =
+    every-i w _ (λ b k. eq-eqb _ _
+    (same-members w _ _ (column-lt w rows i j b) (f b k) (λ a l. has-column w rows i j b a l ∙ h a b l k)))
+
 pub mirrored-i : (w : ℕ) (rows : List ℕ) (i j : ℕ) → ((k : ℕ) → getD rows k 0 < 2 ^ w)
     → ((a b : ℕ) → a < w → b < w → has (rowAt w rows i j a) b ≡ has (rowAt w rows j i b) a)
     → mirroredAt w rows i j ≡ true
-unfolding mirroredAt rowAt
-mirrored-i w rows i j f h =
-    every-i w _ (λ b k. eq-eqb _ _
-    (same-members w _ _ (column-lt w rows i j b) (f (place w j i b)) (λ a l. has-column w rows i j b a l ∙ h a b l k)))
+unfolding rowAt
+mirrored-i w rows i j f h = mirrored-rows w rows i j (λ b l. f (place w j i b)) h
 
 -- The values of a list have partners within bounds exactly when each of them has.
 pub partners-e : (w : ℕ) (rows : List ℕ) (i j di dj least most : ℕ) → partnersWithin w rows i j di dj least most ≡ true

@@ -1,5 +1,9 @@
 pub mod Array
 pub mod Laws
+pub mod Digits
+pub mod Stages
+pub mod Sides
 pub mod Loops
 pub mod Partners
 pub mod Frames
+pub mod Search

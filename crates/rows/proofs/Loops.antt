@@ -12,7 +12,7 @@ use Rattle.bounded.specs.Bool.{and, or, not, bit, if}
 use Rattle.bounded.specs.Fold.{every, some}
 use Rattle.bounded.proofs.Bool.{bit-le, and-true, and-false}
 use Rattle.words.specs.Word.{has, word}
-use Rattle.words.proofs.Laws.{empty, has-and, has-digit, has-one, has-or, has-word, has-zero, word-has, word-lt, word-suc, word-zero, is-word}
+use Rattle.words.proofs.Laws.{empty, has-and, has-complement, has-digit, has-one, has-or, has-word, has-zero, word-has, word-lt, word-suc, word-zero, is-word}
 
 -- ---- digits
 
@@ -44,22 +44,6 @@ has-chosen x d b v = rw (digit-of d b) (has-times x v (has d b))
 
 pub chosen-lt : (m x d b : ℕ) → x < m → x * bitAnd (d / 2 ^ b) 1 < m
 chosen-lt m x d b l = rw (digit-of d b) (omega (arith, mul-le-mul-left x (bit-le (has d b))))
-
-bit-not : (t : Bool) → bit (not t) + bit t ≡ 1
-unfolding bit not
-bit-not true = refl
-bit-not false = refl
-
-complement-word : (w : ℕ) (p : ℕ → Bool) → suc (word w (λ (v : ℕ). not (p v)) + word w p) ≡ 2 ^ w
-complement-word zero p = rw (word-zero p, word-zero (λ (v : ℕ). not (p v)))
-complement-word (suc w) p =
-    omega (arith, word-suc w p, word-suc w (λ (v : ℕ). not (p v)), complement-word w p, ap (λ (n : ℕ). n * 2 ^ w) (bit-not (p w)))
-
--- `!` has the values that a word lacks.
-pub has-complement : (w x v : ℕ) → x < 2 ^ w → v < w → has (2 ^ w - 1 - x) v ≡ not (has x v)
-has-complement w x v h l =
-    let e : 2 ^ w - 1 - x ≡ word w (λ (u : ℕ). not (has x u)) = omega (arith, complement-word w (has x), word-has w x h) in
-    rw e (has-word w _ v l)
 
 or-turned : (a b : Bool) → or a b ≡ or b a
 unfolding or

@@ -21,10 +21,6 @@ rowAt w rows i j a = getD rows (place w i j a) 0
 unfoldable pub columnAt : ℕ → List ℕ → ℕ → ℕ → ℕ → ℕ
 columnAt w rows i j b = word w (λ (a : ℕ). has (rowAt w rows i j a) b)
 
--- The values of j that go with some value of i.
-unfoldable pub unionAt : ℕ → List ℕ → ℕ → ℕ → ℕ
-unionAt w rows i j = word w (λ (b : ℕ). some w (λ (a : ℕ). has (rowAt w rows i j a) b))
-
 -- Each column of i against j is the row of j against i: "a pair seen from its two options says the same".
 unfoldable pub mirroredAt : ℕ → List ℕ → ℕ → ℕ → Bool
 mirroredAt w rows i j = every w (λ (b : ℕ). eqb (columnAt w rows i j b) (rowAt w rows j i b))

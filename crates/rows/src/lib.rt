@@ -1,8 +1,17 @@
 // The flat array of rows, on lent arrays and numbers.
+mod blocks;
+mod strays;
+
+use blocks::block_at;
+use blocks::put_block;
+use blocks::same;
+use blocks::transposed;
+pub use strays::repeated;
+pub use strays::stray;
 ghost use mathlib.Core.Path.{_≡_};
-ghost use Prim.Native.Nat.{ℕ, _<_};
+ghost use Prim.Native.Nat.{_<_};
 ghost use lib.ListN.{length, set};
-ghost use Rattle.rows.specs.Rows.{place, rowAt, columnAt, unionAt, mirroredAt, partnersWithin};
+ghost use Rattle.rows.specs.Rows.{place, rowAt, mirroredAt, partnersWithin};
 ghost use Rattle.rows.specs.Frames.{Mirrored};
 
 // Where the row of value `a` of `i` against `j` stands.
@@ -30,41 +39,12 @@ pub fn put(rows: &mut [u16; 4096], i: usize, j: usize, a: usize, x: u16)
     rows[at] = x;
 }
 
-// The values of `i` that go with value `b` of `j`. Digit `b` of row `a` becomes digit `a`, set or not: with no branch, the 16 rows go through vectors.
-pub fn column(rows: &[u16; 4096], i: usize, j: usize, b: usize) -> u16
-    requires { ⌜ (i < 16) × (j < 16) × (b < 16) ⌝ }
-    ensures { λ r. ⌜ r ≡ columnAt 16 (now (rows .entry)) i j b ⌝ }
-{
-    let mut members: u16 = 0;
-    for a in 0..16 {
-        members |= ((row(rows, i, j, a) >> b) & 1) << a;
-    }
-    members
-}
-
-// The values of `j` that go with some value of `i`.
-pub fn union(rows: &[u16; 4096], i: usize, j: usize) -> u16
-    requires { ⌜ (i < 16) × (j < 16) ⌝ }
-    ensures { λ r. ⌜ r ≡ unionAt 16 (now (rows .entry)) i j ⌝ }
-{
-    let mut members: u16 = 0;
-    for a in 0..16 {
-        members |= row(rows, i, j, a);
-    }
-    members
-}
-
-// The rows of `i` against `j` and those of `j` against `i` say the same. A column is tested with one comparison; a sound state passes all 16, so
-// there is no early way out.
+// The rows of `i` against `j` and those of `j` against `i` say the same: one side, transposed, is the other.
 pub fn mirrored(rows: &[u16; 4096], i: usize, j: usize) -> bool
     requires { ⌜ (i < 16) × (j < 16) ⌝ }
     ensures { λ r. ⌜ r ≡ mirroredAt 16 (now (rows .entry)) i j ⌝ }
 {
-    let mut all = true;
-    for b in 0..16 {
-        all &= column(rows, i, j, b) == row(rows, j, i, b);
-    }
-    all
+    same(transposed(block_at(rows, i, j)), block_at(rows, j, i))
 }
 
 // Each value of the list `di` of `i` has from `least` to `most` partners in the list `dj` of `j`: the ones of row AND list decide. All 16 rows are
@@ -94,8 +74,5 @@ pub fn mirror(rows: &mut [u16; 4096], i: usize, j: usize)
     requires { ⌜ (i < 16) × (j < 16) × (i ≡ j → ⊥) × (length (now rows) ≡ 4096) ⌝ }
     ensures { λ _. ⌜ Mirrored 16 (now (rows .entry)) (now (rows .exit)) i j ⌝ }
 {
-    for b in 0..16 {
-        let members = column(rows, i, j, b);
-        put(rows, j, i, b, members);
-    }
+    put_block(rows, j, i, transposed(block_at(rows, i, j)));
 }

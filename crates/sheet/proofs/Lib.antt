@@ -1,12 +1,7 @@
 pub mod View
 pub mod Keep
 pub mod Reading
-pub mod RowLaws
-pub mod Judging
-pub mod Searching
 pub mod Sizeless
-pub mod StepArrays
-pub mod StepRows
 pub mod Stepping
 pub mod Steps
 pub mod Reducing
@@ -16,3 +11,4 @@ pub mod Builds
 pub mod Verdicts
 pub mod Written
 pub mod Promise
+pub mod Cuts

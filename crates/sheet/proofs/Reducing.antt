@@ -16,64 +16,80 @@ use Rattle.network.specs.Reduction.{Reduced, freeCount, reducible, nextLeader, 
 use Rattle.network.proofs.Step.{refusal-0, legal-i}
 use Rattle.network.proofs.Reduction.{next-legal, step-count, reduceWithin-step, reduceWithin-stop}
 use Rattle.sheet.specs.declared.state.State.{State}
-use Rattle.sheet.specs.declared.answers.Answer.{Answer}
+use Rattle.sheet.specs.declared.answers.Outcome.{Outcome}
 use Rattle.sheet.specs.declared.answers.Outcome.the-variants as outcome
-use Rattle.sheet.specs.declared.search.Judgement.the-variants as judgement
-use Rattle.sheet.specs.declared.search.Pair.{Pair}
-use Rattle.sheet.specs.declared.search.Pair.the-variants as pair
+use Rattle.steps.specs.declared.search.Judgement.the-variants as judgement
+use Rattle.steps.specs.declared.search.Pair.{Pair}
+use Rattle.steps.specs.declared.search.Pair.the-variants as pair
 use Rattle.sheet.specs.View.{view, pack, soundState}
-use Rattle.sheet.specs.Answers.{Told, outcomeNumber, told}
-use Rattle.sheet.specs.Steps.{refused, stepped, reducedAs, reduced}
-use Rattle.sheet.specs.StepParts.{sizeless, judgedNumber, nextPair}
+use Rattle.sheet.specs.Answers.{Told, outcomeNumber}
+use Rattle.sheet.specs.Steps.{refused, stepRefusal, stepped, reducedAs, reduced}
+use Rattle.steps.specs.StepParts.{sizeless, judgedNumber, nextPair}
 use Rattle.sheet.proofs.View.{Shaped, Packed, pack-view, state-sound, state-n}
 use Rattle.sheet.proofs.Keep.{eliminated-packed}
 use Rattle.sheet.proofs.Sizeless.{state-refusal, state-next}
 use Rattle.sheet.proofs.Steps.{unsound-step, sound-step, stepped-taken, stepped-refused, reduced-done, reduced-refused}
 
--- A refusal hands back the state given.
-refusal-told : (s : State) (c : Cause) (number : ℕ) → numberOf c ≡ number
-    → told (record { outcome = outcome.Refused c; state = s; steps = 0 }) ≡ refused number s
-unfolding told outcomeNumber refused
-refusal-told s c number e = λ z. record { number = e z; state = s; steps = 0 }
+-- ---- the follow step
 
 module _ (s : State) (l f : ℕ) where
-  pub step-unsound : soundState s ≡ false → told (record { outcome = outcome.Refused cause.Unsound; state = s; steps = 0 }) ≡ stepped s l f
-  step-unsound t = refusal-told s cause.Unsound 9 refl ∙ sym (stepped-refused s l f 9 (unsound-step s l f t) (omega arith))
+  -- The number that refuses a step is that of soundness or of the judgement.
+  pub unsound-number : soundState s ≡ false → outcomeNumber (outcome.Refused cause.Unsound) ≡ stepRefusal s l f
+  unfolding outcomeNumber
+  unsound-number t = sym (unsound-step s l f t)
 
   module _ (h : Shaped s) (t : soundState s ≡ true) where
-    -- What the judgement says is what the step's refusal is.
-    judged : (number : ℕ) → number ≡ refusal (sizeless (s .n) (s .domains) (s .leaders) (s .stated) (s .rows)) l f → refusal (view s) l f ≡ number
-    judged number e = sym (e ∙ state-refusal s h t l f)
+    judged-as : {number : ℕ} → number ≡ refusal (sizeless (s .n) (s .domains) (s .leaders) (s .stated) (s .rows)) l f → number ≡ stepRefusal s l f
+    judged-as e = e ∙ state-refusal s h t l f ∙ sym (sound-step s l f t)
 
-    pub step-refused : (c : Cause)
-        → judgedNumber (judgement.Refused c) ≡ refusal (sizeless (s .n) (s .domains) (s .leaders) (s .stated) (s .rows)) l f
-        → told (record { outcome = outcome.Refused c; state = s; steps = 0 }) ≡ stepped s l f
-    unfolding judgedNumber
-    step-refused c e =
-        refusal-told s c (numberOf c) refl
-        ∙ sym (stepped-refused s l f (numberOf c) (sound-step s l f t ∙ judged (numberOf c) e) (number-positive c))
+    pub legal-number : judgedNumber judgement.Legal ≡ refusal (sizeless (s .n) (s .domains) (s .leaders) (s .stated) (s .rows)) l f
+        → outcomeNumber outcome.Done ≡ stepRefusal s l f
+    unfolding outcomeNumber judgedNumber
+    legal-number e = judged-as e
 
-    -- A step that is judged legal names two variables, and is legal.
-    module _ (e : judgedNumber judgement.Legal ≡ refusal (sizeless (s .n) (s .domains) (s .leaders) (s .stated) (s .rows)) l f) where
-      accepted : refusal (view s) l f ≡ 0
-      unfolding judgedNumber
-      accepted = judged 0 e
+    pub judged-number : (c : Cause) → judgedNumber (judgement.Refused c) ≡ refusal (sizeless (s .n) (s .domains) (s .leaders) (s .stated) (s .rows)) l f
+        → outcomeNumber (outcome.Refused c) ≡ stepRefusal s l f
+    unfolding outcomeNumber judgedNumber
+    judged-number c e = judged-as e
 
-      pub leader-some : 1 ≤ l
-      leader-some = refusal-0 (view s) l f .0 accepted .0
+  -- A refusal hands back the state given.
+  pub step-refused : (o : Outcome) (c : Cause) → o ≡ outcome.Refused c → outcomeNumber o ≡ stepRefusal s l f
+      → record { number = outcomeNumber o; state = s; steps = 0 } ≡ stepped s l f
+  unfolding outcomeNumber refused
+  step-refused o c e q =
+      sym (stepped-refused s l f (outcomeNumber o) (sym q) (let p : outcomeNumber o ≡ numberOf c = ap outcomeNumber e in omega (arith, number-positive c)))
 
-      pub follower-some : 1 ≤ f
-      follower-some = refusal-0 (view s) l f .0 accepted .1
+  -- A step that nothing refuses is one of a sound state, names two variables, and is legal.
+  module _ (o : Outcome) (e : o ≡ outcome.Done) (q : outcomeNumber o ≡ stepRefusal s l f) where
+    taken : stepRefusal s l f ≡ 0
+    unfolding outcomeNumber
+    taken = sym q ∙ ap outcomeNumber e
 
-      pub step-is-legal : legal (view s) (l - 1) (f - 1) ≡ true
-      step-is-legal = rw (sub-one l, sub-one f) (legal-i (view s) (pred l) (pred f) (refusal-0 (view s) l f .0 accepted .2))
+    pub taken-sound : soundState s ≡ true
+    taken-sound =
+        by-cases (soundState s) (λ t. t) (λ t. absurd (let n : stepRefusal s l f ≡ 9 = unsound-step s l f t in let x : ⊥ = omega (arith, taken) in x))
 
-      pub step-taken : (r : State) → r ≡ pack (eliminate (view s) (l - 1) (f - 1)) → told (record { outcome = outcome.Done; state = r; steps = 1 }) ≡ stepped s l f
-      unfolding told outcomeNumber
-      step-taken r p =
-          ap (λ (q : State). told (record { outcome = outcome.Done; state = q; steps = 1 }))
-          (p ∙ ap₂ (λ (x y : ℕ). pack (eliminate (view s) x y)) (sub-one l) (sub-one f))
-          ∙ sym (stepped-taken s l f (sound-step s l f t ∙ accepted))
+    accepted : refusal (view s) l f ≡ 0
+    accepted = sym (sound-step s l f taken-sound) ∙ taken
+
+    pub leader-some : 1 ≤ l
+    leader-some = refusal-0 (view s) l f .0 accepted .0
+
+    pub follower-some : 1 ≤ f
+    follower-some = refusal-0 (view s) l f .0 accepted .1
+
+    pub step-is-legal : legal (view s) (l - 1) (f - 1) ≡ true
+    step-is-legal = rw (sub-one l, sub-one f) (legal-i (view s) (pred l) (pred f) (refusal-0 (view s) l f .0 accepted .2))
+
+    pub step-taken : (r : State) → r ≡ pack (eliminate (view s) (l - 1) (f - 1))
+        → record { number = outcomeNumber o; state = r; steps = 1 } ≡ stepped s l f
+    step-taken r p =
+        (λ z. record {
+          number = (q ∙ taken) z;
+          state = (p ∙ ap₂ (λ (x y : ℕ). pack (eliminate (view s) x y)) (sub-one l) (sub-one f)) z;
+          steps = 1;
+        })
+        ∙ sym (stepped-taken s l f taken)
 
 -- ---- the full reduction
 
@@ -180,8 +196,8 @@ module _ (s r : State) (steps : ℕ) (R : Reducing s r steps) where
 
   -- No step is left.
   pub reducing-done : pair.Nothing ≡ nextPair (sizeless (r .n) (r .domains) (r .leaders) (r .stated) (r .rows))
-      → told (record { outcome = outcome.Done; state = r; steps = steps }) ≡ reducedAs (reduce (view s))
-  unfolding told outcomeNumber reducedAs
+      → record { number = outcomeNumber outcome.Done; state = r; steps = steps } ≡ reducedAs (reduce (view s))
+  unfolding outcomeNumber reducedAs
   reducing-done e =
       let stop = reduceWithin-stop (R .most) (view r) (none-next (view r) (searched _ e)) in λ z.
       record {
@@ -190,5 +206,7 @@ module _ (s r : State) (steps : ℕ) (R : Reducing s r steps) where
         steps = (let k : steps ≡ reduce (view s) .steps = omega (arith, R .steps-left, ap (λ (a : Reduced). a .steps) stop) in k) z;
       }
 
-pub reduce-unsound : (s : State) → soundState s ≡ false → told (record { outcome = outcome.Refused cause.Unsound; state = s; steps = 0 }) ≡ reduced s
-reduce-unsound s t = refusal-told s cause.Unsound 9 refl ∙ sym (reduced-refused s t)
+pub reduce-unsound : (s : State) → soundState s ≡ false
+    → record { number = outcomeNumber (outcome.Refused cause.Unsound); state = s; steps = 0 } ≡ reduced s
+unfolding outcomeNumber refused
+reduce-unsound s t = sym (reduced-refused s t)

@@ -44,7 +44,7 @@ module _ (bytes : List ℕ) where
   unfolding readSheet readAs
   read-refused c at e = rw e
 
-  got-or-bad : {A : Type 0} (p : Parse Sheet) → parse version1 bytes ≡ p
+  pub got-or-bad : {A : Type 0} (p : Parse Sheet) → parse version1 bytes ≡ p
       → ((s : Sheet) (next : ℕ) → parse version1 bytes ≡ got s next → A)
       → ((c : Cause) (at : ℕ) → parse version1 bytes ≡ bad c at → A)
       → A
@@ -80,7 +80,7 @@ pub record AsRead (t : State) : Type 0 where
   pub full-lists : (i a : ℕ) → view t .domain i a ≡ ltb a (view t .size i)
 
 module _ (bytes : List ℕ) (octets : (k : ℕ) → getD bytes k 0 < 256) where
-  got-accepted : (s : Sheet) (next : ℕ) → parse version1 bytes ≡ got s next → Accepted bytes s
+  pub got-accepted : (s : Sheet) (next : ℕ) → parse version1 bytes ≡ got s next → Accepted bytes s
   got-accepted s next e =
       let W = parse-wellformed version1 version1-usable bytes octets s next e in
       let P = print-of-parse version1 version1-usable bytes octets s next e in

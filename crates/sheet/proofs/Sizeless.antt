@@ -12,11 +12,11 @@ use Rattle.network.specs.Sound.{Sound}
 use Rattle.network.specs.Step.{outside, refusal, legal}
 use Rattle.network.specs.Reduction.{leading, reducible, nextLeader, nextFollower}
 use Rattle.network.proofs.Step.{functional-i, functional-e}
-use Rattle.sheet.specs.declared.search.Pair.{Pair}
-use Rattle.sheet.specs.declared.search.Pair.the-variants as pair
+use Rattle.steps.specs.declared.search.Pair.{Pair}
+use Rattle.steps.specs.declared.search.Pair.the-variants as pair
 use Rattle.sheet.specs.declared.state.State.{State}
 use Rattle.sheet.specs.View.{view, soundState}
-use Rattle.sheet.specs.StepParts.{sizeless, nextPair}
+use Rattle.steps.specs.StepParts.{sizeless, nextPair}
 use Rattle.sheet.proofs.View.{Shaped, state-sound, state-size}
 
 -- N with w values for each variable.

@@ -24,12 +24,14 @@ use Rattle.rows.specs.Rows.{rowAt, allowsOf, rowsOf}
 use Rattle.rows.specs.Rows.{supportedAt}
 use Rattle.compose.specs.Compose.{reach, composedAt}
 use Rattle.rows.proofs.Laws.{allows-row}
-use Rattle.sheet.proofs.RowLaws.{rows-rule}
+use Rattle.rows.proofs.Laws.{rows-rule}
 use Rattle.words.specs.Word.{has, word}
 use Rattle.words.proofs.Laws.{has-word, has-zero, has-all, has-below, word-lt, word-has, word-cong, is-word}
 use Rattle.sheet.specs.declared.state.State.{State}
 use Rattle.sheet.specs.View.{view, pack, soundState}
-use Rattle.sheet.specs.StepParts.{leaderAfter, thirdOf, statedAfter, madeRow, MovedRows}
+use Rattle.steps.specs.declared.arrays.Arrays.{Arrays}
+use Rattle.steps.specs.Stepped.{trimmedWord, thirdsWord, Stepped}
+use Rattle.steps.specs.StepParts.{leaderAfter, thirdOf, statedAfter, madeRow, MovedRows}
 use Rattle.sheet.proofs.View.{Shaped, state-sound, state-n, state-size}
 
 module _ (s : State) (h : Shaped s) (t : soundState s ≡ true) (i j : ℕ) (l : legal (view s) i j ≡ true) where
@@ -40,14 +42,15 @@ module _ (s : State) (h : Shaped s) (t : soundState s ≡ true) (i j : ℕ) (l :
   may = legal-e (view s) i j l
 
   -- The two variables.
-  pub leader-lt : i < 16
+  leader-lt : i < 16
   leader-lt = omega (arith, may .i-in, state-n s t)
 
-  pub follower-lt : j < 16
+  follower-lt : j < 16
   follower-lt = omega (arith, may .j-in, state-n s t)
 
-  pub leader-not-follower : i ≡ j → ⊥
-  leader-not-follower = may .distinct
+  -- What a step asks of the two and of the rows.
+  pub step-asks : (i < 16) × (j < 16) × (i ≡ j → ⊥) × (length (s .rows) ≡ 4096)
+  step-asks = (leader-lt, follower-lt, may .distinct, h .rows-array .array-length)
 
   -- A value in a list lies below 16.
   value-lt : (x a : ℕ) → view s .domain x a ≡ true → a < 16
@@ -99,12 +102,6 @@ module _ (s : State) (h : Shaped s) (t : soundState s ≡ true) (i j : ℕ) (l :
     thirds-are = fun-ext λ k.
         ap (λ (n : ℕ). has n k) are-thirds
         ∙ has-all 16 _ k (λ past. not-true→false _ (λ u. let b : ⊥ = omega (arith, has-below 16 _ k (and-l _ _ u) (h .stated-array .element-lt j)) in b))
-
-    pub leader-no-third : has thirds i ≡ false
-    leader-no-third = ap (λ (T : ℕ → Bool). T i) thirds-are ∙ i-not-third (view s) i j
-
-    pub follower-no-third : has thirds j ≡ false
-    follower-no-third = ap (λ (T : ℕ → Bool). T j) thirds-are ∙ j-not-third (view s) i j
 
     stated-after : tabulate 16 (λ (x : ℕ). word 16 (statedAfter i j (has thirds) x (has (getD (s .stated) x 0)))) ≡ pack (eliminate (view s) i j) .stated
     unfolding pack eliminate statedAfter view
@@ -176,17 +173,24 @@ module _ (s : State) (h : Shaped s) (t : soundState s ≡ true) (i j : ℕ) (l :
       unfolding pack
       rows-after = rows-rule 16 _ after (array .array-length) (array .element-lt) (λ x y a b lx ly la lb. row-after x y lx ly a b la lb)
 
-      -- The state that the three rules leave.
-      pub state-after : (leaders stated : List ℕ) → leaders ≡ tabulate 16 (λ (x : ℕ). leaderAfter i j x (getD (s .leaders) x 0))
-          → stated ≡ tabulate 16 (λ (x : ℕ). word 16 (statedAfter i j (has thirds) x (has (getD (s .stated) x 0))))
-          → record { n = s .n; sizes = s .sizes; domains = set (s .domains) i ti; leaders = leaders; stated = stated; rows = after }
-          ≡ pack (eliminate (view s) i j)
-      state-after leaders stated e f = λ z.
-          record {
-            n = same-n z;
-            sizes = same-sizes z;
-            domains = domains-after ti is-ti z;
-            leaders = (e ∙ leaders-after) z;
-            stated = (f ∙ stated-after thirds are-thirds) z;
-            rows = rows-after z;
-          }
+  -- The state that the three rules leave: r are its arrays built anew, and `after` its rows.
+  module _ (r : Arrays) (after : List ℕ) (S : Stepped (s .domains) (s .leaders) (s .stated) (s .rows) i j r after) where
+    after-array : Array 4096 (2 ^ 16) after
+    after-array =
+        record {
+          array-length = S .rule-2-rows .same-length ∙ h .rows-array .array-length;
+          element-lt = S .rule-2-rows .words (h .rows-array .element-lt);
+        }
+
+    pub state-after : record { n = s .n; sizes = s .sizes; domains = r .domains; leaders = r .leaders; stated = r .stated; rows = after }
+        ≡ pack (eliminate (view s) i j)
+    unfolding trimmedWord thirdsWord
+    state-after = λ z.
+        record {
+          n = same-n z;
+          sizes = same-sizes z;
+          domains = (S .rule-1 ∙ domains-after _ refl) z;
+          leaders = (S .rule-3 ∙ leaders-after) z;
+          stated = (S .rule-2 ∙ stated-after _ refl) z;
+          rows = rows-after _ refl _ refl after after-array (S .rule-2-rows) z;
+        }

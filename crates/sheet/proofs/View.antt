@@ -20,7 +20,7 @@ use Rattle.network.specs.Sound.{Sound, Bounded, sound, countSound}
 use Rattle.network.proofs.Sound.{free-e, free-or-led, leader-n, sound→Sound, sound-n, sound-size, Sound→Bounded, Sound→sound}
 use Rattle.rows.proofs.Array.{rows-array}
 use Rattle.rows.proofs.Laws.{allows-rows, rows-allows}
-use Rattle.sheet.specs.View.{view, pack, zeroState, soundState}
+use Rattle.sheet.specs.View.{stateOf, view, pack, zeroState, soundState}
 use Rattle.parts.specs.Parts.{partsView, Lent}
 use Rattle.sheet.specs.declared.state.State.{State}
 use Rattle.parts.proofs.Parts.{parts-bounded}
@@ -69,6 +69,18 @@ shaped-lent s h =
       leaders-lent = h .leaders-array;
       stated-lent = h .stated-array;
       rows-lent = h .rows-array;
+    }
+
+pub lent-shaped : (n : ℕ) (sizes domains leaders stated rows : List ℕ) → n < 2 ^ 64 → Lent sizes domains leaders stated rows
+    → Shaped (stateOf n sizes domains leaders stated rows)
+lent-shaped n sizes domains leaders stated rows b h =
+    record {
+      n-lt = b;
+      sizes-array = h .sizes-lent;
+      domains-array = h .domains-lent;
+      leaders-array = h .leaders-lent;
+      stated-array = h .stated-lent;
+      rows-array = h .rows-lent;
     }
 
 -- The network of a state lies within the bounds.

@@ -1,10 +1,10 @@
 -- What the public calls mean.
 pub mod View
-pub mod StepParts
 pub mod Answers
 pub mod Read
 pub mod Write
 pub mod Steps
+pub mod Worked
 pub mod Solutions
 pub mod Cut
 pub mod Promise

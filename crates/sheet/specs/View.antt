@@ -10,6 +10,11 @@ use Rattle.network.specs.Sound.{sound}
 use Rattle.rows.specs.Rows.{allowsOf, rowsOf}
 use Rattle.sheet.specs.declared.state.State.{State}
 
+-- The state of its parts, where they are lent one by one.
+abbrev pub stateOf : ℕ → (sizes domains leaders stated rows : List ℕ) → State
+stateOf n sizes domains leaders stated rows =
+    record { n = n; sizes = sizes; domains = domains; leaders = leaders; stated = stated; rows = rows }
+
 -- The network that a state holds.
 unfoldable pub view : State → Network
 view s =

@@ -1,9 +1,8 @@
 // Option sheets: the state and the public calls.
 mod answers;
-mod elimination;
+mod cutting;
 mod reader;
 mod reduction;
-mod search;
 mod solving;
 mod soundness;
 mod state;
@@ -18,6 +17,7 @@ pub use answers::TestAnswer;
 pub use answers::Verdict;
 pub use answers::VerdictAnswer;
 pub use answers::WriteAnswer;
+pub use cutting::cut;
 pub use reader::read;
 pub use solving::complete;
 pub use solving::test;

@@ -16,7 +16,8 @@ use parts::values_kept;
 ghost use mathlib.Core.Path.{_≡_};
 ghost use mathlib.Core.Bool.{true};
 ghost use Rattle.bounded.specs.Fold.{first};
-ghost use Rattle.sheet.specs.View.{soundState};
+ghost use Rattle.parts.specs.Parts.{Lent};
+ghost use Rattle.sheet.specs.View.{stateOf, soundState};
 ghost use Rattle.sheet.specs.Answers.{testTold, outcomeNumber, verdictTold};
 ghost use Rattle.sheet.specs.Solutions.{tested, completeNumber, completedBuffer, verdictOf};
 
@@ -79,19 +80,25 @@ pub fn complete(state: State, solution: &mut [u8]) -> Outcome
     Outcome::Done
 }
 
-// The verdict of a state that is known to be sound: "NONE if some live list is empty; else BUILT if exactly one option is live ..; else OPEN".
-pub(crate) fn verdict_of(state: State) -> VerdictAnswer
-    requires { ⌜ soundState state ≡ true ⌝ }
-    ensures { λ r. ⌜ verdictTold (r .verdict) (r .solution) ≡ verdictOf state ⌝ }
+// The verdict of the parts of a sound state: "NONE if some live list is empty; else BUILT if exactly one option is live ..; else OPEN".
+pub(crate) fn verdict_of<'a>(
+    n: usize,
+    sizes: &'a [u8; 16],
+    domains: &'a [u16; 16],
+    leaders: &'a [u8; 16],
+    stated: &'a [u16; 16],
+    rows: &'a [u16; 4096],
+) -> VerdictAnswer
+    requires { ⌜ Lent (now sizes) (now domains) (now leaders) (now stated) (now rows) × (soundState (stateOf n (now sizes) (now domains) (now leaders) (now stated) (now rows)) ≡ true) ⌝ }
+    ensures { λ r. ⌜ verdictTold (r .verdict) (r .solution) ≡ verdictOf (stateOf n (now (sizes .entry)) (now (domains .entry)) (now (leaders .entry)) (now (stated .entry)) (now (rows .entry))) ⌝ }
 {
-    let n = state.n;
-    if !domains_open(n, &state.leaders, &state.domains) {
+    if !domains_open(n, leaders, domains) {
         return VerdictAnswer {
             verdict: Verdict::None,
             solution: [0u8; 16],
         };
     }
-    if live_count(n, &state.leaders) != 1 {
+    if live_count(n, leaders) != 1 {
         return VerdictAnswer {
             verdict: Verdict::Open,
             solution: [0u8; 16],
@@ -99,7 +106,7 @@ pub(crate) fn verdict_of(state: State) -> VerdictAnswer
     }
     VerdictAnswer {
         verdict: Verdict::Built,
-        solution: lowest_build(n, &state.domains, &state.leaders, &state.rows),
+        solution: lowest_build(n, domains, leaders, rows),
     }
 }
 
@@ -121,5 +128,12 @@ pub fn verdict(state: State) -> VerdictAnswer
             solution: [0u8; 16],
         };
     }
-    verdict_of(state)
+    verdict_of(
+        n,
+        &state.sizes,
+        &state.domains,
+        &state.leaders,
+        &state.stated,
+        &state.rows,
+    )
 }

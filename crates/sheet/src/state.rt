@@ -1,6 +1,7 @@
 // The state of a sheet.
 
 // Variables count from 0 here. Any contents are possible: calls test soundness before anything else.
+#[repr(C)]
 pub struct State {
     // How many variables.
     pub n: usize,

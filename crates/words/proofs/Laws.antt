@@ -6,7 +6,7 @@ use Prim.Native.Nat.{ℕ, zero, suc, _+_, _-_, _*_, _/_, _%_, _^_, _≤_, _<_, m
 use native.Mathlib.Nat.{mod-one, div-one, mod-lt, mod-eq-of-lt, div-eq-of-lt, sub-add-cancel, pow-suc, mul-le-mul-right, add-mul-div-right, add-mul-mod-self-right, mul-add-mod-self-right}
 use native.Mathlib.Numerals.{one-add}
 use native.Mathlib.Omega.{arith}
-use lib.Bits.{bitAnd, bitOr, and-step, or-step, and-shr, or-shr}
+use lib.Bits.{bitAnd, bitOr, bitXor, differ, and-step, or-step, xor-step, and-shr, or-shr, xor-shr}
 use lib.Count.{ones, ones-cat, trailingZeros, under}
 use lib.Dec.{eqb, ltb}
 use lib.Pow.{pow-pos, pow-mono, pow-add, high, mod-pow-add, shr-shr}
@@ -196,6 +196,13 @@ max-test true false = refl
 max-test false true = refl
 max-test false false = refl
 
+differ-test : (a b : Bool) → differ (bit a) (bit b) % 2 ≡ bit (if a (not b) b)
+unfolding bit if not
+differ-test true true = refl
+differ-test true false = refl
+differ-test false true = refl
+differ-test false false = refl
+
 -- `&` keeps the members of both words.
 pub has-and : (x y v : ℕ) → has (bitAnd x y) v ≡ and (has x v) (has y v)
 has-and = has-op bitAnd min and and-shr and-step min-test
@@ -203,6 +210,10 @@ has-and = has-op bitAnd min and and-shr and-step min-test
 -- `|` has the members of either word.
 pub has-or : (x y v : ℕ) → has (bitOr x y) v ≡ or (has x v) (has y v)
 has-or = has-op bitOr max or or-shr or-step max-test
+
+-- `^` has the members of just one of the words.
+pub has-xor : (x y v : ℕ) → has (bitXor x y) v ≡ if (has x v) (not (has y v)) (has y v)
+has-xor = has-op bitXor differ (λ (a b : Bool). if a (not b) b) xor-shr xor-step differ-test
 
 bit-not : (t : Bool) → bit (not t) + bit t ≡ 1
 unfolding bit not

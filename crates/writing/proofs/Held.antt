@@ -25,10 +25,12 @@ use Rattle.format.specs.Layout.{version1}
 use Rattle.format.specs.Print.{bytesOf, printAll, printTable, printBody, print}
 use Rattle.format.specs.WellFormed.{WellFormed}
 use Rattle.format.specs.Writing.{heldBy, bytesHeld}
-use Rattle.writing.specs.Texts.{Wrote, joined, sizesText, rowsText, tableText, laterText, tablesText, bodyText, sheetText}
+use Rattle.buffers.specs.Wrote.{Wrote}
+use Rattle.writing.specs.Texts.{joined, sizesText, rowsText, tableText, laterText, tablesText, bodyText, sheetText}
 use Rattle.writing.specs.Texts.{later, tableCount, tablesLength, sheetLength}
 use Rattle.format.proofs.SheetOf.{sheetOf-wellformed}
-use Rattle.writing.proofs.Texts.{collect-none, collect-snoc, joined-none, length-joined-more, wrote-then, table-stated, table-unstated}
+use Rattle.buffers.proofs.Laws.{wrote-then}
+use Rattle.writing.proofs.Texts.{collect-none, collect-snoc, joined-none, length-joined-more, table-stated, table-unstated}
 
 -- ---- what is collected
 

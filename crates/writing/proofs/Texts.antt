@@ -9,33 +9,14 @@ use native.Mathlib.Omega.{arith}
 use lib.ListN.{length, getD, set, take, drop, length-append, length-set, take-append-drop}
 use lib.Seq.{set-split, take-at, drop-at, drop-drop, length-take-le}
 use Rattle.bounded.proofs.Bool.{if-true, if-false}
+use Rattle.buffers.proofs.Laws.{wrote-none, wrote-then}
 use Rattle.words.specs.Word.{has}
 use Rattle.network.specs.Sheet.{collect}
 use Rattle.format.specs.Print.{bytesOf}
-use Rattle.writing.specs.Texts.{Wrote, joined, rowsText, tableText}
+use Rattle.buffers.specs.Wrote.{Wrote}
+use Rattle.writing.specs.Texts.{joined, rowsText, tableText}
 
 -- ---- texts in a buffer
-
-pub wrote-none : (buffer : List ℕ) (at : ℕ) → at ≤ length buffer → Wrote buffer buffer [] at at
-wrote-none buffer at h = record { holds = sym (take-append-drop at buffer); ends = omega arith; room = h; keeps = refl }
-
-pub wrote-one : (buffer : List ℕ) (at byte : ℕ) → at < length buffer → Wrote buffer (set buffer at byte) (byte ∷ []) at (at + 1)
-wrote-one buffer at byte h =
-    record { holds = rw add-one (set-split buffer at byte h); ends = refl; room = omega arith; keeps = length-set buffer at byte }
-
-pub wrote-then : {a b c x y : List ℕ} {at mid r : ℕ} → Wrote a b x at mid → Wrote b c y mid r → Wrote a c (x ++ y) at r
-wrote-then {a} {b} {c} {x} {y} {at} {mid} {r} h k =
-    let m : length (take at a ++ x) ≡ mid = omega (arith, length-append (take at a) x, length-take-le at a (omega arith)) in
-    let e : b ≡ (take at a ++ x) ++ drop mid a = h .holds ∙ sym (append-assoc (take at a) x (drop mid a)) in
-    let front : take mid b ≡ take at a ++ x = ap (take mid) e ∙ take-at (take at a ++ x) (drop mid a) mid m in
-    let rest : drop mid b ≡ drop mid a = ap (drop mid) e ∙ drop-at (take at a ++ x) (drop mid a) mid m in
-    let back : drop r b ≡ drop r a = rw (k .ends) (sym (drop-drop (length y) mid b) ∙ ap (drop (length y)) rest ∙ drop-drop (length y) mid a) in
-    record {
-      holds = k .holds ∙ rw (front, back) (simp append-assoc);
-      ends = omega (arith, length-append x y);
-      room = omega arith;
-      keeps = k .keeps ∙ h .keeps;
-    }
 
 -- What was written from the start of a buffer.
 pub wrote-whole : (a b text : List ℕ) (r : ℕ) → Wrote a b text 0 r → (r ≡ length text) × (b ≡ text ++ drop (length text) a)

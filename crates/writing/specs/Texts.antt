@@ -9,13 +9,6 @@ use Rattle.words.specs.Word.{has}
 use Rattle.network.specs.Sheet.{collect}
 use Rattle.format.specs.Print.{bytesOf}
 
--- A text was written at a place of a buffer, which ends at r; the rest is as it was.
-pub record Wrote (before after text : List ℕ) (at r : ℕ) : Type 0 where
-  pub holds : after ≡ take at before ++ (text ++ drop r before)
-  pub ends : r ≡ at + length text
-  pub room : r ≤ length before
-  pub keeps : length after ≡ length before
-
 -- f at k, k + 1, .., l - 1, joined.
 unfoldable pub joined : ℕ → ℕ → (ℕ → List ℕ) → List ℕ
 joined k l f = collect (l - k) k f

@@ -4,21 +4,14 @@ ghost use mathlib.Core.Bool.{true};
 ghost use mathlib.Core.Path.{_≡_};
 ghost use Prim.Native.Nat.{ℕ, _+_, _*_, _<_, _≤_};
 ghost use lib.ListN.{length, getD, drop};
+ghost use Rattle.buffers.specs.Wrote.{Wrote};
 ghost use Rattle.words.specs.Word.{has};
 ghost use Rattle.network.specs.Sound.{Sound};
 ghost use Rattle.rows.specs.Rows.{rowAt};
 ghost use Rattle.format.specs.Print.{bytesOf};
 ghost use Rattle.format.specs.Writing.{heldBy, bytesHeld};
-ghost use Rattle.writing.specs.Texts.{Wrote, sizesText, rowsText, tableText, laterText, tablesText, later, tableCount};
-
-// One byte at a place; the place past it.
-fn put_byte(buffer: &mut [u8], at: usize, byte: u8) -> usize
-    requires { ⌜ at + 1 ≤ length (now buffer) ⌝ }
-    ensures { λ r. ⌜ Wrote (now (buffer .entry)) (now (buffer .exit)) (byte ∷ []) at r ⌝ }
-{
-    buffer[at] = byte;
-    at + 1
-}
+ghost use Rattle.writing.specs.Texts.{sizesText, rowsText, tableText, laterText, tablesText, later, tableCount};
+use buffers::put_byte;
 
 // A number in two bytes, big-endian.
 fn put_number(buffer: &mut [u8], at: usize, number: u16) -> usize

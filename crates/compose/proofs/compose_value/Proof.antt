@@ -6,11 +6,11 @@ use Rattle.compose.proofs.compose_value.Tie as tie
 composed-requires : tie.Need-composed-requires
 composed-requires c κs = search needs
 
-put-both-requires : tie.Need-put-both-requires
-put-both-requires c κs = search needs
+put-requires : tie.Need-put-requires
+put-requires c κs = search needs
 
 returns : tie.Need-returns
-returns c = rw (← c .before .before .composed .ensures) (c .put-both .ensures)
+returns c = rw (← c .before .before .composed .ensures) (c .put .ensures)
 
 pub compose-value-spec : {M : Type 1} → statement M
-compose-value-spec = tie.close (tie.spec composed-requires put-both-requires returns)
+compose-value-spec = tie.close (tie.spec composed-requires put-requires returns)

@@ -1,57 +1,27 @@
--- The loop's invariant: each of the first `b` columns is the row of the other side. A turn tests one more: `test-joins`.
-use mathlib.Core.Path.{_≡_, refl, ap₂}
-use Prim.Native.Nat.{ℕ, _-_, _≤_}
-use native.Mathlib.Omega.{arith}
-use lib.Dec.{eqb}
+-- One side, transposed, is compared with the other: `mirrored-is`.
+use Rattle.rows.proofs.Sides.{mirrored-is}
 use borrow.Author.Needs.{needs}
-use Rattle.bounded.specs.Fold.{every}
-use Rattle.rows.specs.Rows.{rowAt, columnAt, mirroredAt}
-use Rattle.rows.proofs.Loops.{test-joins}
 use Rattle.rows.proofs.mirrored.Statement.{statement}
 use Rattle.rows.proofs.mirrored.Tie as tie
 
-abbrev Inv-loop : tie.InvT-loop
-Inv-loop rows i j all₀ b₀ all b = (b ≤ 16) × (all ≡ every b (λ (v : ℕ). eqb (columnAt 16 rows i j v) (rowAt 16 rows j i v)))
+block-at-requires : tie.Need-block-at-requires
+block-at-requires c κs = search needs
 
-abbrev μ-loop : tie.MeasureT-loop
-μ-loop rows i j all₀ b₀ all b = 16 - b
+transposed-requires : tie.Need-transposed-requires
+transposed-requires c κs = search needs
 
-loop-holds : tie.Need-loop-holds Inv-loop μ-loop
-unfolding every
-loop-holds c = (omega arith, refl)
+block-at-requires-2 : tie.Need-block-at-requires-2
+block-at-requires-2 c κs = search needs
 
-column-requires : tie.Need-column-requires Inv-loop μ-loop
-column-requires c κs = search needs
+same-requires : tie.Need-same-requires
+same-requires c κs = search needs
 
-row-requires : tie.Need-row-requires Inv-loop μ-loop
-row-requires c κs = search needs
-
-add-b : tie.Need-add-b Inv-loop μ-loop
-add-b c = search needs
-
-loop-less : tie.Need-loop-less Inv-loop μ-loop
-loop-less c = search needs
-
-loop-again : tie.Need-loop-again Inv-loop μ-loop
-loop-again c = (
-  omega arith,
-  test-joins _ _ _ _ (c .before .before .before .loop .inv .1) (ap₂ eqb (c .before .column .ensures) (c .row .ensures)),
-)
-
-returns : tie.Need-returns Inv-loop μ-loop
-unfolding mirroredAt
-returns c = rw (let e : c .before .loop .b ≡ 16 = omega arith in e) at (c .before .loop .inv .1)
+returns : tie.Need-returns
+returns c =
+    mirrored-is _ _ _ _ _ _ _ (c .before .before .before .block-at .ensures .0) (c .before .before .transposed .ensures)
+    (c .before .block-at2 .ensures .0) (c .before .block-at2 .ensures .1) (c .same .ensures)
 
 pub mirrored-spec : {M : Type 1} → statement M
 mirrored-spec =
     tie.close
-    (tie.spec
-    Inv-loop
-    μ-loop
-    loop-holds
-    column-requires
-    row-requires
-    add-b
-    loop-less
-    loop-again
-    returns)
+    (tie.spec block-at-requires transposed-requires block-at-requires-2 same-requires returns)

@@ -4,6 +4,7 @@ use borrow.Author.Tests.{le-leb, lt-leb, not-true, not-false}
 use Rattle.parts.specs.Parts.{partsFit}
 use Rattle.parts.proofs.Tests.{and-fails, and-holds}
 use Rattle.parts.proofs.Parts.{size-le, parts-sound}
+use native.Mathlib.Omega.{arith}
 use borrow.Author.Needs.{needs}
 use Rattle.parts.proofs.sound.sound_parts.Statement.{statement}
 use Rattle.parts.proofs.sound.sound_parts.Tie as tie
@@ -58,7 +59,10 @@ returns-5 c = sym
     ∙ parts-sound _ _ _ _ _ _ (c .before .before .before .before .before .before .before .before .pre)
 
 rows-sound-requires : tie.Need-rows-sound-requires
-rows-sound-requires c κs = size-le _ _ _ _ _ _ (c .before .before .before .before .before .before .before .before .pre) (c .before .before .before .before .before .before .if2 .left) (sym (c .before .before .before .before .before .sizes-sound .ensures) ∙ not-false _ (c .before .before .before .before .if3 .left))
+rows-sound-requires c κs = (
+  omega arith,
+  size-le _ _ _ _ _ _ (c .before .before .before .before .before .before .before .before .pre) (c .before .before .before .before .before .before .if2 .left) (sym (c .before .before .before .before .before .sizes-sound .ensures) ∙ not-false _ (c .before .before .before .before .if3 .left)),
+)
 
 returns-6 : tie.Need-returns-6
 unfolding partsFit

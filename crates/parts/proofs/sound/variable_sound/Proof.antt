@@ -3,7 +3,7 @@ use mathlib.Core.Path.{sym, ap, _∙_}
 use lib.Dec.{eqb}
 use borrow.Author.Tests.{not-true, not-false}
 use Rattle.parts.specs.Parts.{within}
-use Rattle.parts.proofs.Tests.{variable-past, variable-self, variable-told}
+use Rattle.parts.proofs.Tests.{variable-past, variable-high, variable-self, variable-told}
 use borrow.Author.Needs.{needs}
 use Rattle.parts.proofs.sound.variable_sound.Statement.{statement}
 use Rattle.parts.proofs.sound.variable_sound.Tie as tie
@@ -14,29 +14,35 @@ mul-members c = search needs
 element-copy-out-members : tie.Need-element-copy-out-members
 element-copy-out-members c = search needs
 
+returns : tie.Need-returns
+returns c = variable-past _ _ _ (c .if1 .taken)
+
 within-requires : tie.Need-within-requires
 within-requires c κs = search needs
 
-returns : tie.Need-returns
+returns-2 : tie.Need-returns-2
 unfolding within
-returns c = variable-past _ _ _ (sym (c .before .within .ensures) ∙ not-true _ (c .if1 .taken))
+returns-2 c = variable-high _ _ _ (c .before .before .if1 .left) (sym (c .before .within .ensures) ∙ not-true _ (c .if2 .taken))
 
 member-requires : tie.Need-member-requires
 member-requires c κs = search needs
 
-returns-2 : tie.Need-returns-2
+returns-3 : tie.Need-returns-3
 unfolding within
-returns-2 c = variable-self _ _ _ (sym (c .before .before .before .within .ensures) ∙ not-false _ (c .before .before .if1 .left))
-    (sym (c .before .member .ensures) ∙ c .if2 .taken)
+returns-3 c =
+    variable-self _ _ _ (c .before .before .before .before .if1 .left)
+    (sym (c .before .before .before .within .ensures) ∙ not-false _ (c .before .before .if2 .left))
+    (sym (c .before .member .ensures) ∙ c .if3 .taken)
 
 stated-with-requires : tie.Need-stated-with-requires
 stated-with-requires c κs = search needs
 
-returns-3 : tie.Need-returns-3
+returns-4 : tie.Need-returns-4
 unfolding within
-returns-3 c = ap (eqb _) (c .stated-with .ensures)
-    ∙ variable-told _ _ _ (sym (c .before .before .before .before .within .ensures) ∙ not-false _ (c .before .before .before .if1 .left))
-    (sym (c .before .before .member .ensures) ∙ c .before .if2 .left)
+returns-4 c = ap (eqb _) (c .stated-with .ensures)
+    ∙ variable-told _ _ _ (c .before .before .before .before .before .if1 .left)
+    (sym (c .before .before .before .before .within .ensures) ∙ not-false _ (c .before .before .before .if2 .left))
+    (sym (c .before .before .member .ensures) ∙ c .before .if3 .left)
 
 pub variable-sound-spec : {M : Type 1} → statement M
 variable-sound-spec =
@@ -44,9 +50,10 @@ variable-sound-spec =
     (tie.spec
     mul-members
     element-copy-out-members
-    within-requires
     returns
-    member-requires
+    within-requires
     returns-2
+    member-requires
+    returns-3
     stated-with-requires
-    returns-3)
+    returns-4)

@@ -18,7 +18,9 @@ unfolding verdictTold
 returns c = verdict-9 _ (sym (sound-told _ _ (c .before .sound-parts .ensures)) ∙ not-true _ (c .if1 .taken))
 
 verdict-of-requires : tie.Need-verdict-of-requires
-verdict-of-requires c κs = sym (sound-told _ _ (c .before .sound-parts .ensures)) ∙ not-false _ (c .if1 .left)
+verdict-of-requires c κs =
+    let e = c .before .before .before .before .before .before in
+    (shaped-lent _ (shaped (e .before .before .before .before .before .before .before .before)), sym (sound-told _ _ (e .before .sound-parts .ensures)) ∙ not-false _ (e .if1 .left))
 
 returns-2 : tie.Need-returns-2
 returns-2 c = c .verdict-of .ensures

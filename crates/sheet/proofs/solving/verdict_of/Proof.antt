@@ -1,60 +1,62 @@
 -- Each way through the call is a case of the definition: `told-none` and the like.
 use mathlib.Core.Bool.{true}
 use mathlib.Core.Path.{_≡_, sym, _∙_}
-use lib.ListN.{length}
+use mir.Syntax.{w64}
+use mir.Val.{Fits}
 use borrow.Author.Needs.{needs}
 use borrow.Author.Tests.{not-true, not-false}
 use Rattle.sheet.specs.Answers.{verdictTold}
+use Rattle.sheet.specs.View.{stateOf}
 use Rattle.parts.specs.Choices.{domainsOpen}
 use Rattle.sheet.specs.declared.state.State.{State}
-use Rattle.sheet.proofs.View.{Shaped, shape, n-most}
+use Rattle.sheet.proofs.View.{Shaped, lent-shaped, n-most}
 use Rattle.sheet.proofs.Verdicts.{told-none, told-open, told-built, lowest-led}
 use Rattle.sheet.proofs.solving.verdict_of.Statement.{statement}
 use Rattle.sheet.proofs.solving.verdict_of.Tie as tie
 
-shaped : (c : tie.Start) → Shaped (c .args .t1)
-shaped c = search shape
+abbrev state : tie.Start → State
+state c = stateOf (c .args .n) (c .args .sizes .now) (c .args .domains .now) (c .args .leaders .now) (c .args .stated .now) (c .args .rows .now)
+
+shaped : (c : tie.Start) → Shaped (state c)
+shaped c = lent-shaped _ _ _ _ _ _ (let f : Fits w64 (c .args .n) = search needs in f .fits) (c .pre .0)
 
 -- Past the first test each live option has a value left.
-abbrev start : tie.Else1 → tie.Start
-start c = c .before .before .before .before .before
-
-abbrev state : tie.Else1 → State
-state c = start c .args .t1
-
-left : (c : tie.Else1) → domainsOpen (state c .n) (state c .leaders) (state c .domains) ≡ true
+left : (c : tie.Else1) → let s = state (c .before .before) in domainsOpen (s .n) (s .leaders) (s .domains) ≡ true
 left c = sym (c .before .domains-open .ensures) ∙ not-false _ (c .if1 .left)
 
 domains-open-requires : tie.Need-domains-open-requires
-domains-open-requires c κs = n-most _ (c .before .before .before .pre)
+domains-open-requires c κs = n-most (state c) (c .pre .1)
 
 returns : tie.Need-returns
 unfolding verdictTold
 returns c =
-    told-none _ (shaped (c .before .before .before .before .before)) (c .before .before .before .before .before .pre)
-    (sym (c .before .domains-open .ensures) ∙ not-true _ (c .if1 .taken))
+    let s = c .before .before in
+    told-none (state s) (shaped s) (s .pre .1) (sym (c .before .domains-open .ensures) ∙ not-true _ (c .if1 .taken))
 
 live-count-requires : tie.Need-live-count-requires
-live-count-requires c κs = n-most _ (start (c .before .before) .pre)
+live-count-requires c κs = let s = c .before .before in n-most (state s) (s .pre .1)
 
 returns-2 : tie.Need-returns-2
 unfolding verdictTold
 returns-2 c =
-    told-open _ (shaped (start (c .before .before .before .before))) (start (c .before .before .before .before) .pre) (left (c .before .before .before .before))
-    (λ e. c .if2 .taken (c .before .live-count .ensures ∙ e))
+    let e = c .before .before in
+    let s = e .before .before in
+    told-open (state s) (shaped s) (s .pre .1) (left e) (λ q. c .if2 .taken (c .before .live-count .ensures ∙ q))
 
 lowest-build-requires : tie.Need-lowest-build-requires
 lowest-build-requires c κs =
-    lowest-led _ (shaped (start (c .before .before .before .before .before .before .before .before))) (start (c .before .before .before .before .before .before .before .before) .pre)
-    (left (c .before .before .before .before .before .before .before .before))
+    let e = c .before .before in
+    let s = e .before .before in
+    lowest-led (state s) (shaped s) (s .pre .1) (left e)
 
 returns-3 : tie.Need-returns-3
 unfolding verdictTold
 returns-3 c =
-    told-built _ (shaped (start (c .before .before .before .before .before .before .before .before .before))) (start (c .before .before .before .before .before .before .before .before .before) .pre)
-    (left (c .before .before .before .before .before .before .before .before .before)) _ (search needs)
-    (sym (c .before .before .before .before .before .before .live-count .ensures) ∙ c .before .before .before .before .before .if2 .left)
-    (c .lowest-build .ensures)
+    let f = c .before in
+    let e = f .before .before in
+    let s = e .before .before in
+    told-built (state s) (shaped s) (s .pre .1) (left e) _ (search needs)
+    (sym (f .before .live-count .ensures) ∙ f .if2 .left) (c .lowest-build .ensures)
 
 pub verdict-of-spec : {M : Type 1} → statement M
 verdict-of-spec =

@@ -1,7 +1,7 @@
 -- Three texts, one after the other.
 use borrow.Author.Needs.{needs}
 use Rattle.format.specs.Print.{bytesOf}
-use Rattle.writing.proofs.Texts.{wrote-then}
+use Rattle.buffers.proofs.Laws.{wrote-then}
 use Rattle.writing.proofs.writing.write_header.Statement.{statement}
 use Rattle.writing.proofs.writing.write_header.Tie as tie
 

@@ -4,7 +4,8 @@ use Prim.Native.Nat.{_+_, _-_, _≤_}
 use native.Mathlib.Omega.{arith}
 use borrow.Author.Needs.{needs}
 use Rattle.rows.specs.Rows.{rowAt}
-use Rattle.writing.specs.Texts.{Wrote, joined, tableText, laterText}
+use Rattle.buffers.specs.Wrote.{Wrote}
+use Rattle.writing.specs.Texts.{joined, tableText, laterText}
 use Rattle.writing.proofs.Texts.{wrote-start, wrote-room, wrote-next}
 use Rattle.writing.proofs.writing.write_later.Statement.{statement}
 use Rattle.writing.proofs.writing.write_later.Tie as tie

@@ -5,7 +5,8 @@ use native.Mathlib.Omega.{arith}
 use borrow.Author.Needs.{needs}
 use Rattle.rows.specs.Rows.{place, rowAt}
 use Rattle.format.specs.Print.{bytesOf}
-use Rattle.writing.specs.Texts.{Wrote, joined, rowsText}
+use Rattle.buffers.specs.Wrote.{Wrote}
+use Rattle.writing.specs.Texts.{joined, rowsText}
 use Rattle.writing.proofs.Texts.{wrote-start, wrote-room, wrote-next}
 use Rattle.writing.proofs.writing.write_rows.Statement.{statement}
 use Rattle.writing.proofs.writing.write_rows.Tie as tie

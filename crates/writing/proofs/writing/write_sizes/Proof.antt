@@ -5,7 +5,8 @@ use Prim.Native.Nat.{ℕ, _-_, _≤_}
 use native.Mathlib.Omega.{arith}
 use lib.ListN.{getD}
 use borrow.Author.Needs.{needs}
-use Rattle.writing.specs.Texts.{Wrote, joined, sizesText}
+use Rattle.buffers.specs.Wrote.{Wrote}
+use Rattle.writing.specs.Texts.{joined, sizesText}
 use Rattle.writing.proofs.Texts.{wrote-start, wrote-room, wrote-next}
 use Rattle.writing.proofs.writing.write_sizes.Statement.{statement}
 use Rattle.writing.proofs.writing.write_sizes.Tie as tie
@@ -27,7 +28,7 @@ put-byte-requires : tie.Need-put-byte-requires Inv-loop μ-loop
 unfolding sizesText
 put-byte-requires c κs =
     let s = c .before .before .before .before .before in
-    wrote-room _ (s .args .n) (omega arith) (omega arith) (s .pre .1) (c .before .before .before .loop .inv .1)
+    omega (arith, wrote-room _ (s .args .n) (omega arith) (omega arith) (s .pre .1) (c .before .before .before .loop .inv .1))
 
 add-i : tie.Need-add-i Inv-loop μ-loop
 add-i c = search needs

@@ -9,7 +9,8 @@ use borrow.Author.Tests.{not-true, not-false}
 use Rattle.words.specs.Word.{has}
 use Rattle.rows.specs.Rows.{rowAt}
 use Rattle.writing.specs.Texts.{rowsText}
-use Rattle.writing.proofs.Texts.{wrote-none, wrote-table, table-stated, table-unstated}
+use Rattle.buffers.proofs.Laws.{wrote-none}
+use Rattle.writing.proofs.Texts.{wrote-table, table-stated, table-unstated}
 use Rattle.writing.proofs.writing.write_table.Statement.{statement}
 use Rattle.writing.proofs.writing.write_table.Tie as tie
 

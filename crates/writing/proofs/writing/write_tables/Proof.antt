@@ -4,7 +4,8 @@ use Prim.Native.Nat.{_-_, _≤_}
 use native.Mathlib.Omega.{arith}
 use borrow.Author.Needs.{needs}
 use Rattle.rows.specs.Rows.{rowAt}
-use Rattle.writing.specs.Texts.{Wrote, joined, laterText, tablesText}
+use Rattle.buffers.specs.Wrote.{Wrote}
+use Rattle.writing.specs.Texts.{joined, laterText, tablesText}
 use Rattle.writing.proofs.Texts.{wrote-start, wrote-room, wrote-next}
 use Rattle.writing.proofs.writing.write_tables.Statement.{statement}
 use Rattle.writing.proofs.writing.write_tables.Tie as tie

@@ -1,0 +1,238 @@
+//! Compares the proved library with plain Rust: number, place, state, buffer and text of every call. `differ [SHEETS]` sets how many sheets are made.
+use bench::inputs::*;
+use bench::state::{Cut, Read, State, Stepped, Text};
+use bench::{plain, proved};
+
+/// What was compared, and how the calls answered.
+struct Counts {
+    inputs: [(&'static str, usize); 7],
+    calls: [usize; CALLS.len()],
+    numbers: [[usize; 19]; CALLS.len()],
+    differences: usize,
+}
+
+const CALLS: [&str; 10] = [
+    "read",
+    "write",
+    "sound",
+    "eliminate",
+    "reduce",
+    "test",
+    "complete",
+    "verdict",
+    "cut",
+    "text",
+];
+const SHEET: usize = 0;
+const DAMAGED_SHEET: usize = 1;
+const RANDOM_BYTES: usize = 2;
+const READ_STATE: usize = 3;
+const STEPPED_STATE: usize = 4;
+const DAMAGED_STATE: usize = 5;
+const RANDOM_STATE: usize = 6;
+
+impl Counts {
+    fn note<T: PartialEq>(&mut self, call: usize, number: u8, one: &T, other: &T) {
+        self.calls[call] += 1;
+        self.numbers[call][number as usize] += 1;
+        if one != other {
+            self.differences += 1;
+            if self.differences <= 20 {
+                println!("difference in {}, number {number} of the proved library", CALLS[call]);
+            }
+        }
+    }
+
+    fn input(&mut self, kind: usize) {
+        self.inputs[kind].1 += 1;
+    }
+}
+
+/// Every call on bytes: a text counts by the number of its reading.
+fn read(bytes: &[u8], counts: &mut Counts) -> Read {
+    let one = proved::read(bytes);
+    let mut state = State::ZERO;
+    let (number, place) = plain::read(bytes, &mut state);
+    counts.note(0, one.number, &one, &Read { number, place, state });
+    cut(bytes, counts);
+    let mut text = [1; 512];
+    let length = plain::text(bytes, &mut text);
+    counts.note(9, one.number, &proved::text(bytes), &Text { length, bytes: text });
+    one
+}
+
+fn cut(bytes: &[u8], counts: &mut Counts) {
+    let one = proved::cut(bytes);
+    let mut state = State::ZERO;
+    let found = plain::cut(bytes, &mut state);
+    let other = Cut {
+        number: found.number,
+        place: found.place,
+        steps: found.steps,
+        kind: found.kind,
+        solution: found.solution,
+        state,
+    };
+    counts.note(8, one.number, &one, &other);
+}
+
+fn write(state: &State, length: usize, random: &mut Random, counts: &mut Counts) {
+    let before: Vec<u8> = (0..length).map(|_| random.next() as u8).collect();
+    let (mut here, mut there) = (before.clone(), before);
+    let one = proved::write(state, &mut here);
+    let other = plain::write(state, &mut there);
+    counts.note(1, one.number, &(one, here), &(other, there));
+}
+
+fn eliminate(state: &State, leader: usize, follower: usize, counts: &mut Counts) -> Stepped {
+    let one = proved::eliminate(state, leader, follower);
+    counts.note(3, one.number, &one, &plain::eliminate_by_value(*state, leader, follower));
+    one
+}
+
+fn reduce(state: &State, counts: &mut Counts) -> Stepped {
+    let one = proved::reduce(state);
+    counts.note(4, one.number, &one, &plain::reduce_by_value(*state));
+    one
+}
+
+fn test_and_complete(state: &State, build: &[u8], counts: &mut Counts) {
+    let one = proved::test(state, build);
+    counts.note(5, one.number, &one, &plain::test(state, build));
+    let (mut here, mut there) = (build.to_vec(), build.to_vec());
+    let one = proved::complete(state, &mut here);
+    let other = plain::complete(state, &mut there);
+    counts.note(6, one, &(one, here), &(other, there));
+}
+
+/// Every call on one state.
+fn calls(state: &State, build: &[u8], random: &mut Random, counts: &mut Counts) {
+    let sound = proved::is_sound(state);
+    counts.note(2, if sound { 0 } else { 9 }, &sound, &plain::is_sound(state));
+    let one = proved::verdict(state);
+    counts.note(7, one.number, &one, &plain::verdict(state));
+    let n = state.n.min(16);
+    for _ in 0..2 {
+        let (leader, follower) = (random.below(n + 2), random.below(n + 2));
+        eliminate(state, leader, follower, counts);
+    }
+    if random.chance(16) {
+        eliminate(state, random.next() as usize, random.next() as usize, counts);
+    }
+    reduce(state, counts);
+    for _ in 0..2 {
+        let length = if random.chance(2) { n } else { random.below(21) };
+        test_and_complete(state, &buffer(build, length, random), counts);
+    }
+    test_and_complete(state, build, counts);
+    write(
+        state,
+        [random.below(21), random.below(600), 4101][random.below(3)],
+        random,
+        counts,
+    );
+}
+
+/// A state as read, with every length of a buffer, and those that a list of calls leads to.
+fn from_sheet(sheet: &Sheet, random: &mut Random, counts: &mut Counts) {
+    let mut state = read(&sheet.bytes, counts).state;
+    counts.input(READ_STATE);
+    calls(&state, &sheet.build, random, counts);
+    for length in 0..=20 {
+        test_and_complete(&state, &buffer(&sheet.build, length, random), counts);
+    }
+    let whole = sheet.bytes.len();
+    for length in [whole - 1, whole, whole + 1, random.below(whole)] {
+        write(&state, length, random, counts);
+    }
+    for _ in 0..1 + random.below(6) {
+        let n = state.n;
+        state = if random.chance(8) {
+            reduce(&state, counts).state
+        } else {
+            eliminate(&state, 1 + random.below(n), 1 + random.below(n), counts).state
+        };
+        counts.input(STEPPED_STATE);
+        calls(&state, &sheet.build, random, counts);
+        let mut damaged = state;
+        damage_state(&mut damaged, random);
+        counts.input(DAMAGED_STATE);
+        calls(&damaged, &sheet.build, random, counts);
+    }
+}
+
+/// Each kind of damage at every place of a sheet.
+fn damaged(bytes: &[u8], random: &mut Random, counts: &mut Counts) {
+    for at in 0..bytes.len() {
+        for what in 0..DAMAGES {
+            counts.input(DAMAGED_SHEET);
+            read(&damaged_sheet(bytes, at, what, random), counts);
+        }
+    }
+}
+
+/// One sheet and what comes of it, with bytes and states beside it; `at` says which.
+fn round(at: usize, random: &mut Random, counts: &mut Counts) {
+    let sizes = if at % 16 == 0 {
+        let size = [4, 8, 16][random.below(3)];
+        vec![size; size as usize]
+    } else {
+        any_sizes(random)
+    };
+    let sheet = sheet(FAMILIES[at % FAMILIES.len()], &sizes, random);
+    counts.input(SHEET);
+    from_sheet(&sheet, random, counts);
+    if at % 200 == 0 || sheet.bytes.len() < 60 && at % 20 == 1 {
+        damaged(&sheet.bytes, random, counts);
+    }
+    counts.input(RANDOM_BYTES);
+    read(&random_bytes(random), counts);
+    if at % 8 == 0 {
+        counts.input(RANDOM_STATE);
+        calls(&random_state(random), &sheet.build, random, counts);
+    }
+}
+
+fn main() {
+    let sheets: usize = std::env::args()
+        .nth(1)
+        .map_or(12_000, |word| word.parse().expect("a number of sheets"));
+    let names = [
+        "sheets",
+        "damaged sheets",
+        "random bytes",
+        "states as read",
+        "states after calls",
+        "damaged states",
+        "random states",
+    ];
+    let mut counts = Counts {
+        inputs: names.map(|name| (name, 0)),
+        calls: [0; CALLS.len()],
+        numbers: [[0; 19]; CALLS.len()],
+        differences: 0,
+    };
+    let mut random = Random(1);
+    for at in 0..sheets {
+        round(at, &mut random, &mut counts);
+    }
+    report(&counts);
+}
+
+fn report(counts: &Counts) {
+    let mut inputs = 0;
+    for (name, count) in counts.inputs {
+        println!("{name}: {count}");
+        inputs += count;
+    }
+    println!("inputs {inputs}");
+    for (call, name) in CALLS.iter().enumerate() {
+        let numbers: Vec<String> = (0..19)
+            .filter(|&k| counts.numbers[call][k] > 0)
+            .map(|k| format!("{k}: {}", counts.numbers[call][k]))
+            .collect();
+        println!("{name:9} {:8} calls; by number: {}", counts.calls[call], numbers.join(", "));
+    }
+    println!("differences {}", counts.differences);
+    std::process::exit((counts.differences > 0) as i32);
+}

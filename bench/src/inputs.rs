@@ -1,0 +1,280 @@
+//! Sheets, states and buffers to try.
+use crate::state::State;
+
+/// A small generator of random numbers (splitmix64), so that a run can be repeated.
+pub struct Random(pub u64);
+
+impl Random {
+    pub fn next(&mut self) -> u64 {
+        self.0 = self.0.wrapping_add(0x9e37_79b9_7f4a_7c15);
+        let mut x = self.0;
+        x = (x ^ (x >> 30)).wrapping_mul(0xbf58_476d_1ce4_e5b9);
+        x = (x ^ (x >> 27)).wrapping_mul(0x94d0_49bb_1331_11eb);
+        x ^ (x >> 31)
+    }
+
+    pub fn below(&mut self, bound: usize) -> usize {
+        (self.next() % bound as u64) as usize
+    }
+
+    pub fn chance(&mut self, one_in: usize) -> bool {
+        self.below(one_in) == 0
+    }
+}
+
+#[derive(Clone, Copy, PartialEq, Eq, Debug)]
+pub enum Family {
+    /// One table in four pairs, each row a few values.
+    Sparse,
+    /// Each option determines the next.
+    Chain,
+    /// Each pair of neighbours goes together one to one, and so do some others.
+    Bijective,
+    /// Every pair has a table, half of whose bits are set.
+    Dense,
+    /// Every pair has a table, which allows everything.
+    Full,
+    /// Pairs without a table, and tables of every kind above.
+    Mixed,
+}
+
+pub const FAMILIES: [Family; 6] = [
+    Family::Sparse,
+    Family::Chain,
+    Family::Bijective,
+    Family::Dense,
+    Family::Full,
+    Family::Mixed,
+];
+
+/// A sheet, and a build that all its tables allow.
+pub struct Sheet {
+    pub bytes: Vec<u8>,
+    pub build: Vec<u8>,
+}
+
+#[derive(Clone, Copy)]
+enum Kind {
+    Nothing,
+    Few,
+    Function,
+    Permutation,
+    Half,
+    Everything,
+}
+
+fn kind(family: Family, a: usize, b: usize, random: &mut Random) -> Kind {
+    let next = b == a + 1;
+    match family {
+        Family::Sparse if random.chance(4) => Kind::Few,
+        Family::Sparse => Kind::Nothing,
+        Family::Chain if next => Kind::Function,
+        Family::Chain => Kind::Nothing,
+        Family::Bijective if next || random.chance(8) => Kind::Permutation,
+        Family::Bijective => Kind::Nothing,
+        Family::Dense => Kind::Half,
+        Family::Full => Kind::Everything,
+        Family::Mixed => match random.below(12) {
+            0 | 1 => Kind::Few,
+            2 | 3 => Kind::Function,
+            4 => Kind::Permutation,
+            5 => Kind::Half,
+            6 => Kind::Everything,
+            _ => Kind::Nothing,
+        },
+    }
+}
+
+/// Rows of a table of `from` values against `to`; value `a` is to go with value `b`.
+fn rows(kind: Kind, from: usize, to: usize, a: usize, b: usize, random: &mut Random) -> Vec<u16> {
+    let all = ((1u32 << to) - 1) as u16;
+    let shift = random.below(to);
+    let mut rows: Vec<u16> = (0..from)
+        .map(|v| match kind {
+            Kind::Nothing => 0,
+            Kind::Few => random.next() as u16 & random.next() as u16 & all,
+            Kind::Function => 1 << random.below(to),
+            Kind::Permutation if v < to => 1 << ((v + shift) % to),
+            Kind::Permutation => 0,
+            Kind::Half => random.next() as u16 & all,
+            Kind::Everything => all,
+        })
+        .collect();
+    match kind {
+        Kind::Function => rows[a] = 1 << b,
+        Kind::Permutation => {
+            if let Some(other) = rows.iter().position(|&row| row == 1 << b) {
+                rows.swap(other, a);
+            }
+        }
+        _ => rows[a] |= 1 << b,
+    }
+    rows
+}
+
+/// A sheet of a family over options of the given sizes.
+pub fn sheet(family: Family, sizes: &[u8], random: &mut Random) -> Sheet {
+    let n = sizes.len();
+    let build: Vec<u8> = sizes.iter().map(|&size| random.below(size as usize) as u8).collect();
+    let mut tables = Vec::new();
+    let mut count = 0;
+    for a in 0..n {
+        for b in a + 1..n {
+            let kind = kind(family, a, b, random);
+            if let Kind::Nothing = kind {
+                continue;
+            }
+            count += 1;
+            tables.extend([a as u8 + 1, b as u8 + 1]);
+            for row in rows(
+                kind,
+                sizes[a] as usize,
+                sizes[b] as usize,
+                build[a] as usize,
+                build[b] as usize,
+                random,
+            ) {
+                tables.extend(row.to_be_bytes());
+            }
+        }
+    }
+    let mut bytes = vec![1, 0, 0, n as u8];
+    bytes.extend(sizes);
+    bytes.push(count);
+    bytes.extend(tables);
+    mend(&mut bytes);
+    Sheet { bytes, build }
+}
+
+/// Sizes for `n` options, each from 1 to 16.
+pub fn any_sizes(random: &mut Random) -> Vec<u8> {
+    let most = [3, 5, 16][random.below(3)];
+    let longest = [4, 8, 16][random.below(3)];
+    let n = 1 + random.below(longest);
+    (0..n).map(|_| 1 + random.below(most) as u8).collect()
+}
+
+/// Sets the count of the bytes that follow it, as far as it can.
+pub fn mend(bytes: &mut [u8]) {
+    if bytes.len() >= 3 {
+        let count = (bytes.len() - 3) as u16;
+        bytes[1..3].copy_from_slice(&count.to_be_bytes());
+    }
+}
+
+/// Bytes of any kind; half of them with a right version and count.
+pub fn random_bytes(random: &mut Random) -> Vec<u8> {
+    let longest = [8, 40, 600, 4200][random.below(4)];
+    let length = random.below(longest);
+    let small = random.chance(2);
+    let mut bytes: Vec<u8> = (0..length)
+        .map(|_| if small { random.below(18) as u8 } else { random.next() as u8 })
+        .collect();
+    if random.chance(2) && length >= 3 {
+        bytes[0] = 1;
+        mend(&mut bytes);
+    }
+    bytes
+}
+
+/// The sheet with one field or its length changed: `what` counts the kinds of change.
+pub fn damaged_sheet(bytes: &[u8], at: usize, what: usize, random: &mut Random) -> Vec<u8> {
+    let mut changed = bytes.to_vec();
+    match what {
+        0 => changed[at] = random.next() as u8,
+        1 => changed[at] = [0, 1, 2, 15, 16, 17, 128, 255][random.below(8)],
+        2 => changed[at] = changed[at].wrapping_add(1),
+        3 => changed[at] = changed[at].wrapping_sub(1),
+        4 => changed[at] ^= 1 << random.below(8),
+        // cut off here, with and without a right count
+        5 => changed.truncate(at),
+        6 => {
+            changed.truncate(at);
+            mend(&mut changed);
+        }
+        // one byte too many or too few within
+        7 => {
+            changed.insert(at, random.below(17) as u8);
+            mend(&mut changed);
+        }
+        8 => {
+            changed.remove(at);
+            mend(&mut changed);
+        }
+        // bytes left over
+        _ => {
+            changed.extend((0..1 + random.below(5)).map(|_| 0));
+            mend(&mut changed);
+        }
+    }
+    changed
+}
+
+pub const DAMAGES: usize = 10;
+
+/// A state with random contents throughout.
+pub fn random_state(random: &mut Random) -> State {
+    let mut state = State::ZERO;
+    state.n = if random.chance(2) {
+        random.below(18)
+    } else {
+        random.next() as usize
+    };
+    for i in 0..16 {
+        state.sizes[i] = random.below(18) as u8;
+        state.lists[i] = random.next() as u16;
+        state.leaders[i] = random.below(18) as u8;
+        state.stated[i] = random.next() as u16;
+        for j in 0..16 {
+            for a in 0..16 {
+                state.rows[i][j][a] = random.next() as u16;
+            }
+        }
+    }
+    state
+}
+
+/// Changes one or two entries of a state; many of the results are still sound.
+pub fn damage_state(state: &mut State, random: &mut Random) {
+    let n = state.n.clamp(1, 16);
+    for _ in 0..1 + random.below(2) {
+        let (i, j, a) = (random.below(16), random.below(16), random.below(16));
+        let near = random.below(n);
+        match random.below(12) {
+            0 => state.n = [0, n - 1, n + 1, 16, 17, usize::MAX][random.below(6)],
+            1 => state.sizes[i] = [0, 1, 16, 17, 255, state.sizes[i].wrapping_add(1)][random.below(6)],
+            2 => state.lists[i] ^= 1 << a,
+            3 => state.lists[near] &= random.next() as u16,
+            4 => state.leaders[i] = random.below(18) as u8,
+            5 => state.leaders[near] = 1 + random.below(n) as u8,
+            6 => state.stated[i] ^= 1 << j,
+            7 => {
+                // a pair stated or unstated from both sides
+                let other = random.below(n);
+                state.stated[near] ^= 1 << other;
+                state.stated[other] ^= 1 << near;
+            }
+            8 => state.rows[i][j][a] ^= 1 << random.below(16),
+            9 => state.rows[near][random.below(n)][a] ^= 1 << random.below(16),
+            10 => {
+                // one bit of a pair from both sides
+                let (other, b) = (random.below(n), random.below(16));
+                state.rows[near][other][a] ^= 1 << b;
+                state.rows[other][near][b] ^= 1 << a;
+            }
+            _ => state.lists[near] = 0,
+        }
+    }
+}
+
+/// A buffer of `length` bytes that starts like a build.
+pub fn buffer(build: &[u8], length: usize, random: &mut Random) -> Vec<u8> {
+    let wild = random.chance(3);
+    (0..length)
+        .map(|i| match build.get(i) {
+            Some(&value) if !random.chance(8) => value,
+            _ if wild => random.next() as u8,
+            _ => random.below(17) as u8,
+        })
+        .collect()
+}

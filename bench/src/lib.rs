@@ -1,0 +1,5 @@
+//! The proved library beside an independent implementation in plain Rust.
+pub mod inputs;
+pub mod plain;
+pub mod proved;
+pub mod state;

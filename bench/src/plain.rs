@@ -1,0 +1,652 @@
+//! Document 01 in plain Rust, written for speed: bit-parallel, in place, early ways out, no copy of a state.
+use crate::state::{State, Stepped, Tested, Verdict, Written, BUILT, NONE, OPEN};
+
+const LARGEST: usize = 4101;
+
+/// The 16 rows of a pair, four to a word.
+type Block = [u64; 4];
+
+/// All values below `size`.
+#[inline(always)]
+fn full(size: usize) -> u16 {
+    ((1u32 << size) - 1) as u16
+}
+
+#[inline(always)]
+fn block(rows: &[u16; 16]) -> Block {
+    std::array::from_fn(|w| {
+        (rows[4 * w] as u64) | (rows[4 * w + 1] as u64) << 16 | (rows[4 * w + 2] as u64) << 32 | (rows[4 * w + 3] as u64) << 48
+    })
+}
+
+#[inline(always)]
+fn unblock(x: Block) -> [u16; 16] {
+    std::array::from_fn(|a| (x[a / 4] >> (16 * (a % 4))) as u16)
+}
+
+/// The 16 by 16 bits transposed by delta swaps: quarters of 8, of 4, of 2 and of 1.
+#[inline(always)]
+fn transposed(mut x: Block) -> Block {
+    for (low, high, shift, mask) in [
+        (0, 2, 8, 0x00ff_00ff_00ff_00ff),
+        (1, 3, 8, 0x00ff_00ff_00ff_00ff),
+        (0, 1, 4, 0x0f0f_0f0f_0f0f_0f0f),
+        (2, 3, 4, 0x0f0f_0f0f_0f0f_0f0f),
+    ] {
+        let swap = ((x[low] >> shift) ^ x[high]) & mask;
+        x[high] ^= swap;
+        x[low] ^= swap << shift;
+    }
+    for word in &mut x {
+        let two = ((*word >> 30) ^ *word) & 0x0000_0000_cccc_cccc;
+        *word ^= two ^ (two << 30);
+        let one = ((*word >> 15) ^ *word) & 0x0000_aaaa_0000_aaaa;
+        *word ^= one ^ (one << 15);
+    }
+    x
+}
+
+/// The members of a word, lowest first.
+#[inline(always)]
+fn members(mut x: u16) -> impl Iterator<Item = usize> {
+    std::iter::from_fn(move || {
+        if x == 0 {
+            return None;
+        }
+        let lowest = x.trailing_zeros() as usize;
+        x &= x - 1;
+        Some(lowest & 15)
+    })
+}
+
+/// Reads the fields of a sheet into a zero state; number and place of a refusal.
+fn fields(bytes: &[u8], state: &mut State) -> Result<(), (u8, usize)> {
+    let end = bytes.len();
+    let byte = |at: usize| bytes.get(at).copied().ok_or((6, at));
+    let n = byte(3)? as usize;
+    if n == 0 || n > 16 {
+        return Err((3, 3));
+    }
+    state.n = n;
+    for i in 0..n {
+        let size = byte(4 + i)?;
+        if size == 0 || size > 16 {
+            return Err((4, 4 + i));
+        }
+        state.sizes[i] = size;
+        state.lists[i] = full(size as usize);
+    }
+    let tables = byte(4 + n)? as usize;
+    if tables > n * (n - 1) / 2 {
+        return Err((5, 4 + n));
+    }
+    let mut at = 5 + n;
+    let mut previous = 0;
+    for _ in 0..tables {
+        if at + 2 > end {
+            return Err((6, at));
+        }
+        let (a, b) = (bytes[at] as usize, bytes[at + 1] as usize);
+        if a == 0 || b > n || a >= b || a * 256 + b <= previous {
+            return Err((7, at));
+        }
+        previous = a * 256 + b;
+        at = table(bytes, at + 2, a - 1, b - 1, state)?;
+    }
+    if at < end {
+        return Err((6, at));
+    }
+    Ok(())
+}
+
+/// The rows of one table; the place after them.
+#[inline(always)]
+fn table(bytes: &[u8], at: usize, i: usize, j: usize, state: &mut State) -> Result<usize, (u8, usize)> {
+    let (i, j) = (i & 15, j & 15);
+    let outside = !full(state.sizes[j] as usize & 31);
+    let next = at + 2 * state.sizes[i] as usize;
+    let Some(text) = bytes.get(at..next) else {
+        return Err(first_fault(&bytes[at..], at, outside));
+    };
+    let rows = &mut state.rows[i][j];
+    let mut all = 0;
+    for (row, two) in rows.iter_mut().zip(text.chunks_exact(2)) {
+        *row = u16::from_be_bytes([two[0], two[1]]);
+        all |= *row;
+    }
+    if all & outside != 0 {
+        return Err(first_fault(text, at, outside));
+    }
+    let other = transposed(block(rows));
+    state.rows[j][i] = unblock(other);
+    state.stated[i] |= 1 << j;
+    state.stated[j] |= 1 << i;
+    Ok(next)
+}
+
+/// The first row that is out of range, or else where the rows are cut off.
+#[cold]
+fn first_fault(text: &[u8], at: usize, outside: u16) -> (u8, usize) {
+    let mut place = at;
+    for two in text.chunks_exact(2) {
+        if u16::from_be_bytes([two[0], two[1]]) & outside != 0 {
+            return (8, place);
+        }
+        place += 2;
+    }
+    (6, place)
+}
+
+/// Reads a sheet into a zero state, which a refusal leaves as it comes; number and place of a refusal.
+#[inline(always)]
+fn read_into_zero(bytes: &[u8], state: &mut State) -> Result<(), (u8, usize)> {
+    if bytes.len() < 3 || bytes.len() > LARGEST || bytes.len() != 3 + (bytes[1] as usize * 256 + bytes[2] as usize) {
+        return Err((1, 0));
+    }
+    if bytes[0] != 1 {
+        return Err((2, 0));
+    }
+    fields(bytes, state)
+}
+
+/// Reads a sheet into `state`; number and place of a refusal, which leaves the zero state.
+pub fn read(bytes: &[u8], state: &mut State) -> (u8, usize) {
+    *state = State::ZERO;
+    match read_into_zero(bytes, state) {
+        Ok(()) => (0, 0),
+        Err(fault) => {
+            *state = State::ZERO;
+            fault
+        }
+    }
+}
+
+/// Sizes, lists, leaders and stated pairs, as far as each can be judged by itself.
+fn small_arrays_sound(s: &State) -> bool {
+    for i in 0..16 {
+        let size = s.sizes[i];
+        if i < s.n {
+            if size == 0 || size > 16 || s.lists[i] & !full(size as usize) != 0 {
+                return false;
+            }
+        } else if size != 0 || s.lists[i] != 0 || s.leaders[i] != 0 {
+            return false;
+        }
+    }
+    let below = full(s.n);
+    let mut stray = 0;
+    for i in 0..16 {
+        stray |= s.stated[i] & (!below | 1 << i);
+    }
+    let pairs = block(&s.stated);
+    stray == 0 && transposed(pairs) == pairs
+}
+
+/// Unstated pairs allow nothing, and stated ones nothing outside their sizes: a mask for each pair of an option that has a table.
+fn rows_within(s: &State) -> bool {
+    let outside = s.sizes.map(|size| !full(size as usize) as u64 * 0x0001_0001_0001_0001);
+    let mut stray = [0; 4];
+    for i in 0..16 {
+        for j in 0..16 {
+            let x = block(&s.rows[i][j]);
+            let mask = if s.stated[i] == 0 {
+                u64::MAX
+            } else {
+                (((s.stated[i] >> j) & 1) as u64).wrapping_sub(1) | outside[j]
+            };
+            for lane in 0..4 {
+                stray[lane] |= x[lane] & mask;
+            }
+        }
+    }
+    stray == [0; 4]
+}
+
+/// Stated pairs say the same from both sides.
+fn sides_agree(s: &State) -> bool {
+    for i in 0..s.n {
+        for j in members(s.stated[i] & !full(i + 1)) {
+            if transposed(block(&s.rows[i][j])) != block(&s.rows[j][i]) {
+                return false;
+            }
+        }
+    }
+    true
+}
+
+/// Each follower is stated with a live leader alone, and each value in the leader's list has exactly one partner.
+fn followers_sound(s: &State) -> bool {
+    for i in 0..s.n {
+        let leader = s.leaders[i] as usize;
+        if leader == 0 {
+            continue;
+        }
+        let l = leader - 1;
+        if l >= s.n || s.leaders[l] != 0 || s.stated[i] != 1 << l {
+            return false;
+        }
+        for a in members(s.lists[l]) {
+            let partners = s.rows[l][i][a] & s.lists[i];
+            if partners == 0 || partners & (partners - 1) != 0 {
+                return false;
+            }
+        }
+    }
+    true
+}
+
+pub fn is_sound(s: &State) -> bool {
+    s.n >= 1 && s.n <= 16 && small_arrays_sound(s) && rows_within(s) && sides_agree(s) && followers_sound(s)
+}
+
+/// No value in the list of `i` has more than one partner in the list of `j`.
+#[inline(always)]
+fn functional(s: &State, i: usize, j: usize) -> bool {
+    let rows = &s.rows[i][j];
+    for a in members(s.lists[i]) {
+        let partners = rows[a] & s.lists[j];
+        if partners & partners.wrapping_sub(1) != 0 {
+            return false;
+        }
+    }
+    true
+}
+
+/// The number that refuses a step on a sound state, options counted from 1.
+fn refusal(s: &State, leader: usize, follower: usize) -> u8 {
+    if leader == 0 || leader > s.n || follower == 0 || follower > s.n {
+        return 10;
+    }
+    let (i, j) = ((leader - 1) & 15, (follower - 1) & 15);
+    if i == j || s.leaders[i] != 0 || s.leaders[j] != 0 {
+        return 11;
+    }
+    if s.stated[i] >> j & 1 == 0 {
+        return 12;
+    }
+    if !functional(s, i, j) {
+        return 13;
+    }
+    0
+}
+
+/// A legal step. Each value of `i` has at most one partner in `j`, so a composed row is that partner's.
+fn step(s: &mut State, i: usize, j: usize) {
+    let (i, j) = (i & 15, j & 15);
+    let mut partner = [0usize; 16];
+    let mut list = 0u16;
+    for a in members(s.lists[i]) {
+        let partners = s.rows[i][j][a] & s.lists[j];
+        if partners != 0 {
+            list |= 1 << a;
+            partner[a] = partners.trailing_zeros() as usize & 15;
+        }
+    }
+    s.lists[i] = list;
+    for k in members(s.stated[j] & !(1 << i)) {
+        let mut made = [0u16; 16];
+        let through = &s.rows[j][k];
+        for a in members(list) {
+            made[a] = through[partner[a]] & s.lists[k];
+        }
+        if s.stated[i] >> k & 1 == 1 {
+            for (row, before) in made.iter_mut().zip(&s.rows[i][k]) {
+                *row &= before;
+            }
+        }
+        s.rows[i][k] = made;
+        s.rows[k][i] = unblock(transposed(block(&made)));
+        s.rows[j][k] = [0; 16];
+        s.rows[k][j] = [0; 16];
+        s.stated[k] = (s.stated[k] | 1 << i) & !(1 << j);
+        s.stated[i] |= 1 << k;
+    }
+    s.stated[j] = 1 << i;
+    for leader in &mut s.leaders {
+        if *leader as usize == j + 1 {
+            *leader = i as u8 + 1;
+        }
+    }
+    s.leaders[j] = i as u8 + 1;
+}
+
+/// One follow step in place, options counted from 1; the number that refuses.
+pub fn eliminate(s: &mut State, leader: usize, follower: usize) -> u8 {
+    if !is_sound(s) {
+        return 9;
+    }
+    let number = refusal(s, leader, follower);
+    if number == 0 {
+        step(s, leader - 1, follower - 1);
+    }
+    number
+}
+
+/// One follow step where the state goes by value, as in the proved library.
+#[inline(never)]
+pub fn eliminate_by_value(mut state: State, leader: usize, follower: usize) -> Stepped {
+    let number = eliminate(&mut state, leader, follower);
+    Stepped {
+        number,
+        steps: (number == 0) as usize,
+        state,
+    }
+}
+
+/// The lowest live option that has a legal follower, with the lowest such follower.
+fn next_step(s: &State, live: u16) -> Option<(usize, usize)> {
+    for i in members(live) {
+        for j in members(s.stated[i] & live) {
+            if functional(s, i, j) {
+                return Some((i, j));
+            }
+        }
+    }
+    None
+}
+
+fn live(s: &State) -> u16 {
+    let mut live = 0;
+    for i in 0..s.n {
+        live |= ((s.leaders[i] == 0) as u16) << i;
+    }
+    live
+}
+
+/// Steps of a sound state until none is legal; their count.
+#[inline]
+fn reduce_sound(s: &mut State) -> usize {
+    let mut live = live(s);
+    let mut steps = 0;
+    while let Some((i, j)) = next_step(s, live) {
+        step(s, i, j);
+        live &= !(1 << j);
+        steps += 1;
+    }
+    steps
+}
+
+/// The full reduction in place: the number that refuses, and the count of steps.
+pub fn reduce(s: &mut State) -> (u8, usize) {
+    if !is_sound(s) {
+        return (9, 0);
+    }
+    (0, reduce_sound(s))
+}
+
+/// The full reduction where the state goes by value, as in the proved library.
+#[inline(never)]
+pub fn reduce_by_value(mut state: State) -> Stepped {
+    let (number, steps) = reduce(&mut state);
+    Stepped { number, steps, state }
+}
+
+/// The followers' values from those of the live options.
+#[inline(always)]
+fn follow(s: &State, build: &mut [u8]) {
+    for i in 0..s.n {
+        let leader = s.leaders[i] as usize;
+        if leader != 0 {
+            let row = s.rows[(leader - 1) & 15][i & 15][build[leader - 1] as usize & 15];
+            build[i] = (row & s.lists[i]).trailing_zeros() as u8;
+        }
+    }
+}
+
+/// The kind of a sound state's verdict, and the build shown.
+#[inline]
+fn verdict_sound(s: &State) -> (u8, [u8; 16]) {
+    let mut build = [0; 16];
+    let live = live(s);
+    if members(live).any(|i| s.lists[i] == 0) {
+        return (NONE, build);
+    }
+    if live & (live - 1) != 0 {
+        return (OPEN, build);
+    }
+    let i = live.trailing_zeros() as usize & 15;
+    build[i] = s.lists[i].trailing_zeros() as u8;
+    follow(s, &mut build);
+    (BUILT, build)
+}
+
+pub fn verdict(s: &State) -> Verdict {
+    if !is_sound(s) {
+        return Verdict {
+            number: 9,
+            kind: NONE,
+            solution: [0; 16],
+        };
+    }
+    let (kind, solution) = verdict_sound(s);
+    Verdict {
+        number: 0,
+        kind,
+        solution,
+    }
+}
+
+/// Each stated pair of two options of `among` allows its two values, which are below 16.
+#[inline(always)]
+fn pairs_allow(s: &State, among: u16, build: &[u8]) -> bool {
+    for i in members(among) {
+        for j in members(s.stated[i] & among & !full(i + 1)) {
+            if s.rows[i][j][build[i] as usize & 15] >> (build[j] & 15) & 1 == 0 {
+                return false;
+            }
+        }
+    }
+    true
+}
+
+pub fn test(s: &State, build: &[u8]) -> Tested {
+    let answer = |number, agrees| Tested { number, agrees };
+    if !is_sound(s) {
+        return answer(9, false);
+    }
+    if build.len() != s.n {
+        return answer(14, false);
+    }
+    if build.iter().zip(&s.sizes).any(|(value, size)| value >= size) {
+        return answer(15, false);
+    }
+    let inside = build.iter().zip(&s.lists).all(|(value, list)| list >> value & 1 == 1);
+    answer(0, inside && pairs_allow(s, full(s.n), build))
+}
+
+/// Writes the followers' values; the number that refuses.
+pub fn complete(s: &State, build: &mut [u8]) -> u8 {
+    if !is_sound(s) {
+        return 9;
+    }
+    if build.len() != s.n {
+        return 14;
+    }
+    let live = live(s);
+    if members(live).any(|i| build[i] > 15 || s.lists[i] >> build[i] & 1 == 0) {
+        return 15;
+    }
+    if !pairs_allow(s, live, build) {
+        return 16;
+    }
+    follow(s, build);
+    0
+}
+
+/// The tables, each by its pair and its rows, from byte `at` on.
+fn write_tables(s: &State, buffer: &mut [u8], mut at: usize) {
+    for i in 0..s.n {
+        let length = 2 + 2 * s.sizes[i] as usize;
+        for j in members(s.stated[i] & !full(i + 1)) {
+            let text = &mut buffer[at..at + length];
+            text[0] = i as u8 + 1;
+            text[1] = j as u8 + 1;
+            for (two, row) in text[2..].chunks_exact_mut(2).zip(&s.rows[i][j]) {
+                two.copy_from_slice(&row.to_be_bytes());
+            }
+            at += length;
+        }
+    }
+}
+
+/// Writes the sheet of a state as just read.
+pub fn write(s: &State, buffer: &mut [u8]) -> Written {
+    let refused = |number| Written { number, length: 0 };
+    if !is_sound(s) {
+        return refused(9);
+    }
+    let n = s.n;
+    if (0..n).any(|i| s.leaders[i] != 0 || s.lists[i] != full(s.sizes[i] as usize)) {
+        return refused(18);
+    }
+    let (mut length, mut tables) = (5 + n, 0);
+    for i in 0..n {
+        let later = (s.stated[i] & !full(i + 1)).count_ones() as usize;
+        tables += later;
+        length += later * (2 + 2 * s.sizes[i] as usize);
+    }
+    let Some(buffer) = buffer.get_mut(..length) else {
+        return refused(17);
+    };
+    buffer[0] = 1;
+    buffer[1..3].copy_from_slice(&((length - 3) as u16).to_be_bytes());
+    buffer[3] = n as u8;
+    buffer[4..4 + n].copy_from_slice(&s.sizes[..n]);
+    buffer[4 + n] = tables as u8;
+    write_tables(s, buffer, 5 + n);
+    Written { number: 0, length }
+}
+
+/// What `cut` finds beside the state.
+pub struct Found {
+    pub number: u8,
+    pub place: usize,
+    pub steps: usize,
+    pub kind: u8,
+    pub solution: [u8; 16],
+}
+
+/// Reads a sheet into `state`, reduces it and gives the verdict. A state just read is sound, and so it stays.
+pub fn cut(bytes: &[u8], state: &mut State) -> Found {
+    let (number, place) = read(bytes, state);
+    let mut found = Found {
+        number,
+        place,
+        steps: 0,
+        kind: NONE,
+        solution: [0; 16],
+    };
+    if number == 0 {
+        found.steps = reduce_sound(state);
+        (found.kind, found.solution) = verdict_sound(state);
+    }
+    found
+}
+
+/// A text that grows in a zero buffer; none has more than 352 bytes.
+struct Line<'a> {
+    bytes: &'a mut [u8; 512],
+    at: usize,
+}
+
+impl Line<'_> {
+    #[inline(always)]
+    fn word<const N: usize>(&mut self, word: &[u8; N]) {
+        self.bytes[self.at..self.at + N].copy_from_slice(word);
+        self.at += N;
+    }
+
+    /// A number below 100 in decimal.
+    #[inline(always)]
+    fn small(&mut self, number: usize) {
+        let digits = [b'0' + (number / 10) as u8, b'0' + (number % 10) as u8];
+        if number < 10 {
+            self.word(&[digits[1]]);
+        } else {
+            self.word(&digits);
+        }
+    }
+
+    /// A number below 10000 in decimal.
+    #[inline(always)]
+    fn place(&mut self, number: usize) {
+        if number >= 100 {
+            self.small(number / 100);
+            self.word(&[b'0' + (number / 10 % 10) as u8, b'0' + (number % 10) as u8]);
+        } else {
+            self.small(number);
+        }
+    }
+
+    /// Four upper-case hexadecimal digits.
+    #[inline(always)]
+    fn list(&mut self, list: u16) {
+        let digit = |shift: u32| b"0123456789ABCDEF"[(list >> shift & 15) as usize];
+        self.word(&[digit(12), digit(8), digit(4), digit(0)]);
+    }
+}
+
+/// The lines of the options.
+#[inline(always)]
+fn options_text(s: &State, line: &mut Line) {
+    for i in 0..s.n.min(16) {
+        let leader = s.leaders[i] as usize;
+        if leader == 0 {
+            line.word(b"LIVE ");
+            line.small(i + 1);
+            line.word(b" LIST ");
+            line.list(s.lists[i]);
+        } else {
+            line.word(b"FOLLOWS ");
+            line.small(i + 1);
+            line.word(b" OF ");
+            line.small(leader);
+        }
+        line.word(b"\n");
+    }
+}
+
+/// The line of the verdict, and the build where there is one.
+#[inline(always)]
+fn verdict_text(s: &State, line: &mut Line) {
+    match verdict_sound(s) {
+        (BUILT, build) => {
+            line.word(b"VERDICT BUILT\nBUILD");
+            for &value in &build[..s.n.min(16)] {
+                line.word(b" ");
+                line.small(value as usize);
+            }
+            line.word(b"\n");
+        }
+        (NONE, _) => line.word(b"VERDICT NONE\n"),
+        _ => line.word(b"VERDICT OPEN\n"),
+    }
+}
+
+/// The text of sheetcut, with zeros past it; its length.
+pub fn text(bytes: &[u8], text: &mut [u8; 512]) -> usize {
+    *text = [0; 512];
+    let mut line = Line { bytes: text, at: 0 };
+    let mut state = State::ZERO;
+    match read_into_zero(bytes, &mut state) {
+        Ok(()) => {
+            let steps = reduce_sound(&mut state);
+            line.word(b"OPTIONS ");
+            line.small(state.n);
+            line.word(b"\n");
+            options_text(&state, &mut line);
+            line.word(b"STEPS ");
+            line.small(steps);
+            line.word(b"\n");
+            verdict_text(&state, &mut line);
+        }
+        Err((number, place)) => {
+            line.word(b"REFUSED ");
+            line.small(number as usize);
+            line.word(b" AT ");
+            line.place(place);
+            line.word(b"\n");
+        }
+    }
+    line.at
+}

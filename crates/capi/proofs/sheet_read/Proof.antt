@@ -1,0 +1,25 @@
+use Rattle.capi.proofs.Laws.{read-out}
+use borrow.Author.Needs.{needs}
+use Rattle.capi.proofs.sheet_read.Statement.{statement}
+use Rattle.capi.proofs.sheet_read.Tie as tie
+use Rattle.capi.proofs.sheet_read.Reads as reads
+use Rattle.capi.proofs.sheet_read.Lts as lts
+use Rattle.capi.proofs.read_number.Reads as read-number-reads
+use Rattle.capi.proofs.read_place.Reads as read-place-reads
+use Rattle.sheet.proofs.read.Reads as read-reads
+
+read-requires : tie.Need-read-requires
+read-requires c κs = search needs
+
+read-number-requires : tie.Need-read-number-requires
+read-number-requires c κs = search needs
+
+read-place-requires : tie.Need-read-place-requires
+read-place-requires c κs = search needs
+
+returns : tie.Need-returns
+returns c = read-out _ _ _ _ (c .before .before .before .read .ensures) (c .before .read-number .ensures) (c .read-place .ensures)
+
+pub sheet-read-spec : {M : Type 1} → statement M
+sheet-read-spec =
+    tie.close (tie.spec read-requires read-number-requires read-place-requires returns)

@@ -1,0 +1,25 @@
+use Rattle.capi.proofs.Laws.{tested-out}
+use borrow.Author.Needs.{needs}
+use Rattle.capi.proofs.sheet_test.Statement.{statement}
+use Rattle.capi.proofs.sheet_test.Tie as tie
+use Rattle.capi.proofs.sheet_test.Reads as reads
+use Rattle.capi.proofs.sheet_test.Lts as lts
+use Rattle.capi.proofs.test_agrees.Reads as test-agrees-reads
+use Rattle.capi.proofs.test_number.Reads as test-number-reads
+use Rattle.sheet.proofs.test.Reads as test-reads
+
+test-requires : tie.Need-test-requires
+test-requires c κs = search needs
+
+test-number-requires : tie.Need-test-number-requires
+test-number-requires c κs = search needs
+
+test-agrees-requires : tie.Need-test-agrees-requires
+test-agrees-requires c κs = search needs
+
+returns : tie.Need-returns
+returns c = tested-out _ _ _ _ (c .before .before .test .ensures) (c .before .test-number .ensures) (c .test-agrees .ensures)
+
+pub sheet-test-spec : {M : Type 1} → statement M
+sheet-test-spec =
+    tie.close (tie.spec test-requires test-number-requires test-agrees-requires returns)

@@ -1,0 +1,155 @@
+-- Case A by computation, through the definition of reading. The rows are compared at the values of the three options alone: both networks are
+-- sound, so neither allows anything elsewhere.
+use mathlib.Core.Bool.{Bool, true}
+use mathlib.Core.List.{List, [], _∷_}
+use mathlib.Core.Path.{_≡_, refl, sym, ap, _∙_, fun-ext}
+use Prim.Native.Nat.{ℕ, zero, suc, _≤_, _<_}
+use native.Mathlib.Omega.{arith}
+use lib.Dec.{ltb}
+use lib.ListN.{length, getD, replicate, List·getD-eq-default}
+use borrow.Author.Tests.{ltb-true, ltb-false}
+use Rattle.bounded.specs.Bool.{and, or, implies, not, bit, if}
+use Rattle.bounded.specs.Fold.{every, some, sum, count, first}
+use Rattle.bounded.specs.Table.{tabulate}
+use Rattle.bounded.proofs.Bool.{by-cases, bool-ext, and-l, and-r, implies-e}
+use Rattle.bounded.proofs.Fold.{every-e}
+use Rattle.words.specs.Word.{has, word}
+use Rattle.network.specs.Network.{Network, free, partner, functional}
+use Rattle.network.specs.Sound.{Sound}
+use Rattle.network.specs.Promise.{Keeps}
+use Rattle.network.specs.Step.{outside, refusal, legal, trimmed, third, joined, composed, eliminate}
+use Rattle.network.specs.Reduction.{Reduced, freeCount, leading, reducible, nextLeader, nextFollower, advance, oneMore, reduceWithin, reduce}
+use Rattle.network.specs.Sheet.{Table, Sheet, isFor, tabled, rowFor, networkOf}
+use Rattle.network.proofs.Reduction.{reduce-run, run-keeps}
+use Rattle.format.specs.Layout.{version1, countTest, sizeTest, constraintsTest, pairTest, withinTest}
+use Rattle.format.specs.Parse.{got, bind, numberAt, judged, field, many, fields, pairOf, sizeOf, parseTable, parseTables, ended, parseBody, wrongLength, parse}
+use Rattle.rows.specs.Rows.{rowsOf}
+use Rattle.sheet.specs.declared.state.State.{State}
+use Rattle.sheet.specs.View.{view, pack}
+use Rattle.sheet.specs.Answers.{ReadTold, Told}
+use Rattle.sheet.specs.Read.{readSheet}
+use Rattle.sheet.specs.Steps.{reduced, reducedAs}
+use Rattle.sheet.proofs.RoundTrip.{Accepted, AsRead, read-got, read-sound, got-accepted}
+use Rattle.sheet.proofs.Steps.{reduced-done}
+use Rattle.cases.specs.CaseA.{bytesA, bytesLast, stateLast, cutA}
+
+sheetA : Sheet
+sheetA =
+    record {
+      sizes = 2 ∷ 3 ∷ 2 ∷ [];
+      tables = record { first = 1; second = 2; rows = 1 ∷ 4 ∷ [] } ∷ record { first = 2; second = 3; rows = 2 ∷ 1 ∷ 1 ∷ [] } ∷ [];
+    }
+
+sheetLast : Sheet
+sheetLast =
+    record {
+      sizes = 2 ∷ 3 ∷ 2 ∷ [];
+      tables = record { first = 1; second = 2; rows = 1 ∷ 4 ∷ [] } ∷ record { first = 1; second = 3; rows = 2 ∷ 1 ∷ [] } ∷ [];
+    }
+
+parsed-A : parse version1 bytesA ≡ got sheetA 22
+unfolding or not if countTest sizeTest constraintsTest pairTest withinTest version1 bind numberAt judged field many fields pairOf sizeOf parseTable parseTables ended parseBody wrongLength parse bytesA sheetA
+parsed-A = refl
+
+parsed-last : parse version1 bytesLast ≡ got sheetLast 20
+unfolding or not if countTest sizeTest constraintsTest pairTest withinTest version1 bind numberAt judged field many fields pairOf sizeOf parseTable parseTables ended parseBody wrongLength parse bytesLast sheetLast
+parsed-last = refl
+
+-- Bytes are below 256.
+octet : (bytes : List ℕ) → every (length bytes) (λ (k : ℕ). ltb (getD bytes k 0) 256) ≡ true → (k : ℕ) → getD bytes k 0 < 256
+octet bytes h k =
+    by-cases (ltb k (length bytes))
+    (λ t. ltb-true _ _ (every-e _ _ h k (ltb-true _ _ t)))
+    (λ t. rw (List·getD-eq-default bytes 0 (ltb-false _ _ t)) (omega arith))
+
+octets-A : (k : ℕ) → getD bytesA k 0 < 256
+unfolding every and bytesA
+octets-A = octet bytesA refl
+
+octets-last : (k : ℕ) → getD bytesLast k 0 < 256
+unfolding every and bytesLast
+octets-last = octet bytesLast refl
+
+accepted-A : Accepted bytesA sheetA
+accepted-A = got-accepted bytesA octets-A sheetA 22 parsed-A
+
+accepted-last : Accepted bytesLast sheetLast
+accepted-last = got-accepted bytesLast octets-last sheetLast 20 parsed-last
+
+-- The network that the full reduction leaves.
+last : Network
+last = reduce (networkOf sheetA) .network
+
+keeps : Keeps (networkOf sheetA) last (λ (f : ℕ → ℕ). true)
+unfolding last
+keeps = run-keeps (accepted-A .sheet-sound) (reduce-run (networkOf sheetA))
+
+-- What a network of A's sizes allows is within them.
+module _ (N : Network) (S : Sound N) (three : N .n ≡ 3) (small : (i : ℕ) → N .size i ≤ 3) where
+  within : (i j a b : ℕ) → N .allows i j a b ≡ true → (i < 3) × (j < 3) × (a < 3) × (b < 3)
+  within i j a b h =
+      let (p, q) = S .stated-in i j (S .allows-stated i j a b h) in
+      let (u, v) = S .allows-in i j a b h in
+      (omega arith, omega arith, omega (arith, small i), omega (arith, small j))
+
+sizes-small : (i : ℕ) → getD (2 ∷ 3 ∷ 2 ∷ []) i 0 ≤ 3
+sizes-small zero = omega arith
+sizes-small (suc zero) = omega arith
+sizes-small (suc (suc zero)) = omega arith
+sizes-small (suc (suc (suc i))) = omega arith
+
+same : Bool → Bool → Bool
+same x y = and (implies x y) (implies y x)
+
+-- Everything that is computed: what each pair allows, the other arrays, and the steps.
+record Computed : Type 0 where
+  pairs : every 3 (λ (i : ℕ). every 3 (λ (j : ℕ). every 3 (λ (a : ℕ). every 3 (λ (b : ℕ).
+      same (last .allows i j a b) (networkOf sheetLast .allows i j a b))))) ≡ true
+  sizes : tabulate 16 (last .size) ≡ stateLast .sizes
+  domains : tabulate 16 (λ (i : ℕ). word 16 (last .domain i)) ≡ stateLast .domains
+  leaders : tabulate 16 (last .leader) ≡ stateLast .leaders
+  stated : tabulate 16 (λ (i : ℕ). word 16 (last .stated i)) ≡ stateLast .stated
+  steps : reduce (networkOf sheetA) .steps ≡ 2
+
+computed : Computed
+unfolding and or implies not bit if every some sum count first has word free partner functional outside refusal legal trimmed third joined composed eliminate freeCount leading reducible nextLeader nextFollower advance oneMore reduceWithin reduce isFor tabled rowFor networkOf sheetA sheetLast same last tabulate stateLast
+computed = record { pairs = refl; sizes = refl; domains = refl; leaders = refl; stated = refl; steps = refl }
+
+same-pair : (i j a b : ℕ) → last .allows i j a b ≡ networkOf sheetLast .allows i j a b
+unfolding same networkOf sheetA sheetLast
+same-pair i j a b =
+    let at : (i < 3) × (j < 3) × (a < 3) × (b < 3) → same (last .allows i j a b) (networkOf sheetLast .allows i j a b) ≡ true =
+    λ (p, q, u, v). every-e _ _ (every-e _ _ (every-e _ _ (every-e _ _ (computed .pairs) i p) j q) a u) b v in
+    bool-ext _ _
+    (λ h. implies-e _ _ (and-l _ _ (at (within last (keeps .still-sound) (keeps .same-n) (λ x. rw (keeps .same-size x) (sizes-small x)) i j a b h))) h)
+    (λ h. implies-e _ _ (and-r _ _ (at (within (networkOf sheetLast) (accepted-last .sheet-sound) refl sizes-small i j a b h))) h)
+
+same-rows : rowsOf 16 (last .allows) ≡ readSheet bytesLast .state .rows
+unfolding pack
+same-rows =
+    ap (rowsOf 16) (fun-ext (λ i. fun-ext (λ j. fun-ext (λ a. fun-ext (λ b. same-pair i j a b)))))
+    ∙ ap (λ (s : State). s .rows) (sym (accepted-last .state-is))
+
+last-state : pack last ≡ stateLast
+unfolding pack stateLast networkOf sheetA
+last-state = λ z. record {
+  n = keeps .same-n z;
+  sizes = computed .sizes z;
+  domains = computed .domains z;
+  leaders = computed .leaders z;
+  stated = computed .stated z;
+  rows = same-rows z;
+}
+
+-- Case A: the sheet is accepted, and its full reduction leaves this state after 2 steps.
+pub case-A : (readSheet bytesA .number ≡ 0) × (reduced (readSheet bytesA .state) ≡ cutA)
+unfolding reducedAs cutA last
+case-A =
+    let e = read-got bytesA sheetA 22 parsed-A in
+    let number = ap (λ (r : ReadTold). r .number) e in
+    let r = read-sound bytesA octets-A number in (
+      number,
+      reduced-done (readSheet bytesA .state) (r .is-sound)
+          ∙ ap (λ (N : Network). reducedAs (reduce N)) (accepted-A .view-is)
+          ∙ (λ z. record { number = 0; state = last-state z; steps = computed .steps z }),
+    )

@@ -1,0 +1,30 @@
+-- Case A of document 01: the bytes of the sheet, and the state that the full reduction leaves.
+use mathlib.Core.List.{List, [], _∷_}
+use Prim.Native.Nat.{ℕ}
+use lib.ListN.{replicate}
+use Rattle.sheet.specs.declared.state.State.{State}
+use Rattle.sheet.specs.Answers.{Told}
+use Rattle.sheet.specs.Read.{readSheet}
+
+-- `01 00 13 03 02 03 02 02 01 02 00 01 00 04 02 03 00 02 00 01 00 01`
+unfoldable pub bytesA : List ℕ
+bytesA = 1 ∷ 0 ∷ 19 ∷ 3 ∷ 2 ∷ 3 ∷ 2 ∷ 2 ∷ 1 ∷ 2 ∷ 0 ∷ 1 ∷ 0 ∷ 4 ∷ 2 ∷ 3 ∷ 0 ∷ 2 ∷ 0 ∷ 1 ∷ 0 ∷ 1 ∷ []
+
+-- The sheet that has the pairs of the last state as its tables: (1,2) 0001 0004 as in A, and (1,3) 0002 0001, which rule 2 composes.
+unfoldable pub bytesLast : List ℕ
+bytesLast = 1 ∷ 0 ∷ 17 ∷ 3 ∷ 2 ∷ 3 ∷ 2 ∷ 2 ∷ 1 ∷ 2 ∷ 0 ∷ 1 ∷ 0 ∷ 4 ∷ 1 ∷ 3 ∷ 0 ∷ 2 ∷ 0 ∷ 1 ∷ []
+
+-- After 2 steps options 2 and 3 follow 1, each list is still full, and 1 is stated with both.
+unfoldable pub stateLast : State
+stateLast =
+    record {
+      n = 3;
+      sizes = 2 ∷ 3 ∷ 2 ∷ replicate 13 0;
+      domains = 3 ∷ 7 ∷ 3 ∷ replicate 13 0;
+      leaders = 0 ∷ 1 ∷ 1 ∷ replicate 13 0;
+      stated = 6 ∷ 1 ∷ 1 ∷ replicate 13 0;
+      rows = readSheet bytesLast .state .rows;
+    }
+
+unfoldable pub cutA : Told
+cutA = record { number = 0; state = stateLast; steps = 2 }

@@ -1,0 +1,1 @@
+// Worked cases: definitions and what is computed of them.

@@ -1,0 +1,90 @@
+-- The places that the parser names lie within the bytes: "Places are byte numbers counted from 0."
+use mathlib.Core.Bool.{true, false}
+use mathlib.Core.List.{List, [], _∷_}
+use mathlib.Core.Path.{_≡_, refl, sym, subst}
+use Prim.Native.Nat.{ℕ, zero, suc, _+_, _≤_, _<_}
+use native.Mathlib.Omega.{arith}
+use lib.Dec.{eqb, ltb}
+use lib.ListN.{length, getD}
+use borrow.Author.Tests.{ltb-true, ltb-false}
+use Rattle.bounded.proofs.Bool.{by-cases, if-true, if-false}
+use Rattle.cause.specs.declared.Cause.{Cause}
+use Rattle.network.specs.Sheet.{Table, Sheet}
+use Rattle.format.specs.Layout.{Layout, Test, fine, fault}
+use Rattle.format.specs.Parse.{Parse, got, bad, bind, judged, field, many, fields, parseTable, parseTables, ended, parseBody, wrongLength, parse}
+use Rattle.format.proofs.Parse.{LengthFits, length-fits, parse-wrong-length, parse-wrong-version, parse-is-body}
+
+-- The place after what was got, or the place of the fault, is at most m.
+pub data Within {A : Type 0} (m : ℕ) : Parse A → Type 0 where
+  got-within : {x : A} {next : ℕ} → next ≤ m → Within m (got x next)
+  bad-within : {c : Cause} {at : ℕ} → at ≤ m → Within m (bad c at)
+
+within-less : {A : Type 0} {m n : ℕ} {p : Parse A} → m ≤ n → Within m p → Within n p
+within-less l (got-within {next = next} h) = got-within {next = next} (omega arith)
+within-less l (bad-within {at = at} h) = bad-within {at = at} (omega arith)
+
+of-bad : {A : Type 0} {m : ℕ} {c : Cause} {at : ℕ} → Within {A = A} m (bad c at) → at ≤ m
+of-bad (bad-within h) = h
+
+bind-within : {A B : Type 0} {m : ℕ} (f : A → ℕ → Parse B) {p : Parse A} → Within m p
+    → ((x : A) (next : ℕ) → next ≤ m → Within m (f x next)) → Within m (bind p f)
+unfolding bind
+bind-within f (got-within h) k = k _ _ h
+bind-within f (bad-within h) k = bad-within h
+
+judged-within : (t : Test) (v at k m : ℕ) → at + k ≤ m → Within m (judged t v at k)
+unfolding judged
+judged-within fine v at k m h = got-within h
+judged-within (fault c) v at k m h = bad-within {at = at} (omega arith)
+
+module _ (bytes : List ℕ) where
+  field-within : (k : ℕ) (test : ℕ → Test) (at : ℕ) → at ≤ length bytes → Within (length bytes) (field k test bytes at)
+  unfolding field
+  field-within k test at h =
+      by-cases (ltb (length bytes) (at + k))
+      (λ t. rw (if-true _ _ _ t) (bad-within h))
+      (λ t. rw (if-false _ _ _ t) (judged-within _ _ at k (length bytes) (ltb-false _ _ t)))
+
+  many-within : {S A : Type 0} (step : S → A → S) (item : S → List ℕ → ℕ → Parse A)
+      → ((s : S) (at : ℕ) → at ≤ length bytes → Within (length bytes) (item s bytes at))
+      → (count : ℕ) (s : S) (at : ℕ) → at ≤ length bytes → Within (length bytes) (many step item count s bytes at)
+  unfolding many
+  many-within step item each zero s at h = got-within h
+  many-within step item each (suc count) s at h =
+      bind-within _ (each s at h) (λ x next l. bind-within _ (many-within step item each count (step s x) next l) (λ xs end k. got-within k))
+
+  fields-within : (k : ℕ) (test : ℕ → Test) (count at : ℕ) → at ≤ length bytes → Within (length bytes) (fields k test count bytes at)
+  unfolding fields
+  fields-within k test count at h = many-within _ _ (λ s next l. field-within k test next l) count 0 at h
+
+  table-within : (L : Layout) (sizes : List ℕ) (previous at : ℕ) → at ≤ length bytes → Within (length bytes) (parseTable L sizes previous bytes at)
+  unfolding parseTable
+  table-within L sizes previous at h =
+      bind-within _ (field-within 2 _ at h) (λ pair next l. bind-within _ (fields-within _ _ _ next l) (λ rows end k. got-within k))
+
+  ended-within : (s : Sheet) (at : ℕ) → at ≤ length bytes → Within (length bytes) (ended s bytes at)
+  unfolding ended
+  ended-within s at h =
+      by-cases (ltb at (length bytes)) (λ t. rw (if-true _ _ _ t) (bad-within h)) (λ t. rw (if-false _ _ _ t) (got-within h))
+
+  body-within : (L : Layout) → 3 ≤ length bytes → Within (length bytes) (parseBody L bytes)
+  unfolding parseBody parseTables
+  body-within L h =
+      bind-within _ (field-within 1 _ 3 h) (λ n next l.
+      bind-within _ (fields-within 1 _ n next l) (λ sizes next l.
+      bind-within _ (field-within 1 _ next l) (λ p next l.
+      bind-within _ (many-within _ _ (λ s at k. table-within L sizes s at k) p 0 next l) (λ tables next l.
+      ended-within _ next l))))
+
+  parse-within : (L : Layout) → Within (L .longest) (parse L bytes)
+  parse-within L =
+      by-cases (wrongLength L bytes)
+      (λ t. rw (parse-wrong-length L bytes t) (bad-within {at = 0} (omega arith)))
+      (λ t. by-cases (eqb (getD bytes 0 0) (L .version))
+      (λ v. let F = length-fits L bytes t in
+      rw (parse-is-body L bytes t v) (within-less (F .not-too-long) (body-within L (F .at-least-three))))
+      (λ v. rw (parse-wrong-version L bytes t v) (bad-within {at = 0} (omega arith))))
+
+  -- The place of a refusal is within the largest sheet.
+  pub refused-place : (L : Layout) {c : Cause} {at : ℕ} → parse L bytes ≡ bad c at → at ≤ L .longest
+  refused-place L e = of-bad (subst (Within (L .longest)) e (parse-within L))

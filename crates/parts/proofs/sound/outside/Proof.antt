@@ -1,0 +1,27 @@
+-- The complement of the values below the size, four times: `bars-full`.
+use mathlib.Core.Path.{ap, _∙_}
+use Prim.Native.Nat.{ℕ}
+use lib.Dec.{ltb}
+use borrow.Author.Needs.{needs}
+use Rattle.words.specs.Word.{word}
+use Rattle.parts.proofs.Tests.{bars-full}
+use Rattle.parts.proofs.sound.outside.Statement.{statement}
+use Rattle.parts.proofs.sound.outside.Tie as tie
+
+wide-requires : tie.Need-wide-requires
+wide-requires c κs = search needs
+
+full-requires : tie.Need-full-requires
+full-requires c κs = search needs
+
+repeated-requires : tie.Need-repeated-requires
+repeated-requires c κs = search needs
+
+returns : tie.Need-returns
+returns c =
+    bars-full (c .before .full .result) (c .before .before .before .args .size) _ (c .before .full .ok)
+    (c .before .full .ensures ∙ ap (λ (k : ℕ). word 16 (λ (u : ℕ). ltb u k)) (c .before .before .wide .ensures))
+    (c .repeated .ensures)
+
+pub outside-spec : {M : Type 1} → statement M
+outside-spec = tie.close (tie.spec wide-requires full-requires repeated-requires returns)

@@ -1,0 +1,73 @@
+-- The loop's invariant: nothing is found where the rows against the first `j` variables have only what they may. A turn searches those against
+-- one more: `empty-joins`.
+use mathlib.Core.Path.{_≡_, refl}
+use Prim.Native.Nat.{ℕ, _-_, _≤_}
+use native.Mathlib.Omega.{arith}
+use lib.Dec.{eqb, ltb}
+use lib.ListN.{getD}
+use borrow.Author.Needs.{needs}
+use Rattle.bounded.specs.Fold.{every}
+use Rattle.rows.proofs.Search.{empty-joins}
+use Rattle.parts.specs.Parts.{againstFits, rowsWithin}
+use Rattle.parts.proofs.sound.rows_within.Statement.{statement}
+use Rattle.parts.proofs.sound.rows_within.Tie as tie
+
+abbrev Inv-loop : tie.InvT-loop
+Inv-loop sizes stated rows stray₀ j₀ stray j =
+    (j ≤ 16) × (eqb stray 0 ≡ every j (λ (k : ℕ). againstFits rows (getD stated k 0) k (λ (v : ℕ). ltb v (getD sizes k 0))))
+
+abbrev μ-loop : tie.MeasureT-loop
+μ-loop sizes stated rows stray₀ j₀ stray j = 16 - j
+
+loop-holds : tie.Need-loop-holds Inv-loop μ-loop
+unfolding every
+loop-holds c = (omega arith, refl)
+
+mul-against : tie.Need-mul-against Inv-loop μ-loop
+mul-against c = search needs
+
+element-copy-out-against : tie.Need-element-copy-out-against Inv-loop μ-loop
+element-copy-out-against c = search needs
+
+element-copy-out-outside : tie.Need-element-copy-out-outside Inv-loop μ-loop
+element-copy-out-outside c = search needs
+
+outside-requires : tie.Need-outside-requires Inv-loop μ-loop
+outside-requires c κs = c .before .before .before .before .pre (c .before .before .before .loop .j)
+
+against-requires : tie.Need-against-requires Inv-loop μ-loop
+against-requires c κs = search needs
+
+add-j : tie.Need-add-j Inv-loop μ-loop
+add-j c = search needs
+
+loop-less : tie.Need-loop-less Inv-loop μ-loop
+loop-less c = search needs
+
+loop-again : tie.Need-loop-again Inv-loop μ-loop
+loop-again c =
+    let loop = c .before .before .before .before .before .loop in (
+      omega arith,
+      empty-joins _ (loop .stray) (c .against .result) _ (loop .inv .1) (c .against .ensures _ (c .before .outside .ensures)),
+    )
+
+returns : tie.Need-returns Inv-loop μ-loop
+unfolding rowsWithin
+returns c = rw (let e : c .before .loop .j ≡ 16 = omega arith in e) at (c .before .loop .inv .1)
+
+pub rows-within-spec : {M : Type 1} → statement M
+rows-within-spec =
+    tie.close
+    (tie.spec
+    Inv-loop
+    μ-loop
+    loop-holds
+    mul-against
+    element-copy-out-against
+    element-copy-out-outside
+    outside-requires
+    against-requires
+    add-j
+    loop-less
+    loop-again
+    returns)

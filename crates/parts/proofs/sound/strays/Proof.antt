@@ -1,0 +1,65 @@
+-- The loop's invariant: nothing is found where the rows of the first `i` variables have only what they may. A turn searches one pair more:
+-- `empty-joins`.
+use mathlib.Core.Path.{_≡_, refl}
+use mathlib.Core.Bool.{Bool}
+use Prim.Native.Nat.{ℕ, _-_, _≤_}
+use native.Mathlib.Omega.{arith}
+use lib.Dec.{eqb}
+use borrow.Author.Needs.{needs}
+use Rattle.bounded.specs.Bool.{and}
+use Rattle.bounded.specs.Fold.{every}
+use Rattle.words.specs.Word.{has}
+use Rattle.rows.specs.Search.{Bars, rowsIn}
+use Rattle.rows.proofs.Search.{empty-joins}
+use Rattle.parts.specs.Parts.{againstFits}
+use Rattle.parts.proofs.sound.strays.Statement.{statement}
+use Rattle.parts.proofs.sound.strays.Tie as tie
+
+abbrev Inv-loop : tie.InvT-loop
+Inv-loop rows stated j outside stray₀ i₀ stray i =
+    (i ≤ 16)
+    × ((p : ℕ → Bool) → Bars p outside → eqb stray 0 ≡ every i (λ (k : ℕ). rowsIn 16 rows k j (λ (v : ℕ). and (has stated k) (p v))))
+
+abbrev μ-loop : tie.MeasureT-loop
+μ-loop rows stated j outside stray₀ i₀ stray i = 16 - i
+
+loop-holds : tie.Need-loop-holds Inv-loop μ-loop
+unfolding every
+loop-holds c = (omega arith, λ p B. refl)
+
+barred-requires : tie.Need-barred-requires Inv-loop μ-loop
+barred-requires c κs = search needs
+
+stray-requires : tie.Need-stray-requires Inv-loop μ-loop
+stray-requires c κs = search needs
+
+add-i : tie.Need-add-i Inv-loop μ-loop
+add-i c = search needs
+
+loop-less : tie.Need-loop-less Inv-loop μ-loop
+loop-less c = search needs
+
+loop-again : tie.Need-loop-again Inv-loop μ-loop
+loop-again c = (
+  omega arith,
+  λ p B. empty-joins _ (c .before .before .before .loop .stray) (c .stray .result) _ (c .before .before .before .loop .inv .1 p B)
+      (c .stray .ensures _ (c .before .barred .ensures p B)),
+)
+
+returns : tie.Need-returns Inv-loop μ-loop
+unfolding againstFits
+returns c p B = rw (let e : c .before .loop .i ≡ 16 = omega arith in e) at (c .before .loop .inv .1 p B)
+
+pub strays-spec : {M : Type 1} → statement M
+strays-spec =
+    tie.close
+    (tie.spec
+    Inv-loop
+    μ-loop
+    loop-holds
+    barred-requires
+    stray-requires
+    add-i
+    loop-less
+    loop-again
+    returns)

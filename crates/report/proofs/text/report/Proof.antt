@@ -1,0 +1,30 @@
+-- The answer of `cut` can be printed, whatever the bytes are.
+use native.Mathlib.Omega.{arith}
+use lib.ListN.{getD}
+use mir.Syntax.{w8}
+use mir.Val.{Fits}
+use borrow.Author.Needs.{needs}
+use Rattle.report.specs.Text.{textOf}
+use Rattle.report.proofs.Answer.{printable-answer}
+use Rattle.report.proofs.text.report.Statement.{statement}
+use Rattle.report.proofs.text.report.Tie as tie
+use Rattle.report.proofs.text.report.Reads as reads
+use Rattle.report.proofs.text.report.Lts as lts
+use Rattle.report.proofs.text.written.Reads as written-reads
+use Rattle.sheet.proofs.cut.Reads as cut-reads
+
+cut-requires : tie.Need-cut-requires
+cut-requires c κs = search needs
+
+written-requires : tie.Need-written-requires
+written-requires c κs =
+    printable-answer _ (λ k. omega (arith, c .before .shared-slice-known .given k)) (c .cut .result) (c .cut .ensures)
+    (λ k. let f : Fits w8 (getD (c .cut .result .state .leaders) k 0) = search needs in f .fits)
+    (λ k. let f : Fits w8 (getD (c .cut .result .solution) k 0) = search needs in f .fits)
+
+returns : tie.Need-returns
+unfolding textOf
+returns c = rw (c .before .cut .ensures) at (c .written .ensures)
+
+pub report-spec : {M : Type 1} → statement M
+report-spec = tie.close (tie.spec cut-requires written-requires returns)

@@ -1,0 +1,62 @@
+-- Four words of four rows: `block-is`, `block-lt`.
+use Rattle.rows.proofs.Sides.{block-is, block-lt}
+use borrow.Author.Needs.{needs}
+use Rattle.rows.proofs.blocks.block_at.Statement.{statement}
+use Rattle.rows.proofs.blocks.block_at.Tie as tie
+
+mul-at : tie.Need-mul-at
+mul-at c = search needs
+
+add-at : tie.Need-add-at
+add-at c = search needs
+
+mul-at-2 : tie.Need-mul-at-2
+mul-at-2 c = search needs
+
+loaded-requires : tie.Need-loaded-requires
+loaded-requires c κs = search needs
+
+add-loaded : tie.Need-add-loaded
+add-loaded c = search needs
+
+loaded-requires-2 : tie.Need-loaded-requires-2
+loaded-requires-2 c κs = search needs
+
+add-loaded-2 : tie.Need-add-loaded-2
+add-loaded-2 c = search needs
+
+loaded-requires-3 : tie.Need-loaded-requires-3
+loaded-requires-3 c κs = search needs
+
+add-loaded-3 : tie.Need-add-loaded-3
+add-loaded-3 c = search needs
+
+loaded-requires-4 : tie.Need-loaded-requires-4
+loaded-requires-4 c κs = search needs
+
+returns : tie.Need-returns
+returns c =
+    let args = c .before .before .before .before .args in
+    let a = c .before .before .before .loaded in
+    let b = c .before .before .loaded2 in
+    let d = c .before .loaded3 in
+    let e = c .loaded4 in (
+      block-is (args .rows .now) (args .i) (args .j) _ _ _ _ (a .ensures .0) (b .ensures .0) (d .ensures .0) (e .ensures .0),
+      block-lt (args .rows .now) (args .i) (args .j) (a .ensures .1) (b .ensures .1) (d .ensures .1) (e .ensures .1),
+    )
+
+pub block-at-spec : {M : Type 1} → statement M
+block-at-spec =
+    tie.close
+    (tie.spec
+    mul-at
+    add-at
+    mul-at-2
+    loaded-requires
+    add-loaded
+    loaded-requires-2
+    add-loaded-2
+    loaded-requires-3
+    add-loaded-3
+    loaded-requires-4
+    returns)

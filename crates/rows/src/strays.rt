@@ -1,0 +1,26 @@
+// What the rows of a pair have besides the values that they may have: 64 digits at a time, and with no branch.
+use crate::blocks::four;
+ghost use mathlib.Core.Bool.{Bool};
+ghost use mathlib.Core.Path.{_≡_};
+ghost use Prim.Native.Nat.{ℕ, _+_, _*_, _<_};
+ghost use lib.Dec.{eqb};
+ghost use Rattle.words.specs.Word.{has};
+ghost use Rattle.rows.specs.Search.{Bars, rowsIn};
+
+// A word of 16 digits four times.
+pub fn repeated(x: u16) -> u64
+    ensures { λ r. ⌜ ((q v : ℕ) → q < 4 → v < 16 → has r (16 * q + v) ≡ has x v) ⌝ }
+{
+    let y = x as u64;
+    y | (y << 16) | (y << 32) | (y << 48)
+}
+
+// The digits of the rows of `i` against `j` that `outside` has: 0 where there is none.
+pub fn stray(rows: &[u16; 4096], i: usize, j: usize, outside: u64) -> u64
+    requires { ⌜ (i < 16) × (j < 16) ⌝ }
+    ensures { λ r. ⌜ ((p : ℕ → Bool) → Bars p outside → eqb r 0 ≡ rowsIn 16 (now (rows .entry)) i j p) ⌝ }
+{
+    let at = (i * 16 + j) * 16;
+    let low = four(rows, at + 4) | four(rows, at);
+    (four(rows, at + 12) | (four(rows, at + 8) | low)) & outside
+}

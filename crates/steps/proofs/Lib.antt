@@ -1,0 +1,5 @@
+pub mod Judging
+pub mod Searching
+pub mod StepArrays
+pub mod StepRows
+pub mod Stepped

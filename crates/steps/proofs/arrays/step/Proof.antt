@@ -1,0 +1,97 @@
+-- The two variables are apart, and each array becomes what `Stepped` says.
+use mathlib.Core.Bool.{false}
+use mathlib.Core.Path.{_≡_}
+use Prim.Native.Nat.{_<_}
+use borrow.Author.Needs.{needs}
+use Rattle.words.specs.Word.{has}
+use Rattle.steps.proofs.StepArrays.{leader-no-third, follower-no-third}
+use Rattle.steps.proofs.Stepped.{stepped}
+use Rattle.steps.proofs.arrays.step.Statement.{statement}
+use Rattle.steps.proofs.arrays.step.Tie as tie
+use Rattle.steps.proofs.arrays.step.Reads as reads
+use Rattle.steps.proofs.arrays.step.Lts as lts
+use Rattle.compose.proofs.supported.Reads as supported-reads
+use Rattle.steps.proofs.arrays.leaders_after.Reads as leaders-after-reads
+use Rattle.steps.proofs.arrays.move_thirds.Reads as move-thirds-reads
+use Rattle.steps.proofs.arrays.stated_after.Reads as stated-after-reads
+use Rattle.steps.proofs.arrays.thirds_of.Reads as thirds-of-reads
+
+-- The two variables are apart, and neither is a third one.
+apart : (c : tie.After-thirds-of) →
+    let a = c .before .before .before .before .before .before .args in
+    (a .i < 16) × (a .j < 16) × (a .i ≡ a .j → ⊥) × (has (c .thirds-of .result) (a .i) ≡ false) × (has (c .thirds-of .result) (a .j) ≡ false)
+apart c =
+    let p = c .before .before .before .before .before .before .pre in
+    (p .0, p .1, p .2, leader-no-third _ _ _ _ (c .thirds-of .ensures) (p .0), follower-no-third _ _ _ _ (c .thirds-of .ensures) (p .1))
+
+mul-supported : tie.Need-mul-supported
+mul-supported c = search needs
+
+element-copy-out-supported : tie.Need-element-copy-out-supported
+element-copy-out-supported c = search needs
+
+mul-supported-2 : tie.Need-mul-supported-2
+mul-supported-2 c = search needs
+
+element-copy-out-supported-2 : tie.Need-element-copy-out-supported-2
+element-copy-out-supported-2 c = search needs
+
+supported-requires : tie.Need-supported-requires
+supported-requires c κs = search needs
+
+mul-thirds-of : tie.Need-mul-thirds-of
+mul-thirds-of c = search needs
+
+element-copy-out-thirds-of : tie.Need-element-copy-out-thirds-of
+element-copy-out-thirds-of c = search needs
+
+thirds-of-requires : tie.Need-thirds-of-requires
+thirds-of-requires c κs = search needs
+
+mul-move-thirds : tie.Need-mul-move-thirds
+mul-move-thirds c = search needs
+
+element-copy-out-move-thirds : tie.Need-element-copy-out-move-thirds
+element-copy-out-move-thirds c = search needs
+
+move-thirds-requires : tie.Need-move-thirds-requires
+move-thirds-requires c κs = let (a, b, d, e, f) = apart (c .before .before) in (a, b, d, e, f, c .before .before .before .before .before .before .before .before .pre .3)
+
+mul-trimmed : tie.Need-mul-trimmed
+mul-trimmed c = search needs
+
+array-write-trimmed : tie.Need-array-write-trimmed
+array-write-trimmed c = search needs
+
+leaders-after-requires : tie.Need-leaders-after-requires
+leaders-after-requires c κs = search needs
+
+stated-after-requires : tie.Need-stated-after-requires
+stated-after-requires c κs = apart (c .before .before .before .before .before)
+
+returns : tie.Need-returns
+returns c =
+    let s = c .before .before .before .before .before .before in
+    stepped _ _ _ _ _ _ _ _ _ _ _ (s .before .before .supported .ensures) (s .thirds-of .ensures) (c .before .before .before .move-thirds .ensures)
+    (c .before .leaders-after .ensures) (c .stated-after .ensures)
+
+pub step-spec : {M : Type 1} → statement M
+step-spec =
+    tie.close
+    (tie.spec
+    mul-supported
+    element-copy-out-supported
+    mul-supported-2
+    element-copy-out-supported-2
+    supported-requires
+    mul-thirds-of
+    element-copy-out-thirds-of
+    thirds-of-requires
+    mul-move-thirds
+    element-copy-out-move-thirds
+    move-thirds-requires
+    mul-trimmed
+    array-write-trimmed
+    leaders-after-requires
+    stated-after-requires
+    returns)

@@ -1,0 +1,34 @@
+-- `trial::model::trimmed` is safe and ends: the loop counts up to its end. Assumes nothing.
+use Prim.Native.Nat.{_-_}
+use borrow.Author.Needs.{needs}
+use Rattle.trial.proofs.model.trimmed.Statement.{statement}
+use Rattle.trial.proofs.model.trimmed.Tie as tie
+
+abbrev Inv-loop : tie.InvT-loop
+Inv-loop domains rows i j list₀ a₀ list a = Unit
+
+abbrev μ-loop : tie.MeasureT-loop
+μ-loop domains rows i j list₀ a₀ list a = 16 - a
+
+loop-holds : tie.Need-loop-holds Inv-loop μ-loop
+loop-holds c = search needs
+
+kept-value-requires : tie.Need-kept-value-requires Inv-loop μ-loop
+kept-value-requires c κs = search needs
+
+add-a : tie.Need-add-a Inv-loop μ-loop
+add-a c = search needs
+
+loop-less : tie.Need-loop-less Inv-loop μ-loop
+loop-less c = search needs
+
+loop-again : tie.Need-loop-again Inv-loop μ-loop
+loop-again c = search needs
+
+returns : tie.Need-returns Inv-loop μ-loop
+returns c = search needs
+
+pub trimmed-spec : {M : Type 1} → statement M
+trimmed-spec =
+    tie.close
+    (tie.spec Inv-loop μ-loop loop-holds kept-value-requires add-a loop-less loop-again returns)

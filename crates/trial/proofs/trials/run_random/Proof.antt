@@ -1,0 +1,42 @@
+-- `trial::trials::run_random` is safe and ends: the loop counts up to its end. Assumes nothing.
+use Prim.Native.Nat.{_-_}
+use borrow.Author.Needs.{needs}
+use Rattle.trial.proofs.trials.run_random.Statement.{statement}
+use Rattle.trial.proofs.trials.run_random.Tie as tie
+
+abbrev Inv-loop : tie.InvT-loop
+Inv-loop times seed₀ tally₀ counter₀ seed tally counter = Unit
+
+abbrev μ-loop : tie.MeasureT-loop
+μ-loop times seed₀ tally₀ counter₀ seed tally counter = times - counter
+
+loop-holds : tie.Need-loop-holds Inv-loop μ-loop
+loop-holds c = search needs
+
+run-random-one-requires : tie.Need-run-random-one-requires Inv-loop μ-loop
+run-random-one-requires c κs = search needs
+
+add-counter : tie.Need-add-counter Inv-loop μ-loop
+add-counter c = search needs
+
+loop-less : tie.Need-loop-less Inv-loop μ-loop
+loop-less c = search needs
+
+loop-again : tie.Need-loop-again Inv-loop μ-loop
+loop-again c = search needs
+
+returns : tie.Need-returns Inv-loop μ-loop
+returns c = search needs
+
+pub run-random-spec : {M : Type 1} → statement M
+run-random-spec =
+    tie.close
+    (tie.spec
+    Inv-loop
+    μ-loop
+    loop-holds
+    run-random-one-requires
+    add-counter
+    loop-less
+    loop-again
+    returns)
