@@ -2,7 +2,7 @@
 use mathlib.Core.Bool.{Bool, true, false, true≢false, false≢true}
 use mathlib.Core.Logic.{_⊎_, inl, inr, ⊎-elim}
 use mathlib.Core.Path.{_≡_, refl, sym, _∙_}
-use Prim.Native.Nat.{ℕ, _+_, _≤_, _*_}
+use Prim.Native.Nat.{_+_, _≤_, _*_}
 use native.Mathlib.Omega.{arith}
 use Rattle.bounded.specs.Bool.{and, or, implies, not, bit, if}
 
@@ -74,6 +74,13 @@ pub and-false : (a : Bool) → and a false ≡ false
 unfolding and
 and-false true = refl
 and-false false = refl
+
+-- A test joined to one that failed fails, and one joined to a test that held counts alone.
+pub and-fails : (a b : Bool) → a ≡ false → and a b ≡ false
+and-fails a b h = rw h (false-and b)
+
+pub and-holds : (a b : Bool) → a ≡ true → and a b ≡ b
+and-holds a b h = rw h (true-and b)
 
 -- What stands behind a test counts only where the test holds.
 pub and-cong : (a b c : Bool) → (a ≡ true → b ≡ c) → and a b ≡ and a c

@@ -5,7 +5,7 @@ use Prim.Native.Nat.{ℕ, _+_, _≤_, _<_}
 use native.Mathlib.Omega.{arith}
 use lib.Dec.{eqb}
 use lib.ListN.{length, getD, set, length-set}
-use borrow.Author.Tests.{eqb-true, eqb-false, eq-eqb}
+use borrow.Author.Tests.{eqb-true, eqb-false}
 use Rattle.bounded.specs.Table.{tabulate}
 use Rattle.bounded.proofs.Bool.{by-cases, if-true, if-false}
 use Rattle.bounded.proofs.Table.{is-table, getD-set}

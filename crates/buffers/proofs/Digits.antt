@@ -1,5 +1,4 @@
 -- Laws of decimal numbers.
-use mathlib.Core.Bool.{Bool, true, false}
 use mathlib.Core.List.{List, [], _∷_, _++_}
 use mathlib.Core.Path.{_≡_, refl, sym, _∙_, ap}
 use Prim.Native.Nat.{ℕ, zero, suc, _+_, _*_, _/_, _%_, _^_, _≤_, _<_}
@@ -8,7 +7,6 @@ use native.Mathlib.Omega.{arith}
 use lib.Dec.{ltb}
 use lib.ListN.{length, length-append}
 use borrow.Author.Tests.{lt-ltb, le-ltb, ltb-true, ltb-false}
-use Rattle.bounded.specs.Bool.{if}
 use Rattle.bounded.proofs.Bool.{by-cases, if-true, if-false}
 use Rattle.buffers.specs.Digits.{decimalWithin, decimal, hexDigit, hex4}
 

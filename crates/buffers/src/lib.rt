@@ -1,6 +1,5 @@
 // Texts written into a lent buffer. Each function returns the place past its text.
 ghost use mathlib.Core.List.{[], _∷_, _++_};
-ghost use mathlib.Core.Path.{_≡_};
 ghost use Prim.Native.Nat.{_+_, _<_, _≤_};
 ghost use lib.ListN.{length};
 ghost use Rattle.buffers.specs.Digits.{decimal, hexDigit, hex4};

@@ -1,31 +1,44 @@
 // The calls of the library for C and Rust. Enums do not cross, so an answer is a struct of document 01's numbers; 0 stands for "not refused".
 // A state goes in and comes back by value, and any contents of it are taken. `include/sheet.h` declares all of this in C.
-ghost use mathlib.Core.List.{List};
 ghost use mathlib.Core.Path.{_≡_};
-ghost use Prim.Native.Nat.{ℕ};
-ghost use Rattle.sheet.specs.View.{soundState};
-ghost use Rattle.sheet.specs.Answers.{readNumber, readPlace, outcomeNumber, writeTold, testTold, verdictTold};
-ghost use Rattle.sheet.specs.Read.{readSheet};
-ghost use Rattle.sheet.specs.Write.{writeSheet};
-ghost use Rattle.sheet.specs.Steps.{stepped, reduced};
-ghost use Rattle.sheet.specs.Solutions.{tested, completeNumber, completedBuffer, verdictOf};
-ghost use Rattle.sheet.specs.Cut.{cutSheet};
+ghost use Rattle.state.specs.View.{soundState};
+ghost use Rattle.state.specs.Read.{readSheet};
+ghost use Rattle.state.specs.Write.{writeSheet};
+ghost use Rattle.state.specs.Worked.{workedTold};
+ghost use Rattle.state.specs.Steps.{stepped, reduced};
+ghost use Rattle.state.specs.Solutions.{tested, completeNumber, completedBuffer, verdictOf};
+ghost use Rattle.state.specs.Cut.{cutSheet};
 ghost use Rattle.report.specs.Text.{textOf};
 ghost use Rattle.report.specs.Printed.{Printed};
 ghost use Rattle.capi.specs.Answers.{readOut, steppedOut, writtenOut, testedOut, verdictOut, cutOut};
-use sheet::Outcome;
-use sheet::ReadOutcome;
-use sheet::State;
-use sheet::TestAnswer;
-use sheet::Verdict;
-use sheet::WriteAnswer;
+use answers::outcome_number;
+use answers::read_number;
+use answers::read_place;
+use answers::test_agrees;
+use answers::test_number;
+use answers::verdict_kind;
+use answers::verdict_number;
+use answers::write_length;
+use answers::write_number;
+use cutting::cut_parts;
+use cutting::read_parts;
+use state::State;
+use state::Worked;
+use state::eliminate_parts;
+use state::reduce_parts;
 
 // Reading: the number that refuses, its place, and the state.
 #[repr(C)]
 pub struct SheetRead {
     pub number: u8,
     pub place: usize,
-    pub state: State,
+    // The state, laid out as `State` is.
+    pub n: usize,
+    pub sizes: [u8; 16],
+    pub domains: [u16; 16],
+    pub leaders: [u8; 16],
+    pub stated: [u16; 16],
+    pub rows: [u16; 4096],
 }
 
 // A step or a reduction: the number that refuses, how many steps were taken, and the state handed back.
@@ -33,7 +46,13 @@ pub struct SheetRead {
 pub struct SheetStepped {
     pub number: u8,
     pub steps: usize,
-    pub state: State,
+    // The state, laid out as `State` is.
+    pub n: usize,
+    pub sizes: [u8; 16],
+    pub domains: [u16; 16],
+    pub leaders: [u8; 16],
+    pub stated: [u16; 16],
+    pub rows: [u16; 4096],
 }
 
 // Writing: the number that refuses, and how many bytes the sheet has.
@@ -67,7 +86,13 @@ pub struct SheetCut {
     pub steps: usize,
     pub kind: u8,
     pub solution: [u8; 16],
-    pub state: State,
+    // The state, laid out as `State` is.
+    pub n: usize,
+    pub sizes: [u8; 16],
+    pub domains: [u16; 16],
+    pub leaders: [u8; 16],
+    pub stated: [u16; 16],
+    pub rows: [u16; 4096],
 }
 
 // What sheetcut prints: how many bytes, and those, zero past them.
@@ -77,106 +102,26 @@ pub struct SheetText {
     pub bytes: [u8; 512],
 }
 
-// The parts of an answer, by its cases.
-fn read_number(outcome: ReadOutcome) -> u8
-    ensures { λ r. ⌜ r ≡ readNumber outcome ⌝ }
-{
-    match outcome {
-        ReadOutcome::Accepted => 0,
-        ReadOutcome::Refused(cause, _) => cause::number(cause),
-    }
-}
-
-fn read_place(outcome: ReadOutcome) -> usize
-    ensures { λ r. ⌜ r ≡ readPlace outcome ⌝ }
-{
-    match outcome {
-        ReadOutcome::Accepted => 0,
-        ReadOutcome::Refused(_, place) => place,
-    }
-}
-
-fn write_number(answer: WriteAnswer) -> u8
-    ensures { λ r. ⌜ r ≡ writeTold answer .number ⌝ }
-{
-    match answer {
-        WriteAnswer::Length(_) => 0,
-        WriteAnswer::Refused(cause) => cause::number(cause),
-    }
-}
-
-fn write_length(answer: WriteAnswer) -> usize
-    ensures { λ r. ⌜ r ≡ writeTold answer .length ⌝ }
-{
-    match answer {
-        WriteAnswer::Length(length) => length,
-        WriteAnswer::Refused(_) => 0,
-    }
-}
-
-fn number_of(outcome: Outcome) -> u8
-    ensures { λ r. ⌜ r ≡ outcomeNumber outcome ⌝ }
-{
-    match outcome {
-        Outcome::Done => 0,
-        Outcome::Refused(cause) => cause::number(cause),
-    }
-}
-
-fn test_number(answer: TestAnswer) -> u8
-    ensures { λ r. ⌜ r ≡ testedOut (testTold answer) .number ⌝ }
-{
-    match answer {
-        TestAnswer::Yes => 0,
-        TestAnswer::No => 0,
-        TestAnswer::Refused(cause) => cause::number(cause),
-    }
-}
-
-fn test_agrees(answer: TestAnswer) -> bool
-    ensures { λ r. ⌜ r ≡ testedOut (testTold answer) .agrees ⌝ }
-{
-    match answer {
-        TestAnswer::Yes => true,
-        TestAnswer::No => false,
-        TestAnswer::Refused(_) => false,
-    }
-}
-
-fn verdict_number(verdict: Verdict) -> u8
-    ensures { λ r. ⌜ ((build : List ℕ) → r ≡ verdictOut (verdictTold verdict build) .number) ⌝ }
-{
-    match verdict {
-        Verdict::None => 0,
-        Verdict::Built => 0,
-        Verdict::Open => 0,
-        Verdict::Refused(cause) => cause::number(cause),
-    }
-}
-
-fn verdict_kind(verdict: Verdict) -> u8
-    ensures { λ r. ⌜ ((build : List ℕ) → r ≡ verdictOut (verdictTold verdict build) .kind) ⌝ }
-{
-    match verdict {
-        Verdict::None => 0,
-        Verdict::Built => 1,
-        Verdict::Open => 2,
-        Verdict::Refused(_) => 0,
-    }
-}
-
 // Reads a sheet's bytes.
 #[no_mangle]
 pub extern "C" fn sheet_read(bytes: &[u8]) -> SheetRead
     ensures { λ r. ⌜ r ≡ readOut (readSheet (now (bytes .entry))) ⌝ }
 {
-    let answer = sheet::read(bytes);
-    let outcome = answer.outcome;
-    let state = answer.state;
+    let mut rows = [0u16; 4096];
+    let read = read_parts(bytes, &mut rows);
+    let outcome = read.outcome;
+    let sizes = read.sizes;
+    let domains = read.domains;
+    let stated = read.stated;
     SheetRead {
         number: read_number(outcome),
         place: read_place(outcome),
-        state,
+        n: read.n,
+        sizes,
+        domains,
+        leaders: [0; 16],
+        stated,
+        rows,
     }
 }
 
@@ -200,19 +145,48 @@ pub extern "C" fn sheet_is_sound(state: State) -> bool
     sheet::is_sound(state)
 }
 
+// What a step or a reduction left.
+fn handed_back(n: usize, sizes: [u8; 16], worked: Worked, rows: [u16; 4096]) -> SheetStepped
+    ensures { λ r. ⌜ r ≡ steppedOut (workedTold n sizes worked rows) ⌝ }
+{
+    let outcome = worked.outcome;
+    let domains = worked.domains;
+    let leaders = worked.leaders;
+    let stated = worked.stated;
+    SheetStepped {
+        number: outcome_number(outcome),
+        steps: worked.steps,
+        n,
+        sizes,
+        domains,
+        leaders,
+        stated,
+        rows,
+    }
+}
+
 // One follow step, options counted from 1.
 #[no_mangle]
 pub extern "C" fn sheet_eliminate(state: State, leader: usize, follower: usize) -> SheetStepped
     ensures { λ r. ⌜ r ≡ steppedOut (stepped state leader follower) ⌝ }
 {
-    let answer = state.eliminate(leader, follower);
-    let outcome = answer.outcome;
-    let after = answer.state;
-    SheetStepped {
-        number: number_of(outcome),
-        steps: answer.steps,
-        state: after,
-    }
+    let n = state.n;
+    let sizes = state.sizes;
+    let domains = state.domains;
+    let leaders = state.leaders;
+    let stated = state.stated;
+    let mut rows = state.rows;
+    let after = eliminate_parts(
+        n,
+        &sizes,
+        &domains,
+        &leaders,
+        &stated,
+        &mut rows,
+        leader,
+        follower,
+    );
+    handed_back(n, sizes, after, rows)
 }
 
 // The full reduction.
@@ -220,15 +194,14 @@ pub extern "C" fn sheet_eliminate(state: State, leader: usize, follower: usize) 
 pub extern "C" fn sheet_reduce(state: State) -> SheetStepped
     ensures { λ r. ⌜ r ≡ steppedOut (reduced state) ⌝ }
 {
-    let answer = state.reduce();
-    let outcome = answer.outcome;
-    let least = answer.state;
-    let steps = answer.steps;
-    SheetStepped {
-        number: number_of(outcome),
-        steps,
-        state: least,
-    }
+    let n = state.n;
+    let sizes = state.sizes;
+    let domains = state.domains;
+    let leaders = state.leaders;
+    let stated = state.stated;
+    let mut rows = state.rows;
+    let least = reduce_parts(n, &sizes, &domains, &leaders, &stated, &mut rows);
+    handed_back(n, sizes, least, rows)
 }
 
 // The tester.
@@ -249,7 +222,7 @@ pub extern "C" fn sheet_complete(state: State, solution: &mut [u8]) -> u8
     ensures { λ r. ⌜ (r ≡ completeNumber state (now (solution .entry))) × (now (solution .exit) ≡ completedBuffer state (now (solution .entry))) ⌝ }
 {
     let outcome = sheet::complete(state, solution);
-    number_of(outcome)
+    outcome_number(outcome)
 }
 
 // The verdict of a state as it is.
@@ -272,18 +245,27 @@ pub extern "C" fn sheet_verdict(state: State) -> SheetVerdict
 pub extern "C" fn sheet_cut(bytes: &[u8]) -> SheetCut
     ensures { λ r. ⌜ r ≡ cutOut (cutSheet (now (bytes .entry))) ⌝ }
 {
-    let answer = sheet::cut(bytes);
-    let outcome = answer.outcome;
-    let verdict = answer.verdict;
-    let solution = answer.solution;
-    let state = answer.state;
+    let mut rows = [0u16; 4096];
+    let cut = cut_parts(bytes, &mut rows);
+    let outcome = cut.outcome;
+    let verdict = cut.verdict;
+    let solution = cut.solution;
+    let sizes = cut.sizes;
+    let domains = cut.domains;
+    let leaders = cut.leaders;
+    let stated = cut.stated;
     SheetCut {
         number: read_number(outcome),
         place: read_place(outcome),
-        steps: answer.steps,
+        steps: cut.steps,
         kind: verdict_kind(verdict),
         solution,
-        state,
+        n: cut.n,
+        sizes,
+        domains,
+        leaders,
+        stated,
+        rows,
     }
 }
 

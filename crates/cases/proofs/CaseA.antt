@@ -6,7 +6,7 @@ use mathlib.Core.Path.{_≡_, refl, sym, ap, _∙_, fun-ext}
 use Prim.Native.Nat.{ℕ, zero, suc, _≤_, _<_}
 use native.Mathlib.Omega.{arith}
 use lib.Dec.{ltb}
-use lib.ListN.{length, getD, replicate, List·getD-eq-default}
+use lib.ListN.{length, getD, List·getD-eq-default}
 use borrow.Author.Tests.{ltb-true, ltb-false}
 use Rattle.bounded.specs.Bool.{and, or, implies, not, bit, if}
 use Rattle.bounded.specs.Fold.{every, some, sum, count, first}
@@ -18,19 +18,19 @@ use Rattle.network.specs.Network.{Network, free, partner, functional}
 use Rattle.network.specs.Sound.{Sound}
 use Rattle.network.specs.Promise.{Keeps}
 use Rattle.network.specs.Step.{outside, refusal, legal, trimmed, third, joined, composed, eliminate}
-use Rattle.network.specs.Reduction.{Reduced, freeCount, leading, reducible, nextLeader, nextFollower, advance, oneMore, reduceWithin, reduce}
-use Rattle.network.specs.Sheet.{Table, Sheet, isFor, tabled, rowFor, networkOf}
+use Rattle.network.specs.Reduction.{freeCount, leading, reducible, nextLeader, nextFollower, advance, oneMore, reduceWithin, reduce}
+use Rattle.network.specs.Sheet.{Sheet, isFor, tabled, rowFor, networkOf}
 use Rattle.network.proofs.Reduction.{reduce-run, run-keeps}
 use Rattle.format.specs.Layout.{version1, countTest, sizeTest, constraintsTest, pairTest, withinTest}
 use Rattle.format.specs.Parse.{got, bind, numberAt, judged, field, many, fields, pairOf, sizeOf, parseTable, parseTables, ended, parseBody, wrongLength, parse}
 use Rattle.rows.specs.Rows.{rowsOf}
-use Rattle.sheet.specs.declared.state.State.{State}
-use Rattle.sheet.specs.View.{view, pack}
-use Rattle.sheet.specs.Answers.{ReadTold, Told}
-use Rattle.sheet.specs.Read.{readSheet}
-use Rattle.sheet.specs.Steps.{reduced, reducedAs}
-use Rattle.sheet.proofs.RoundTrip.{Accepted, AsRead, read-got, read-sound, got-accepted}
-use Rattle.sheet.proofs.Steps.{reduced-done}
+use Rattle.state.specs.declared.state.State.{State}
+use Rattle.state.specs.View.{pack}
+use Rattle.state.specs.Answers.{ReadTold}
+use Rattle.state.specs.Read.{readSheet}
+use Rattle.state.specs.Steps.{reduced, reducedAs}
+use Rattle.cutting.proofs.RoundTrip.{Accepted, read-got, read-sound, got-accepted}
+use Rattle.state.proofs.Steps.{reduced-done}
 use Rattle.cases.specs.CaseA.{bytesA, bytesLast, stateLast, cutA}
 
 sheetA : Sheet

@@ -2,9 +2,9 @@
 use mathlib.Core.List.{List, [], _∷_}
 use Prim.Native.Nat.{ℕ}
 use lib.ListN.{replicate}
-use Rattle.sheet.specs.declared.state.State.{State}
-use Rattle.sheet.specs.Answers.{Told}
-use Rattle.sheet.specs.Read.{readSheet}
+use Rattle.state.specs.declared.state.State.{State}
+use Rattle.state.specs.Answers.{Told}
+use Rattle.state.specs.Read.{readSheet}
 
 -- `01 00 13 03 02 03 02 02 01 02 00 01 00 04 02 03 00 02 00 01 00 01`
 unfoldable pub bytesA : List ℕ

@@ -1,5 +1,5 @@
 -- Laws of the numbers of causes.
-use Prim.Native.Nat.{ℕ, _≤_}
+use Prim.Native.Nat.{_≤_}
 use native.Mathlib.Omega.{arith}
 use Rattle.cause.specs.declared.Cause.{Cause}
 use Rattle.cause.specs.declared.Cause.the-variants.{Length, Version, VariableCount, Size, ConstraintCount, CutOff, LeftOver, PairRange, PairOrder, PairRepeated, RowRange, Unsound, VariableNumber, SameVariable, NotFree, NotStated, NotFunctional, SolutionLength, ValueRange, ValuesForbidden, BufferLength, NotFresh}

@@ -3,41 +3,81 @@ use mathlib.Core.Bool.{Bool, true, false}
 use mathlib.Core.List.{List}
 use mathlib.Core.Path.{_≡_, refl, sym, ap, ap₂, _∙_}
 use Prim.Native.Nat.{ℕ, _+_, _*_, _/_, _^_, _<_}
-use native.Mathlib.Numerals.{add-one}
 use native.Mathlib.Omega.{arith}
-use lib.Bits.{bitAnd, bitOr}
+use lib.Dec.{ltb}
+use borrow.Author.Tests.{lt-ltb}
+use lib.Bits.{bitAnd, bitOr, or-add-and, and-le-l}
+use mir.Syntax.{w16}
+use mir.Val.{Fits}
 use lib.ListN.{length, set}
-use Rattle.bounded.specs.Bool.{and, implies}
+use Rattle.bounded.specs.Bool.{and, or, not, implies}
 use Rattle.bounded.specs.Fold.{some}
-use Rattle.bounded.proofs.Bool.{and-true, and-false, false-and, and-assoc}
 use Rattle.bounded.proofs.Fold.{some-cong}
 use Rattle.words.specs.Word.{has, word}
-use Rattle.words.proofs.Laws.{empty, has-word, word-lt, word-cong}
+use Rattle.words.proofs.Laws.{is-word, empty, has-word, word-lt, word-cong}
 use Rattle.rows.specs.Rows.{place, rowAt}
 use Rattle.rows.specs.Frames.{Mirrored}
 use Rattle.compose.specs.Compose.{reach, composedAt, Composing, Composed}
 use Rattle.rows.proofs.Laws.{column-lt, has-column}
 use Rattle.rows.proofs.Frames.{filled-more, row-left}
-use Rattle.rows.proofs.Loops.{word-joins, has-chosen, chosen-lt}
+use Rattle.rows.proofs.Loops.{word-none, word-joins, has-chosen, chosen-lt}
 use Rattle.rows.proofs.Partners.{has-cut}
 
-module _ (w : ℕ) (rows : List ℕ) (i j k dj c : ℕ) where
-  pub has-reach : (a : ℕ) → a < w
+-- A word times a digit is a word.
+pub chosen-fits : (x d b : ℕ) → Fits w16 x → Fits w16 (x * bitAnd (d / 2 ^ b) 1)
+chosen-fits x d b f = record { fits = chosen-lt 65536 x d b (f .fits) }
+
+-- What the first b values of j join to value c of k.
+unfoldable pub reachUpTo : ℕ → List ℕ → ℕ → ℕ → ℕ → ℕ → ℕ → ℕ → ℕ
+reachUpTo w rows i j k dj b c =
+    word w (λ (a : ℕ). some b (λ (v : ℕ). and (and (has dj v) (has (rowAt w rows k j c) v)) (has (rowAt w rows j i v) a)))
+
+and-swap : (a b c : Bool) → and a (and b c) ≡ and (and b a) c
+unfolding and
+and-swap true true c = refl
+and-swap true false c = refl
+and-swap false true c = refl
+and-swap false false c = refl
+
+module _ (w : ℕ) (rows : List ℕ) (i j k dj : ℕ) where
+  pub has-reach : (c a : ℕ) → a < w
       → has (reach w rows i j k dj c) a
       ≡ some w (λ (b : ℕ). and (and (has dj b) (has (rowAt w rows k j c) b)) (has (rowAt w rows j i b) a))
   unfolding reach
-  has-reach a l = has-word w _ a l
+  has-reach c a l = has-word w _ a l
 
-  -- `via` are the values of j that go with c, y is the row of one of j's values: it is joined where b is among those.
-  pub reach-joins : (x via y r b : ℕ) → x ≡ rowAt w rows k j c → via ≡ word w (λ (v : ℕ). and (has dj v) (has x v))
-      → y ≡ rowAt w rows j i b → y < 2 ^ w → b < w
-      → r ≡ word w (λ (a : ℕ). some b (λ (v : ℕ). and (and (has dj v) (has (rowAt w rows k j c) v)) (has (rowAt w rows j i v) a)))
-      → bitOr r (y * bitAnd (via / 2 ^ b) 1)
-      ≡ word w (λ (a : ℕ). some (b + 1) (λ (v : ℕ). and (and (has dj v) (has (rowAt w rows k j c) v)) (has (rowAt w rows j i v) a)))
-  reach-joins x via y r b e f g l m h =
-      word-joins w _ r (y * bitAnd (via / 2 ^ b) 1) b h (chosen-lt (2 ^ w) y via b l)
-      (λ v n. has-chosen y via b v
-      ∙ ap₂ and (has-cut w dj x via b f m ∙ ap (λ (t : ℕ). and (has dj b) (has t b)) e) (ap (λ (t : ℕ). has t v) g))
+  pub reach-none : (c : ℕ) → reachUpTo w rows i j k dj 0 c ≡ 0
+  unfolding reachUpTo
+  reach-none c = word-none w _
+
+  pub reach-all : (c : ℕ) → reachUpTo w rows i j k dj w c ≡ reach w rows i j k dj c
+  unfolding reachUpTo reach
+  reach-all c = refl
+
+  -- The row of value b of j is joined where b is in the list and goes with c.
+  abbrev pub joins : ℕ → ℕ → ℕ
+  joins b c = rowAt w rows j i b * bitAnd (dj / 2 ^ b) 1 * bitAnd (rowAt w rows k j c / 2 ^ b) 1
+
+  pub reach-joins : (b c : ℕ) → bitOr (reachUpTo w rows i j k dj b c) (joins b c) < 2 ^ w
+      → bitOr (reachUpTo w rows i j k dj b c) (joins b c) ≡ reachUpTo w rows i j k dj (b + 1) c
+  unfolding reachUpTo
+  reach-joins b c l =
+      let r = reachUpTo w rows i j k dj b c in
+      word-joins w _ _ (joins b c) b refl
+      (omega (arith, or-add-and r (joins b c), and-le-l r (joins b c)))
+      (λ v n. has-chosen (rowAt w rows j i b * bitAnd (dj / 2 ^ b) 1) (rowAt w rows k j c) b v
+      ∙ ap (and _) (has-chosen (rowAt w rows j i b) dj b v) ∙ and-swap _ _ _)
+
+regrouped : (d t r x was : Bool) → and d (and (and t r) (or x (not was))) ≡ and (and t d) (and r (implies was x))
+unfolding and or not implies
+regrouped true true true true true = refl
+regrouped true true true true false = refl
+regrouped true true true false true = refl
+regrouped true true true false false = refl
+regrouped true true false x was = refl
+regrouped true false r x was = refl
+regrouped false true r x was = refl
+regrouped false false r x was = refl
 
 module _ (w : ℕ) (rows : List ℕ) (i j k ti dj dk c : ℕ) where
   pub has-composed : (was : Bool) (a : ℕ) → a < w
@@ -46,31 +86,30 @@ module _ (w : ℕ) (rows : List ℕ) (i j k ti dj dk c : ℕ) where
   unfolding composedAt
   has-composed was a l = has-word w _ a l
 
-  -- A value outside the list of k goes with nothing.
-  pub composed-outside : (was : Bool) → has dk c ≡ false → 0 ≡ composedAt w rows i j k ti dj dk was c
+  -- What is reached and in the list of i, where the pair allows it or was not stated before, times the digit of c in the list of k.
+  pub composed-is : (was : Bool) (r kept x others allowed z : ℕ) → r ≡ reach w rows i j k dj c
+      → kept ≡ word w (λ (a : ℕ). and (has ti a) (has r a)) → x ≡ rowAt w rows k i c → others ≡ word w (λ (a : ℕ). not was)
+      → allowed ≡ word w (λ (a : ℕ). or (has x a) (has others a)) → z ≡ word w (λ (a : ℕ). and (has kept a) (has allowed a))
+      → z * bitAnd (dk / 2 ^ c) 1 ≡ composedAt w rows i j k ti dj dk was c
   unfolding composedAt
-  composed-outside was h =
-      sym (empty w _ (word-lt w _) (λ a l. has-word w _ a l ∙ rw (h, and-false (has ti a)) (false-and _)))
+  composed-is was r kept x others allowed z e f g h p q =
+      is-word w _ _ (chosen-lt (2 ^ w) z dk c (rw q (word-lt w _)))
+      (λ a l. has-chosen z dk c a
+      ∙ ap (and (has dk c))
+      (has-cut w kept allowed z a q l
+      ∙ ap₂ and (has-cut w ti r kept a f l ∙ ap (λ (t : ℕ). and (has ti a) (has t a)) e)
+      (ap (λ (t : ℕ). has t a) p ∙ has-word w _ a l ∙ ap₂ or (ap (λ (t : ℕ). has t a) g) (ap (λ (t : ℕ). has t a) h ∙ has-word w _ a l)))
+      ∙ regrouped (has dk c) (has ti a) (has (reach w rows i j k dj c) a) (has (rowAt w rows k i c) a) was)
 
-  -- One of the list goes with what is reached, where the pair was not stated before,
-  pub composed-new : (was : Bool) (r y : ℕ) → was ≡ false → has dk c ≡ true → r ≡ reach w rows i j k dj c
-      → y ≡ word w (λ (a : ℕ). and (has ti a) (has r a))
-      → y ≡ composedAt w rows i j k ti dj dk was c
-  unfolding composedAt implies
-  composed-new was r y n h e f =
-      f ∙ word-cong w _ _ (λ a l. rw (n, h, and-true (has ti a), e, and-true (has (reach w rows i j k dj c) a)))
+-- No value is left open where the pair was stated, and all are where it was not.
+pub none-open : (w : ℕ) → 0 ≡ word w (λ (a : ℕ). false)
+none-open w = sym (empty w _ (word-lt w _) (λ a l. has-word w _ a l))
 
-  -- and with what the pair allowed too, where it was.
-  pub composed-old : (was : Bool) (r y x z : ℕ) → was ≡ true → has dk c ≡ true → r ≡ reach w rows i j k dj c
-      → y ≡ word w (λ (a : ℕ). and (has ti a) (has r a))
-      → x ≡ rowAt w rows k i c → z ≡ word w (λ (a : ℕ). and (has y a) (has x a))
-      → z ≡ composedAt w rows i j k ti dj dk was c
-  unfolding composedAt implies
-  composed-old was r y x z n h e f g q =
-      q ∙ word-cong w _ _ (λ a l. rw (n, has-cut w ti r y a f l, h, and-true (has ti a), e, g) (and-assoc (has ti a) _ _))
+pub all-open : (w : ℕ) → word w (λ (a : ℕ). ltb a w) ≡ word w (λ (a : ℕ). true)
+all-open w = word-cong w _ _ (λ a l. lt-ltb a w l)
 
 -- What rule 2 says is told by the rows that it reads.
-reach-cong : (w : ℕ) (rows rows′ : List ℕ) (i j k dj c : ℕ) → rowAt w rows k j c ≡ rowAt w rows′ k j c
+pub reach-cong : (w : ℕ) (rows rows′ : List ℕ) (i j k dj c : ℕ) → rowAt w rows k j c ≡ rowAt w rows′ k j c
     → ((b : ℕ) → b < w → rowAt w rows j i b ≡ rowAt w rows′ j i b)
     → reach w rows i j k dj c ≡ reach w rows′ i j k dj c
 unfolding reach
@@ -99,6 +138,13 @@ module _ (w : ℕ) (before now : List ℕ) (i j k ti dj dk : ℕ) (was : Bool) (
       (done .rest k j c lk lj lc (λ _ q _. i≢j (sym q)))
       (λ b l. done .rest j i b lj li l (λ q _ _. j≢k q))
       (row-left w before now k i _ c lk li lc done)
+
+  -- What it reaches is as before, too.
+  pub reach-same : reach w before i j k dj c ≡ reach w now i j k dj c
+  reach-same =
+      sym (reach-cong w now before i j k dj c
+      (done .rest k j c lk lj lc (λ _ q _. i≢j (sym q)))
+      (λ b l. done .rest j i b lj li l (λ q _ _. j≢k q)))
 
   pub composing-more : (after : List ℕ) → length before ≡ 16 * 16 * w
       → after ≡ set now (place w k i c) (composedAt w now i j k ti dj dk was c) → Composing w before after i j k ti dj dk was (c + 1)

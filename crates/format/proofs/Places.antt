@@ -1,18 +1,17 @@
 -- The places that the parser names lie within the bytes: "Places are byte numbers counted from 0."
-use mathlib.Core.Bool.{true, false}
-use mathlib.Core.List.{List, [], _∷_}
-use mathlib.Core.Path.{_≡_, refl, sym, subst}
-use Prim.Native.Nat.{ℕ, zero, suc, _+_, _≤_, _<_}
+use mathlib.Core.List.{List}
+use mathlib.Core.Path.{_≡_, subst}
+use Prim.Native.Nat.{ℕ, zero, suc, _+_, _≤_}
 use native.Mathlib.Omega.{arith}
 use lib.Dec.{eqb, ltb}
 use lib.ListN.{length, getD}
-use borrow.Author.Tests.{ltb-true, ltb-false}
+use borrow.Author.Tests.{ltb-false}
 use Rattle.bounded.proofs.Bool.{by-cases, if-true, if-false}
 use Rattle.cause.specs.declared.Cause.{Cause}
-use Rattle.network.specs.Sheet.{Table, Sheet}
+use Rattle.network.specs.Sheet.{Sheet}
 use Rattle.format.specs.Layout.{Layout, Test, fine, fault}
 use Rattle.format.specs.Parse.{Parse, got, bad, bind, judged, field, many, fields, parseTable, parseTables, ended, parseBody, wrongLength, parse}
-use Rattle.format.proofs.Parse.{LengthFits, length-fits, parse-wrong-length, parse-wrong-version, parse-is-body}
+use Rattle.format.proofs.Parse.{length-fits, parse-wrong-length, parse-wrong-version, parse-is-body}
 
 -- The place after what was got, or the place of the fault, is at most m.
 pub data Within {A : Type 0} (m : ℕ) : Parse A → Type 0 where

@@ -1,5 +1,4 @@
 -- What a version of the format fixes, and the tests of the fields: each answers "fine", or which cause.
-use mathlib.Core.Bool.{Bool}
 use Prim.Native.Nat.{ℕ, _-_, _*_, _/_, _%_, _^_}
 use lib.Dec.{eqb, ltb, leb}
 use Rattle.bounded.specs.Bool.{or, not, if}

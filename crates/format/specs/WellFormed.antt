@@ -1,11 +1,10 @@
 -- The sheets that have bytes: what the parser accepts and the printer is given.
-use mathlib.Core.Bool.{Bool, true}
 use mathlib.Core.List.{List, [], _∷_}
 use mathlib.Core.Path.{_≡_}
 use Prim.Native.Nat.{ℕ, _≤_, _<_, _-_, _*_, _/_, _^_}
-use lib.ListN.{length, getD}
+use lib.ListN.{length}
 use Rattle.network.specs.Sheet.{Table, Sheet}
-use Rattle.format.specs.Layout.{Layout, Test, fine}
+use Rattle.format.specs.Layout.{Layout, fine}
 use Rattle.format.specs.Parse.{pairOf, sizeOf}
 use Rattle.format.specs.Print.{print}
 

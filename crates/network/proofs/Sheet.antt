@@ -2,16 +2,15 @@
 use mathlib.Core.Bool.{Bool, true, false, false≢true}
 use mathlib.Core.List.{List, [], _∷_}
 use mathlib.Core.Path.{_≡_, refl, sym, _∙_, ap}
-use Prim.Native.Nat.{ℕ, suc, _-_, _≤_, _<_, _^_}
-use native.Mathlib.Nat.{zero-div}
+use Prim.Native.Nat.{ℕ, suc, _-_, _≤_, _<_}
 use native.Mathlib.Omega.{arith}
 use lib.Dec.{ltb}
 use lib.ListN.{length, getD}
-use borrow.Author.Tests.{eq-eqb, eqb-true}
+use borrow.Author.Tests.{eq-eqb}
 use Rattle.bounded.specs.Bool.{and}
 use Rattle.bounded.specs.Fold.{every}
-use Rattle.bounded.proofs.Bool.{by-cases, clash, bool-ext, not-true→false, and-i, and-l, and-r, or-l, or-r, or-elim, or-false-l, or-false-r}
-use Rattle.bounded.proofs.Bool.{implies-i, implies-e, if-true, if-false}
+use Rattle.bounded.proofs.Bool.{by-cases, clash, bool-ext, not-true→false, and-i, and-l, and-r, or-l, or-r, or-elim}
+use Rattle.bounded.proofs.Bool.{implies-i, implies-e}
 use Rattle.bounded.proofs.Fold.{every-i, every-e}
 use Rattle.words.specs.Word.{has}
 use Rattle.network.specs.Network.{inDomains, pairsAllow, solves}

@@ -6,9 +6,9 @@ use Prim.Native.Nat.{ℕ, zero, suc, _+_, _-_, _≤_, _<_}
 use native.Mathlib.Omega.{arith}
 use lib.Dec.{eqb, ltb}
 use lib.ListN.{length, getD, List·getD-eq-default}
-use borrow.Author.Tests.{lt-ltb, eq-eqb, ltb-true, ltb-false, eqb-true, eqb-false}
+use borrow.Author.Tests.{lt-ltb, ltb-true, ltb-false, eqb-true, eqb-false}
 use Rattle.bounded.specs.Bool.{and, or, if}
-use Rattle.bounded.proofs.Bool.{by-cases, clash, bool-ext, not-true→false, if-true, if-false}
+use Rattle.bounded.proofs.Bool.{by-cases, clash, bool-ext, not-true→false}
 use Rattle.bounded.proofs.Bool.{and-i, and-l, and-r, true-and, or-l, or-r, or-elim, or-false-i, or-comm}
 use Rattle.bounded.proofs.Fold.{every-i, every-e}
 use Rattle.bounded.proofs.Table.{length-tabulate, getD-tabulate, getD-tabulate-past}
@@ -18,7 +18,7 @@ use Rattle.network.specs.Network.{Network}
 use Rattle.network.specs.Sound.{Sound}
 use Rattle.network.specs.Sheet.{Table, Sheet, isFor, tabled, rowFor, networkOf, collect, tableOf, sheetOf, fresh}
 use Rattle.network.proofs.Sound.{free-e, free-i}
-use Rattle.network.proofs.Tables.{isFor-e, isFor-i, tabled-here, tabled-there, rowFor-here, rowFor-there, rowFor-none, row-tabled}
+use Rattle.network.proofs.Tables.{isFor-e, isFor-i, tabled-here, rowFor-here, rowFor-none, row-tabled}
 
 -- Networks are equal where all their parts are.
 pub network-ext : (N M : Network) → N .n ≡ M .n → ((i : ℕ) → N .size i ≡ M .size i) → ((i a : ℕ) → N .domain i a ≡ M .domain i a)

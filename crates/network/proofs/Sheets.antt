@@ -1,7 +1,6 @@
 -- The twelve sheets A to L give what document 01 says: one claim over the rows of its table, by computation.
 use mathlib.Core.Bool.{true}
 use mathlib.Core.Path.{_≡_, refl}
-use lib.ListN.{length}
 use Rattle.bounded.specs.Bool.{and, or, implies, not, bit, if}
 use Rattle.bounded.specs.Fold.{every, some, sum, count, first}
 use Rattle.words.specs.Word.{has, word}

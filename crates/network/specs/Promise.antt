@@ -5,7 +5,7 @@ use Prim.Native.Nat.{ℕ, _<_}
 use Rattle.bounded.specs.Bool.{and}
 use Rattle.network.specs.Network.{Network, free, solves}
 use Rattle.network.specs.Sound.{Sound}
-use Rattle.network.specs.Completion.{completed, allowedChoice, completeRefusal, Verdict, NONE, BUILT, verdict, decided, shown}
+use Rattle.network.specs.Completion.{completed, allowedChoice, completeRefusal, NONE, BUILT, verdict, decided, shown}
 use Rattle.network.specs.Count.{solutionCount, choiceCount}
 
 -- M stands for N with the added constraint p: what a list of calls keeps. Calls of today add nothing: p is true everywhere.

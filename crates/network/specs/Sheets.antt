@@ -3,8 +3,8 @@ use mathlib.Core.Bool.{Bool, true, false}
 use mathlib.Core.List.{List, [], _∷_}
 use Prim.Native.Nat.{ℕ, suc}
 use lib.Dec.{eqb}
-use lib.ListN.{length, getD}
-use Rattle.bounded.specs.Bool.{and, if}
+use lib.ListN.{getD}
+use Rattle.bounded.specs.Bool.{and}
 use Rattle.bounded.specs.Fold.{every}
 use Rattle.words.specs.Word.{word}
 use Rattle.network.specs.Network.{Network, free}

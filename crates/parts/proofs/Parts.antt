@@ -4,7 +4,7 @@ use mathlib.Core.List.{List}
 use mathlib.Core.Path.{_≡_, refl, sym, ap, _∙_}
 use Prim.Native.Nat.{ℕ, suc, pred, _^_, _≤_, _<_}
 use native.Mathlib.Omega.{arith}
-use lib.Dec.{eqb, leb, ltb}
+use lib.Dec.{eqb, ltb}
 use lib.ListN.{getD}
 use borrow.Author.Tests.{lt-ltb, le-ltb, le-leb, eq-eqb, ne-eqb, ltb-true, ltb-false, leb-true, eqb-true, eqb-false}
 use Rattle.bounded.specs.Bool.{and, not}
@@ -14,9 +14,9 @@ use Rattle.bounded.proofs.Bool.{by-cases, clash, bool-ext, not-true→false, an
 use Rattle.bounded.proofs.Fold.{every-i, every-e, count-cong, count-widen}
 use Rattle.words.specs.Word.{has, word}
 use Rattle.words.proofs.Laws.{has-word, has-below, has-zero, is-word, empty}
-use Rattle.network.specs.Network.{Network, partner}
+use Rattle.network.specs.Network.{partner}
 use Rattle.network.specs.Sound.{Sound, Bounded, sound, countSound, sizesSound, domainsSound}
-use Rattle.network.proofs.Sound.{sound→Sound, sound-n, sound-size, Sound→sound, leader-n}
+use Rattle.network.proofs.Sound.{sound→Sound, sound-size, Sound→sound}
 use Rattle.rows.specs.Rows.{rowAt, mirroredAt, partnersAt, partnersWithin, allowsOf}
 use Rattle.rows.specs.Search.{rowsIn}
 use Rattle.rows.proofs.Array.{member-within, allowed-within}

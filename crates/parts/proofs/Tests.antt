@@ -8,19 +8,12 @@ use lib.Dec.{eqb, leb, ltb}
 use lib.ListN.{getD}
 use borrow.Author.Tests.{lt-ltb, le-ltb, lt-leb, le-leb, eq-eqb, ne-eqb}
 use Rattle.bounded.specs.Bool.{and, not}
-use Rattle.bounded.proofs.Bool.{not-i, not-false-i, implies-true, implies-false, true-and, false-and, if-true, if-false}
+use Rattle.bounded.proofs.Bool.{not-i, not-false-i, implies-true, implies-false, and-fails, and-holds, if-true, if-false}
 use Rattle.words.specs.Word.{has, word}
 use Rattle.words.proofs.Laws.{has-word, has-complement, has-full}
 use Rattle.rows.specs.Rows.{partnersWithin}
 use Rattle.rows.specs.Search.{Bars}
 use Rattle.parts.specs.Parts.{sizeFits, within, statedWith, variableFits, followerFits, freeOrFits}
-
--- A test joined to one that failed fails, and one joined to a test that held counts alone.
-pub and-fails : (a b : Bool) → a ≡ false → and a b ≡ false
-and-fails a b h = rw h (false-and b)
-
-pub and-holds : (a b : Bool) → a ≡ true → and a b ≡ b
-and-holds a b h = rw h (true-and b)
 
 -- The bound of a word's members, known by another name.
 pub within-same : (r : Bool) (x k k′ : ℕ) → r ≡ within x k → k ≡ k′ → r ≡ within x k′

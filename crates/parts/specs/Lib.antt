@@ -1,3 +1,2 @@
 -- A state as n and five lent arrays.
 pub mod Parts
-pub mod Choices

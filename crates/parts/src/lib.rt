@@ -1,14 +1,4 @@
-// The lent arrays of a state: soundness, and builds against them.
+// Soundness of the lent arrays of a state.
 mod sound;
-mod values;
 
 pub use sound::sound_parts;
-pub use sound::wide;
-pub use values::complete_values;
-pub use values::domains_open;
-pub use values::fresh_parts;
-pub use values::live_count;
-pub use values::lowest_build;
-pub use values::pairs_kept;
-pub use values::values_below;
-pub use values::values_kept;

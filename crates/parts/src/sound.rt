@@ -12,12 +12,6 @@ ghost use Rattle.rows.specs.Search.{Bars};
 ghost use Rattle.network.specs.Sound.{sound};
 ghost use Rattle.parts.specs.Parts.{partsView, Lent, sizeFits, sizesFit, domainsFit, statedWith, variableFits, pairsFit, againstFits, rowsWithin, sideMirrored, sidesMirrored, rowsFit, followerFits, freeOrFits, followersFit};
 
-pub fn wide(x: u8) -> usize
-    ensures { λ r. ⌜ r ≡ x ⌝ }
-{
-    x as usize
-}
-
 // A size is 1 to 16, and 0 past `n`.
 fn size_sound(n: usize, i: usize, size: u8) -> bool
     ensures { λ r. ⌜ r ≡ sizeFits n i size ⌝ }
@@ -48,7 +42,7 @@ fn domains_sound(sizes: &[u8; 16], domains: &[u16; 16]) -> bool
 {
     let mut all = true;
     for i in 0..16 {
-        all &= words::within(domains[i], wide(sizes[i]));
+        all &= words::within(domains[i], words::wide(sizes[i]));
     }
     all
 }
@@ -99,7 +93,7 @@ fn outside(size: u8) -> u64
     requires { ⌜ size ≤ 16 ⌝ }
     ensures { λ r. ⌜ Bars (λ (v : ℕ). ltb v size) r ⌝ }
 {
-    rows::repeated(!words::full(wide(size)))
+    rows::repeated(!words::full(words::wide(size)))
 }
 
 // The digits that no row of `i` may have: all of them where its pair is not stated.
@@ -245,7 +239,15 @@ fn free_or_sound(
     if leader == 0 {
         return true;
     }
-    follower_sound(n, domains, leaders, stated, rows, i, wide(leader) - 1)
+    follower_sound(
+        n,
+        domains,
+        leaders,
+        stated,
+        rows,
+        i,
+        words::wide(leader) - 1,
+    )
 }
 
 fn followers_sound(

@@ -20,16 +20,16 @@ use Rattle.cause.specs.declared.Cause.the-variants.{Length, Version, VariableCo
 use Rattle.network.specs.Sheet.{Table, Sheet, networkOf}
 use Rattle.rows.specs.Rows.{place, rowAt, rowsOf}
 use Rattle.rows.proofs.Laws.{every-place, place-first, place-second, place-value}
-use Rattle.reading.specs.declared.field.Read.{Read}
-use Rattle.reading.specs.declared.field.Read.the-variants.{Value, Refused}
+use Rattle.fields.specs.declared.field.Read.{Read}
+use Rattle.fields.specs.declared.field.Read.the-variants.{Value, Refused}
 use Rattle.format.specs.declared.outcome.Outcome.{Outcome}
 use Rattle.format.specs.declared.outcome.Outcome.the-variants.{Accepted}
 use Rattle.format.specs.Layout.{sizeTest, constraintsTest, version1}
 use Rattle.format.specs.Parse.{Parse, got, bad, bind, field, fields, parseTables, ended, parseBody, wrongLength, parse}
-use Rattle.reading.specs.Fields.{readAs, rangeTest}
+use Rattle.fields.specs.Fields.{readAs, rangeTest}
 use Rattle.reading.specs.Reading.{Sized, SizesRead, Held, TablesRead, BodyRead}
 use Rattle.format.specs.Arrays.{outcomeOf, Holds, ReadInto}
-use Rattle.reading.proofs.Fields.{field-got, count-range, constraints-range, range-passed, as-got, as-bad, no-value, value-is}
+use Rattle.fields.proofs.Fields.{field-got, count-range, constraints-range, range-passed, as-got, as-bad, no-value, value-is}
 use Rattle.reading.proofs.TablesLoop.{taken-length}
 
 -- ---- the arrays hold the sheet

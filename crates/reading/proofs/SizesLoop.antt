@@ -14,13 +14,13 @@ use Rattle.bounded.proofs.Bool.{by-cases, if-true, if-false}
 use Rattle.bounded.proofs.Table.{getD-set}
 use Rattle.cause.specs.declared.Cause.{Cause}
 use Rattle.cause.specs.declared.Cause.the-variants.{Size}
-use Rattle.reading.specs.declared.field.Read.the-variants.{Value, Refused}
+use Rattle.fields.specs.declared.field.Read.the-variants.{Value, Refused}
 use Rattle.format.specs.Layout.{sizeTest}
 use Rattle.format.specs.Parse.{got, bad, field, fields}
-use Rattle.reading.specs.Fields.{readAs, rangeTest}
+use Rattle.fields.specs.Fields.{readAs, rangeTest}
 use Rattle.reading.specs.Reading.{Sized, SizesRead}
-use Rattle.reading.proofs.Fields.{field-got, size-range, range-passed}
-use Rattle.reading.proofs.Many.{prepend, fields-begin, fields-end, fields-go-on, fields-stop}
+use Rattle.fields.proofs.Fields.{field-got, size-range, range-passed}
+use Rattle.fields.proofs.Many.{prepend, fields-begin, fields-end, fields-go-on, fields-stop}
 
 -- The first i sizes stand in the array, and the next one at a place.
 pub record SizesSoFar (bytes : List ℕ) (n : ℕ) (sizes : List ℕ) (at i : ℕ) : Type 0 where

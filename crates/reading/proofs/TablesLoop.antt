@@ -10,16 +10,16 @@ use lib.Seq.{getD-take}
 use Rattle.bounded.specs.Table.{tabulate}
 use Rattle.cause.specs.declared.Cause.{Cause}
 use Rattle.network.specs.Sheet.{Table}
-use Rattle.rows.specs.Frames.{Mirrored}
-use Rattle.reading.specs.declared.field.Read.{Read}
-use Rattle.reading.specs.declared.field.Read.the-variants.{Value, Refused}
+use Rattle.fields.specs.declared.field.Read.{Read}
+use Rattle.fields.specs.declared.field.Read.the-variants.{Value, Refused}
 use Rattle.format.specs.Layout.{pairTest, withinTest, version1}
 use Rattle.format.specs.Parse.{got, bad, bind, field, fields, pairOf, sizeOf, parseTable, parseTables}
-use Rattle.reading.specs.Fields.{readAs}
-use Rattle.reading.specs.Reading.{Sized, marked, Held, rowIn, RowsRead, TableStored, TableRead, TablesRead}
-use Rattle.reading.proofs.Fields.{as-got, as-bad, no-value, value-is, field-got, pair-passed}
-use Rattle.reading.proofs.Held.{held-none, held-more}
-use Rattle.reading.proofs.Many.{prepend, many-begins, many-ends, many-goes-on, many-stops}
+use Rattle.fields.specs.Fields.{readAs}
+use Rattle.sides.specs.Sides.{rowIn, SidesRead}
+use Rattle.reading.specs.Reading.{Sized, marked, Held, TableStored, TableRead, TablesRead}
+use Rattle.fields.proofs.Fields.{as-got, as-bad, no-value, value-is, field-got, pair-passed}
+use Rattle.reading.proofs.Held.{held-none, zero-before, held-more}
+use Rattle.fields.proofs.Many.{prepend, many-begins, many-ends, many-goes-on, many-stops}
 
 no-table : Table
 no-table = record { first = 0; second = 0; rows = [] }
@@ -89,12 +89,12 @@ module _ (n : ℕ) (sizes : List ℕ) (sized : Sized n sizes) (few : n ≤ 16) w
           rw (taken-length, e, taken-size (pair / 256) (p .first-in) (omega arith), taken-size (pair % 256) (omega arith) (p .second-in))
 
       module _
-          (rows rows₁ : List ℕ) (r : Read)
-          (body : RowsRead bytes next (pair / 256 - 1) (pair % 256 - 1) (getD sizes (pair / 256 - 1) 0) (getD sizes (pair % 256 - 1) 0) rows rows₁ r)
+          (rows rows′ : List ℕ) (r : Read)
+          (body : SidesRead bytes next (pair / 256 - 1) (pair % 256 - 1) (getD sizes (pair / 256 - 1) 0) (getD sizes (pair % 256 - 1) 0) rows rows′ r)
         where
           -- A row is refused.
           pub table-no-rows : (c : Cause) (place : ℕ) → r ≡ Refused c place
-              → (stated : List ℕ) → TableRead bytes at n previous sizes stated rows stated rows₁ (Refused c place)
+              → (stated : List ℕ) → TableRead bytes at n previous sizes stated rows stated rows′ (Refused c place)
           unfolding bind readAs
           table-no-rows c place q stated =
               record {
@@ -103,30 +103,32 @@ module _ (n : ℕ) (sizes : List ℕ) (sized : Sized n sizes) (few : n ≤ 16) w
                 stored = λ w x. no-value c place w x;
               }
 
-          -- The table is read, its other side made, and its pair stated from both sides.
-          pub table-read : (v end : ℕ) → r ≡ Value v end → (rows₂ : List ℕ) → Mirrored 16 rows₁ rows₂ (pair / 256 - 1) (pair % 256 - 1)
-              → (stated stated₁ stated₂ : List ℕ)
+          -- The table is read, and its pair stated from both sides.
+          pub table-read : (v end : ℕ) → r ≡ Value v end → (stated stated₁ stated₂ : List ℕ)
               → stated₁ ≡ marked stated (pair / 256 - 1) (pair % 256 - 1) → stated₂ ≡ marked stated₁ (pair % 256 - 1) (pair / 256 - 1)
-              → TableRead bytes at n previous sizes stated rows stated₂ rows₂ (Value pair end)
+              → TableRead bytes at n previous sizes stated rows stated₂ rows′ (Value pair end)
           unfolding bind readAs pairOf tableAt
-          table-read v end q rows₂ mirrored stated stated₁ stated₂ e₁ e₂ =
+          table-read v end q stated stated₁ stated₂ e₁ e₂ =
               let p = pair-in bytes at n previous sizes pair next sized e in
               let b = body .stored v end q in
               record {
                 table = tableAt bytes next sizes pair;
                 parsed = table-is ∙ rw (as-got _ r _ v end (body .parsed) q);
-                stored = λ w x. value-is (TableStored bytes previous (tableAt bytes next sizes pair) stated rows stated₂ rows₂) pair end w x
+                stored = λ w x. value-is (TableStored bytes previous (tableAt bytes next sizes pair) stated rows stated₂ rows′) pair end w x
                     (record {
                       pair-is = omega arith;
                       ends = b .ends;
                       held = λ ts held.
+                          let s = b .sides
+                          (zero-before ts previous stated rows held (tableAt bytes next sizes pair) (pair / 256 - 1) (pair % 256 - 1)
+                          (omega (arith, p .first-in)) (omega arith) (omega arith) (omega arith) (omega arith)) in
                           rw (e₂, e₁)
                           (rw (let m : pair / 256 * 256 + pair % 256 ≡ pair = omega arith in m) at
                           (held-more ts previous stated rows held (tableAt bytes next sizes pair) (pair / 256 - 1) (pair % 256 - 1)
                           (omega (arith, p .first-in)) (omega arith) (omega arith) (omega arith) (omega arith)
-                          rows₁ rows₂ (rowIn bytes next) (getD sizes (pair / 256 - 1) 0) refl
+                          (s .one) rows′ (rowIn bytes next) (getD sizes (pair / 256 - 1) 0) refl
                           (λ a l. omega (arith, b .small a l, pow-mono (p .second-small)))
-                          (b .filled) mirrored));
+                          (s .filled) (s .mirrored)));
                     });
               }
 

@@ -1,3 +1,2 @@
 -- What the functions of reading do.
-pub mod Fields
 pub mod Reading

@@ -2,20 +2,18 @@
 use mathlib.Core.Bool.{Bool, true}
 use mathlib.Core.List.{List, [], _∷_, _++_}
 use mathlib.Core.Path.{_≡_}
-use Prim.Native.Nat.{ℕ, suc, _+_, _*_, _^_, _≤_, _<_}
+use Prim.Native.Nat.{ℕ, suc, _+_, _*_, _≤_, _<_}
 use lib.Dec.{eqb}
 use lib.ListN.{length, getD, set, take}
-use Rattle.bounded.specs.Bool.{or}
-use Rattle.bounded.specs.Table.{tabulate}
+use Rattle.bounded.specs.Bool.{and, or}
 use Rattle.words.specs.Word.{has, word}
 use Rattle.network.specs.Sheet.{Table, Sheet, tabled, rowFor}
 use Rattle.rows.specs.Rows.{rowAt}
-use Rattle.rows.specs.Frames.{Filled}
-use Rattle.reading.specs.declared.field.Read.{Read}
-use Rattle.reading.specs.declared.field.Read.the-variants.{Value}
-use Rattle.format.specs.Layout.{sizeTest, withinTest, version1}
-use Rattle.format.specs.Parse.{numberAt, fields, pairOf, parseTable, parseTables, parseBody}
-use Rattle.reading.specs.Fields.{readAs}
+use Rattle.fields.specs.declared.field.Read.{Read}
+use Rattle.fields.specs.declared.field.Read.the-variants.{Value}
+use Rattle.format.specs.Layout.{sizeTest, version1}
+use Rattle.format.specs.Parse.{fields, pairOf, parseTable, parseTables, parseBody}
+use Rattle.fields.specs.Fields.{readAs}
 use Rattle.format.specs.Arrays.{Holds}
 
 -- An array of at most n sizes, 0 past them.
@@ -47,20 +45,6 @@ pub record Held (tables : List Table) (last : ℕ) (stated rows : List ℕ) : Ty
   pub stated-are : (i : ℕ) → i < 16 → getD stated i 0 ≡ word 16 (statedBy tables i)
   pub rows-length : length rows ≡ 4096
   pub rows-are : (i j a : ℕ) → i < 16 → j < 16 → a < 16 → rowAt 16 rows i j a ≡ word 16 (allowedBy tables i j a)
-
--- The row of value a, the first row standing at a place.
-unfoldable pub rowIn : List ℕ → ℕ → ℕ → ℕ
-rowIn bytes from a = numberAt 2 bytes (from + 2 * a)
-
-pub record RowsStored (bytes : List ℕ) (from i j count size : ℕ) (before after : List ℕ) (next : ℕ) : Type 0 where
-  pub filled : Filled 16 before after i j (rowIn bytes from) count
-  pub small : (a : ℕ) → a < count → rowIn bytes from a < 2 ^ size
-  pub ends : next ≤ length bytes
-
--- The rows parsed are those in the bytes; where none is refused, they stand in the array.
-pub record RowsRead (bytes : List ℕ) (from i j count size : ℕ) (before after : List ℕ) (r : Read) : Type 0 where
-  pub parsed : fields 2 (withinTest size) count bytes from ≡ readAs r (tabulate count (rowIn bytes from))
-  pub stored : (v next : ℕ) → r ≡ Value v next → RowsStored bytes from i j count size before after next
 
 -- The table is one more that the arrays hold, after those whose pairs are at most `previous`.
 pub record TableStored (bytes : List ℕ) (previous : ℕ) (table : Table) (stated rows stated′ rows′ : List ℕ) (pair next : ℕ) : Type 0 where

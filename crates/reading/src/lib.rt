@@ -1,6 +1,4 @@
 // Reading a sheet's bytes into arrays.
-mod field;
-mod header;
 mod read;
 mod sizes;
 mod tables;

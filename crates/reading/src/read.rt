@@ -3,12 +3,10 @@ ghost use mathlib.Core.Path.{_≡_};
 ghost use lib.ListN.{replicate};
 ghost use Rattle.format.specs.Arrays.{ReadInto};
 ghost use Rattle.reading.specs.Reading.{BodyRead};
-use crate::field;
-use crate::field::Read;
-use crate::header;
 use crate::sizes;
 use crate::tables;
 use cause::Cause;
+use fields::Read;
 use format::Outcome;
 
 // All that follows the count of bytes: n, the sizes, p, the tables, and no byte more. The value is n.
@@ -21,7 +19,7 @@ fn read_body(
     requires { ⌜ (now sizes ≡ replicate 16 0) × (now stated ≡ replicate 16 0) × (now rows ≡ replicate 4096 0) ⌝ }
     ensures { λ r. ⌜ BodyRead (now (bytes .entry)) (now (sizes .exit)) (now (stated .exit)) (now (rows .exit)) r ⌝ }
 {
-    let count = field::byte_field(bytes, 3, 1, 16, Cause::VariableCount);
+    let count = fields::byte_field(bytes, 3, 1, 16, Cause::VariableCount);
     let Read::Value(n, _) = count else {
         return count;
     };
@@ -29,7 +27,7 @@ fn read_body(
     let Read::Value(_, after) = listed else {
         return listed;
     };
-    let constraints = field::byte_field(bytes, after, 0, n * (n - 1) / 2, Cause::ConstraintCount);
+    let constraints = fields::byte_field(bytes, after, 0, n * (n - 1) / 2, Cause::ConstraintCount);
     let Read::Value(p, first) = constraints else {
         return constraints;
     };
@@ -53,7 +51,7 @@ pub fn read_into(
     requires { ⌜ (now sizes ≡ replicate 16 0) × (now stated ≡ replicate 16 0) × (now rows ≡ replicate 4096 0) ⌝ }
     ensures { λ r. ⌜ ReadInto (now (bytes .entry)) (now (sizes .exit)) (now (stated .exit)) (now (rows .exit)) r ⌝ }
 {
-    if header::wrong_length(bytes) {
+    if fields::wrong_length(bytes) {
         return Outcome::Refused(Cause::Length, 0);
     }
     if bytes[0] != 1 {

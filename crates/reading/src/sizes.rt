@@ -3,9 +3,8 @@ ghost use mathlib.Core.Path.{_≡_};
 ghost use Prim.Native.Nat.{_≤_};
 ghost use lib.ListN.{replicate};
 ghost use Rattle.reading.specs.Reading.{SizesRead};
-use crate::field;
-use crate::field::Read;
 use cause::Cause;
+use fields::Read;
 
 // The sizes of `n` variables, from byte 4 on.
 pub fn read_sizes(bytes: &[u8], n: usize, sizes: &mut [u8; 16]) -> Read
@@ -14,7 +13,7 @@ pub fn read_sizes(bytes: &[u8], n: usize, sizes: &mut [u8; 16]) -> Read
 {
     let mut at = 4;
     for i in 0..n {
-        let size = field::byte_field(bytes, at, 1, 16, Cause::Size);
+        let size = fields::byte_field(bytes, at, 1, 16, Cause::Size);
         let Read::Value(value, next) = size else {
             return size;
         };

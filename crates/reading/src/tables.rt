@@ -2,34 +2,8 @@
 ghost use mathlib.Core.Path.{_≡_};
 ghost use Prim.Native.Nat.{_<_, _≤_};
 ghost use lib.ListN.{length, replicate};
-ghost use Rattle.reading.specs.Reading.{Sized, marked, RowsRead, TableRead, TablesRead};
-use crate::field;
-use crate::field::Read;
-
-// The rows of a table: one for each of `count` values of `i`, against the `size` values of `j`.
-fn read_rows(
-    bytes: &[u8],
-    from: usize,
-    i: usize,
-    j: usize,
-    count: usize,
-    size: usize,
-    rows: &mut [u16; 4096],
-) -> Read
-    requires { ⌜ (from ≤ length (now bytes)) × (i < 16) × (j < 16) × (count ≤ 16) × (size ≤ 16) × (length (now rows) ≡ 4096) ⌝ }
-    ensures { λ r. ⌜ RowsRead (now (bytes .entry)) from i j count size (now (rows .entry)) (now (rows .exit)) r ⌝ }
-{
-    let mut at = from;
-    for a in 0..count {
-        let row = field::row_field(bytes, at, size);
-        let Read::Value(value, next) = row else {
-            return row;
-        };
-        rows::put(rows, i, j, a, value as u16);
-        at = next;
-    }
-    Read::Value(count, at)
-}
+ghost use Rattle.reading.specs.Reading.{Sized, marked, TableRead, TablesRead};
+use fields::Read;
 
 // States `j` with `i`, on the side of `i`.
 fn mark(stated: &mut [u16; 16], i: usize, j: usize)
@@ -39,7 +13,7 @@ fn mark(stated: &mut [u16; 16], i: usize, j: usize)
     stated[i] = words::either(stated[i], words::single(j));
 }
 
-// One table, its pair after `previous`: its rows, the other side of the pair, and the pair stated from both sides.
+// One table, its pair after `previous`: both sides of the pair, stored and stated.
 fn read_table(
     bytes: &[u8],
     at: usize,
@@ -53,13 +27,13 @@ fn read_table(
     ensures { λ r. ⌜ TableRead (now (bytes .entry)) at n previous (now (sizes .entry))
         (now (stated .entry)) (now (rows .entry)) (now (stated .exit)) (now (rows .exit)) r ⌝ }
 {
-    let head = field::pair_field(bytes, at, n, previous);
+    let head = fields::pair_field(bytes, at, n, previous);
     let Read::Value(pair, next) = head else {
         return head;
     };
     let i = pair / 256 - 1;
     let j = pair % 256 - 1;
-    let body = read_rows(
+    let body = sides::read_sides(
         bytes,
         next,
         i,
@@ -71,7 +45,6 @@ fn read_table(
     let Read::Value(_, end) = body else {
         return body;
     };
-    rows::mirror(rows, i, j);
     mark(stated, i, j);
     mark(stated, j, i);
     Read::Value(pair, end)

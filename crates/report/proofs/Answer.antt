@@ -7,14 +7,15 @@ use lib.ListN.{getD}
 use Rattle.cause.specs.declared.Cause.{Cause}
 use Rattle.cause.specs.declared.Cause.the-variants.{Length, Version, VariableCount, Size, ConstraintCount, CutOff, LeftOver, PairRange, PairOrder, PairRepeated, RowRange, Unsound, VariableNumber, SameVariable, NotFree, NotStated, NotFunctional, SolutionLength, ValueRange, ValuesForbidden, BufferLength, NotFresh}
 use Rattle.cause.specs.Number.{numberOf}
-use Rattle.sheet.specs.declared.answers.CutAnswer.{CutAnswer}
-use Rattle.sheet.specs.declared.answers.ReadOutcome.{ReadOutcome}
-use Rattle.sheet.specs.declared.answers.ReadOutcome.the-variants.{Accepted, Refused}
-use Rattle.sheet.specs.Answers.{readNumber, readPlace, verdictTold}
-use Rattle.sheet.specs.declared.answers.Verdict.{Verdict}
-use Rattle.sheet.specs.declared.answers.Verdict.the-variants as verdict
-use Rattle.sheet.specs.Cut.{cutTold, cutSheet}
-use Rattle.sheet.proofs.Cuts.{Small, cut-small}
+use Rattle.cutting.specs.declared.cut.CutParts.{CutParts}
+use Rattle.answers.specs.declared.ReadOutcome.{ReadOutcome}
+use Rattle.answers.specs.declared.ReadOutcome.the-variants.{Accepted, Refused}
+use Rattle.answers.specs.Answers.{readNumber, readPlace, verdictTold}
+use Rattle.answers.specs.declared.Verdict.{Verdict}
+use Rattle.answers.specs.declared.Verdict.the-variants as verdict
+use Rattle.state.specs.Cut.{cutSheet}
+use Rattle.cutting.specs.Parts.{cutPartsTold}
+use Rattle.cutting.proofs.Cuts.{Small, cut-small}
 use Rattle.report.specs.Text.{refusedText, textAs}
 use Rattle.report.specs.Parts.{cutLines}
 use Rattle.report.specs.Printed.{Printable, buildOf}
@@ -45,16 +46,16 @@ number-range ValuesForbidden = omega arith
 number-range BufferLength = omega arith
 number-range NotFresh = omega arith
 
-pub accepted-text : (a : CutAnswer) → a .outcome ≡ Accepted
-    → textAs (cutTold a) ≡ cutLines (a .state .n) (a .state .leaders) (a .state .domains) (a .steps) (verdictTold (a .verdict) (a .solution))
-unfolding cutTold readNumber
-accepted-text a e = text-accepted (cutTold a) (ap readNumber e)
+pub accepted-text : (a : CutParts) (rows : List ℕ) → a .outcome ≡ Accepted
+    → textAs (cutPartsTold a rows) ≡ cutLines (a .n) (a .leaders) (a .domains) (a .steps) (verdictTold (a .verdict) (a .solution))
+unfolding cutPartsTold readNumber
+accepted-text a rows e = text-accepted (cutPartsTold a rows) (ap readNumber e)
 
-pub refused-text : (a : CutAnswer) {c : Cause} {at number place : ℕ} → a .outcome ≡ Refused c at → number ≡ readNumber (a .outcome)
-    → place ≡ readPlace (a .outcome) → textAs (cutTold a) ≡ refusedText number place
-unfolding cutTold readNumber
-refused-text a {c} e n p =
-    text-refused (cutTold a) (λ z. omega (arith, number-range c, sym z ∙ ap readNumber e)) ∙ ap₂ refusedText (sym n) (sym p)
+pub refused-text : (a : CutParts) (rows : List ℕ) {c : Cause} {at number place : ℕ} → a .outcome ≡ Refused c at → number ≡ readNumber (a .outcome)
+    → place ≡ readPlace (a .outcome) → textAs (cutPartsTold a rows) ≡ refusedText number place
+unfolding cutPartsTold readNumber
+refused-text a rows {c} e n p =
+    text-refused (cutPartsTold a rows) (λ z. omega (arith, number-range c, sym z ∙ ap readNumber e)) ∙ ap₂ refusedText (sym n) (sym p)
 
 number-small : (o : ReadOutcome) → readNumber o < 100
 unfolding readNumber
@@ -69,11 +70,11 @@ build-of verdict.Open build = refl
 build-of (verdict.Refused c) build = refl
 
 -- The answer for the bytes of a sheet can be printed, whatever they are.
-pub printable-answer : (bytes : List ℕ) → ((k : ℕ) → getD bytes k 0 < 256) → (a : CutAnswer) → cutTold a ≡ cutSheet bytes
-    → ((k : ℕ) → getD (a .state .leaders) k 0 < 256) → ((k : ℕ) → getD (a .solution) k 0 < 256) → Printable (cutTold a)
-unfolding cutTold
-printable-answer bytes octets a e leaders values =
-    let small : Small (cutTold a) = rw e (cut-small bytes octets) in
+pub printable-answer : (bytes : List ℕ) → ((k : ℕ) → getD bytes k 0 < 256) → (a : CutParts) (rows : List ℕ) → cutPartsTold a rows ≡ cutSheet bytes
+    → ((k : ℕ) → getD (a .leaders) k 0 < 256) → ((k : ℕ) → getD (a .solution) k 0 < 256) → (other : List ℕ) → Printable (cutPartsTold a other)
+unfolding cutPartsTold
+printable-answer bytes octets a rows e leaders values other =
+    let small : Small (cutPartsTold a rows) = rw e (cut-small bytes octets) in
     record {
       number-lt = number-small (a .outcome);
       place-le = small .place-small;

@@ -1,23 +1,22 @@
 -- The whole text in its parts, and that it fits.
-use mathlib.Core.Bool.{Bool, true, false}
-use mathlib.Core.List.{List, [], _∷_, _++_}
+use mathlib.Core.List.{List, _++_}
 use mathlib.Core.Path.{_≡_, refl, sym, _∙_, ap, ap₂}
 use Prim.Native.Nat.{ℕ, zero, suc, _+_, _-_, _*_, _≤_, _<_}
 use native.Mathlib.Omega.{arith}
 use lib.Dec.{eqb}
-use lib.ListN.{length, getD, take, drop, replicate, length-append, length-replicate}
+use lib.ListN.{length, getD, take, drop, replicate, length-append}
 use lib.Seq.{take-at}
 use borrow.Author.Tests.{eq-eqb, ne-eqb, eqb-true, eqb-false}
 use Rattle.bounded.proofs.Bool.{by-cases, if-true, if-false}
 use Rattle.buffers.specs.Digits.{decimal, hex4}
 use Rattle.buffers.specs.Wrote.{Wrote}
-use Rattle.buffers.proofs.Digits.{length-decimal-le, length-hex4}
+use Rattle.buffers.proofs.Digits.{length-decimal-le}
 use Rattle.network.specs.Completion.{NONE, BUILT, OPEN}
-use Rattle.sheet.specs.declared.state.State.{State}
-use Rattle.sheet.specs.Answers.{VerdictTold, rules, no-verdict}
-use Rattle.sheet.specs.Cut.{CutTold}
+use Rattle.state.specs.declared.state.State.{State}
+use Rattle.answers.specs.Answers.{VerdictTold, rules, no-verdict}
+use Rattle.state.specs.Cut.{CutTold}
 use Rattle.report.specs.Text.{ascii, refusedText, optionText, optionTexts, valueTexts, ruledText, verdictText, cutText, textAs}
-use Rattle.report.specs.Parts.{pairLine, liveLine, optionLine, optionLines, valueText, builtText, cutLines}
+use Rattle.report.specs.Parts.{pairLine, liveLine, optionLine, optionLines, cutLines}
 use Rattle.report.specs.Printed.{Printed, Printable, buildOf}
 use Rattle.report.proofs.Laws.{option-live, option-follows}
 

@@ -5,7 +5,7 @@ use lib.Dec.{eqb}
 use lib.ListN.{getD}
 use Rattle.bounded.specs.Bool.{if}
 use Rattle.buffers.specs.Digits.{decimal, hex4}
-use Rattle.sheet.specs.Answers.{VerdictTold}
+use Rattle.answers.specs.Answers.{VerdictTold}
 use Rattle.report.specs.Text.{ascii, valueTexts, verdictText}
 
 -- A line of two numbers, each with a title.

@@ -3,8 +3,8 @@ use mathlib.Core.List.{List, _++_}
 use mathlib.Core.Path.{_≡_}
 use Prim.Native.Nat.{ℕ, _-_, _≤_, _<_}
 use lib.ListN.{length, getD, replicate}
-use Rattle.sheet.specs.Answers.{VerdictTold, rules, no-verdict}
-use Rattle.sheet.specs.Cut.{CutTold}
+use Rattle.answers.specs.Answers.{VerdictTold, rules, no-verdict}
+use Rattle.state.specs.Cut.{CutTold}
 
 -- An array of so many bytes holds a text of n bytes, and zeros past it.
 pub record Printed (size : ℕ) (text bytes : List ℕ) (n : ℕ) : Type 0 where

@@ -1,17 +1,16 @@
 -- Document 01, "The program sheetcut": the text for the bytes of a sheet, as ASCII codes.
-use mathlib.Core.Bool.{Bool}
 use mathlib.Core.List.{List, [], _∷_, _++_}
-use Prim.Native.Char.{Char, code}
+use Prim.Native.Char.{code}
 use Prim.Native.Nat.{ℕ, zero, suc, _+_, _-_}
 use Prim.Native.String.{String, [] as noText, _∷_ as _before_}
 use lib.Dec.{eqb}
-use lib.ListN.{getD, take}
+use lib.ListN.{getD}
 use Rattle.bounded.specs.Bool.{if}
 use Rattle.buffers.specs.Digits.{decimal, hex4}
 use Rattle.network.specs.Completion.{Verdict, NONE, BUILT, OPEN}
-use Rattle.sheet.specs.declared.state.State.{State}
-use Rattle.sheet.specs.Answers.{VerdictTold, rules, no-verdict}
-use Rattle.sheet.specs.Cut.{CutTold, cutSheet}
+use Rattle.state.specs.declared.state.State.{State}
+use Rattle.answers.specs.Answers.{VerdictTold, rules, no-verdict}
+use Rattle.state.specs.Cut.{CutTold, cutSheet}
 
 -- The codes of a quoted text.
 unfoldable pub ascii : String → List ℕ

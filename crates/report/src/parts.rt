@@ -2,13 +2,13 @@
 ghost use Prim.Native.Nat.{_+_, _<_, _≤_};
 ghost use lib.ListN.{length};
 ghost use Rattle.buffers.specs.Wrote.{Wrote};
-ghost use Rattle.sheet.specs.Answers.{verdictTold};
+ghost use Rattle.answers.specs.Answers.{verdictTold};
 ghost use Rattle.report.specs.Text.{refusedText, valueTexts, verdictText};
 ghost use Rattle.report.specs.Parts.{pairLine, liveLine, optionLine, optionLines, valueText, builtText, cutLines};
+use answers::Verdict;
 use buffers::put_hex4;
 use buffers::put_text;
 use buffers::put_titled;
-use sheet::Verdict;
 
 // A line of two numbers, each with a title.
 fn put_pair(

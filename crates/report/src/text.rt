@@ -1,14 +1,16 @@
 // The whole text of an answer, by value.
-ghost use mathlib.Core.Path.{_≡_};
-ghost use Rattle.sheet.specs.Answers.{readNumber, readPlace};
-ghost use Rattle.sheet.specs.Cut.{cutTold};
+ghost use mathlib.Core.List.{List};
+ghost use Prim.Native.Nat.{ℕ};
+ghost use Rattle.cutting.specs.Parts.{cutPartsTold};
 ghost use Rattle.report.specs.Text.{textAs, textOf};
 ghost use Rattle.report.specs.Printed.{Printed, Printable};
 use crate::parts::put_cut;
 use crate::parts::put_refusal;
-use sheet::CutAnswer;
-use sheet::ReadOutcome;
-use sheet::cut;
+use answers::ReadOutcome;
+use answers::read_number;
+use answers::read_place;
+use cutting::CutParts;
+use cutting::cut_parts;
 
 pub struct Text {
     // The text, and zeros past it.
@@ -16,48 +18,28 @@ pub struct Text {
     pub length: usize,
 }
 
-// The number of a refusal, or 0.
-fn number_of(outcome: ReadOutcome) -> u8
-    ensures { λ r. ⌜ r ≡ readNumber outcome ⌝ }
-{
-    match outcome {
-        ReadOutcome::Accepted => 0,
-        ReadOutcome::Refused(cause, _) => cause::number(cause),
-    }
-}
-
-// The place of a refusal, or 0.
-fn place_of(outcome: ReadOutcome) -> usize
-    ensures { λ r. ⌜ r ≡ readPlace outcome ⌝ }
-{
-    match outcome {
-        ReadOutcome::Accepted => 0,
-        ReadOutcome::Refused(_, place) => place,
-    }
-}
-
-// "Another refusal prints its number and place": what is accepted is printed as it was cut.
-pub(crate) fn written(answer: CutAnswer) -> Text
-    requires { ⌜ Printable (cutTold answer) ⌝ }
-    ensures { λ r. ⌜ Printed 512 (textAs (cutTold answer)) (r .bytes) (r .length) ⌝ }
+// "Another refusal prints its number and place": what is accepted is printed as it was cut. The rows do not show.
+pub(crate) fn written(cut: CutParts) -> Text
+    requires { ⌜ ((rows : List ℕ) → Printable (cutPartsTold cut rows)) ⌝ }
+    ensures { λ r. ⌜ ((rows : List ℕ) → Printed 512 (textAs (cutPartsTold cut rows)) (r .bytes) (r .length)) ⌝ }
 {
     let mut bytes = [0u8; 512];
-    let outcome = answer.outcome;
+    let outcome = cut.outcome;
     let ReadOutcome::Accepted = outcome else {
-        let length = put_refusal(&mut bytes, 0, number_of(outcome), place_of(outcome));
+        let length = put_refusal(&mut bytes, 0, read_number(outcome), read_place(outcome));
         return Text { bytes, length };
     };
-    let leaders = answer.state.leaders;
-    let lists = answer.state.domains;
-    let verdict = answer.verdict;
-    let solution = answer.solution;
+    let leaders = cut.leaders;
+    let lists = cut.domains;
+    let verdict = cut.verdict;
+    let solution = cut.solution;
     let length = put_cut(
         &mut bytes,
         0,
-        answer.state.n,
+        cut.n,
         &leaders,
         &lists,
-        answer.steps,
+        cut.steps,
         verdict,
         &solution,
     );
@@ -68,5 +50,6 @@ pub(crate) fn written(answer: CutAnswer) -> Text
 pub fn report(bytes: &[u8]) -> Text
     ensures { λ r. ⌜ Printed 512 (textOf (now (bytes .entry))) (r .bytes) (r .length) ⌝ }
 {
-    written(cut(bytes))
+    let mut rows = [0u16; 4096];
+    written(cut_parts(bytes, &mut rows))
 }

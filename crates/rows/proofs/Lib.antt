@@ -1,7 +1,5 @@
 pub mod Array
 pub mod Laws
-pub mod Digits
-pub mod Stages
 pub mod Sides
 pub mod Loops
 pub mod Partners

@@ -1,7 +1,7 @@
 -- What a turn of each loop does, and the digits that the machine's operations give, as laws on numbers, for any width.
 use mathlib.Core.Bool.{Bool, true, false, _&&_}
 use mathlib.Core.Path.{_≡_, refl, sym, ap, _∙_}
-use Prim.Native.Nat.{ℕ, zero, suc, _+_, _-_, _*_, _/_, _%_, _^_, _≤_, _<_}
+use Prim.Native.Nat.{ℕ, suc, _+_, _-_, _*_, _/_, _%_, _^_, _≤_, _<_}
 use native.Mathlib.Nat.{mul-one, one-mul, mul-zero, zero-mul, mod-eq-of-lt, mul-le-mul-left, mul-le-mul-right}
 use native.Mathlib.Numerals.{add-one}
 use native.Mathlib.Omega.{arith}
@@ -12,7 +12,7 @@ use Rattle.bounded.specs.Bool.{and, or, not, bit, if}
 use Rattle.bounded.specs.Fold.{every, some}
 use Rattle.bounded.proofs.Bool.{bit-le, and-true, and-false}
 use Rattle.words.specs.Word.{has, word}
-use Rattle.words.proofs.Laws.{empty, has-and, has-complement, has-digit, has-one, has-or, has-word, has-zero, word-has, word-lt, word-suc, word-zero, is-word}
+use Rattle.words.proofs.Laws.{empty, has-and, has-complement, has-digit, has-one, has-or, has-word, has-zero, word-lt, word-suc, is-word}
 
 -- ---- digits
 

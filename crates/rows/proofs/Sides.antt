@@ -1,130 +1,39 @@
 -- The blocks of a pair: made of its rows, compared, and stored.
-use mathlib.Core.Bool.{Bool, true, false, false≢true, _&&_}
+use mathlib.Core.Bool.{Bool, true}
 use mathlib.Core.List.{List}
 use mathlib.Core.Path.{_≡_, refl, sym, ap, subst, _∙_}
-use Prim.Native.Nat.{ℕ, zero, suc, _+_, _*_, _/_, _%_, _^_, _<_}
-use native.Mathlib.Nat.{add-zero, div-one}
+use Prim.Native.Nat.{ℕ, _+_, _*_, _/_, _%_, _^_, _<_}
+use native.Mathlib.Nat.{div-one}
 use native.Mathlib.Omega.{arith}
-use lib.Dec.{eqb}
 use lib.ListN.{length, getD, set}
-use borrow.Author.Tests.{eq-eqb, eqb-true}
 use Rattle.bounded.proofs.Bool.{bool-ext}
 use Rattle.words.specs.Word.{has}
-use Rattle.words.proofs.Laws.{same-members, word-cong, word-mod}
-use Rattle.rows.specs.declared.blocks.Block.{Block}
+use Rattle.words.proofs.Laws.{word-cong}
+use Rattle.blocks.specs.declared.Block.{Block}
+use Rattle.blocks.specs.Blocks.{wordOf, rowOf, putFour, putSixteen, SixteenOf, Turned, Same}
+use Rattle.blocks.proofs.Blocks.{row-of}
 use Rattle.rows.specs.Rows.{place, rowAt, columnAt, mirroredAt}
 use Rattle.rows.specs.Frames.{Filled, Mirrored}
-use Rattle.rows.specs.Blocks.{wordOf, hasIn, rowOf, putFour, FourOf, BlockOf, Turned, Same}
+use Rattle.rows.specs.Sides.{BlockOf}
 use Rattle.rows.proofs.Laws.{mirrored-e, mirrored-rows}
-use Rattle.rows.proofs.Digits.{has-shr}
 use Rattle.rows.proofs.Frames.{filled-none, filled-more}
+
+-- The rows of a pair stand one after the other.
+place-from : (i j a : ℕ) → place 16 i j 0 + a ≡ place 16 i j a
+unfolding place
+place-from i j a = omega arith
 
 -- ---- the block of a pair
 
-fours-of : (rows : List ℕ) (at a b c d : ℕ) → FourOf rows at a → FourOf rows (at + 4) b → FourOf rows (at + 8) c → FourOf rows (at + 12) d
-    → (w q v : ℕ) → w < 4 → q < 4 → v < 16
-    → has (wordOf (record { a = a; b = b; c = c; d = d }) w) (16 * q + v) ≡ has (getD rows (at + (4 * w + q)) 0) v
-unfolding wordOf
-fours-of rows at a b c d ha hb hc hd zero q v l m n =
-    ha q v m n ∙ ap (λ (k : ℕ). has (getD rows k 0) v) (let e : at + q ≡ at + (4 * 0 + q) = omega arith in e)
-fours-of rows at a b c d ha hb hc hd (suc zero) q v l m n =
-    hb q v m n ∙ ap (λ (k : ℕ). has (getD rows k 0) v) (let e : at + 4 + q ≡ at + (4 * 1 + q) = omega arith in e)
-fours-of rows at a b c d ha hb hc hd (suc (suc zero)) q v l m n =
-    hc q v m n ∙ ap (λ (k : ℕ). has (getD rows k 0) v) (let e : at + 8 + q ≡ at + (4 * 2 + q) = omega arith in e)
-fours-of rows at a b c d ha hb hc hd (suc (suc (suc w))) q v l m n =
-    hd q v m n ∙ ap (λ (k : ℕ). has (getD rows k 0) v) (let e : at + 12 + q ≡ at + (4 * suc (suc (suc w)) + q) = omega arith in e)
+pub block-is : (rows : List ℕ) (i j at : ℕ) (x : Block) → at ≡ place 16 i j 0 → SixteenOf rows at x → BlockOf rows i j x
+unfolding rowAt
+block-is rows i j at x e h a v l m =
+    h a v l m ∙ ap (λ (k : ℕ). has (getD rows k 0) v) (ap (λ (n : ℕ). n + a) e ∙ place-from i j a)
 
-pub block-is : (rows : List ℕ) (i j a b c d : ℕ)
-    → FourOf rows ((i * 16 + j) * 16) a → FourOf rows ((i * 16 + j) * 16 + 4) b
-    → FourOf rows ((i * 16 + j) * 16 + 8) c → FourOf rows ((i * 16 + j) * 16 + 12) d
-    → BlockOf rows i j (record { a = a; b = b; c = c; d = d })
-unfolding hasIn rowAt place
-block-is rows i j a b c d ha hb hc hd r v l m =
-    fours-of rows ((i * 16 + j) * 16) a b c d ha hb hc hd (r / 4) (r % 4) v (omega arith) (omega arith) m
-    ∙ ap (λ (k : ℕ). has (getD rows ((i * 16 + j) * 16 + k) 0) v) (let e : 4 * (r / 4) + r % 4 ≡ r = omega arith in e)
-
--- What holds of the rows of each word holds of all 16.
-four-fours : (P : ℕ → Type 0) (at : ℕ) → ((q : ℕ) → q < 4 → P (at + q)) → ((q : ℕ) → q < 4 → P (at + 4 + q))
-    → ((q : ℕ) → q < 4 → P (at + 8 + q)) → ((q : ℕ) → q < 4 → P (at + 12 + q))
-    → (w q : ℕ) → w < 4 → q < 4 → P (at + (4 * w + q))
-four-fours P at ha hb hc hd zero q l m = subst P (let e : at + q ≡ at + (4 * 0 + q) = omega arith in e) (ha q m)
-four-fours P at ha hb hc hd (suc zero) q l m = subst P (let e : at + 4 + q ≡ at + (4 * 1 + q) = omega arith in e) (hb q m)
-four-fours P at ha hb hc hd (suc (suc zero)) q l m = subst P (let e : at + 8 + q ≡ at + (4 * 2 + q) = omega arith in e) (hc q m)
-four-fours P at ha hb hc hd (suc (suc (suc w))) q l m =
-    subst P (let e : at + 12 + q ≡ at + (4 * suc (suc (suc w)) + q) = omega arith in e) (hd q m)
-
-abbrev Small : List ℕ → ℕ → Type 0
-Small rows at = (q : ℕ) → q < 4 → getD rows (at + q) 0 < 65536
-
-pub block-lt : (rows : List ℕ) (i j : ℕ)
-    → Small rows ((i * 16 + j) * 16) → Small rows ((i * 16 + j) * 16 + 4) → Small rows ((i * 16 + j) * 16 + 8) → Small rows ((i * 16 + j) * 16 + 12)
+pub block-lt : (rows : List ℕ) (i j at : ℕ) → at ≡ place 16 i j 0 → ((a : ℕ) → a < 16 → getD rows (at + a) 0 < 65536)
     → (a : ℕ) → a < 16 → rowAt 16 rows i j a < 65536
-unfolding rowAt place
-block-lt rows i j ha hb hc hd a l =
-    subst (λ (k : ℕ). getD rows ((i * 16 + j) * 16 + k) 0 < 65536) (let e : 4 * (a / 4) + a % 4 ≡ a = omega arith in e)
-    (four-fours (λ (k : ℕ). getD rows k 0 < 65536) ((i * 16 + j) * 16) ha hb hc hd (a / 4) (a % 4) (omega arith) (omega arith))
-
--- ---- two blocks compared
-
-&&-l : (a b : Bool) → a && b ≡ true → a ≡ true
-&&-l true b h = refl
-&&-l false b h = h
-
-&&-r : (a b : Bool) → a && b ≡ true → b ≡ true
-&&-r true b h = h
-&&-r false b h = absurd (false≢true h)
-
-words-same : (x y : Block) → x .a ≡ y .a → x .b ≡ y .b → x .c ≡ y .c → x .d ≡ y .d → (w : ℕ) → wordOf x w ≡ wordOf y w
-unfolding wordOf
-words-same x y ea eb ec ed zero = ea
-words-same x y ea eb ec ed (suc zero) = eb
-words-same x y ea eb ec ed (suc (suc zero)) = ec
-words-same x y ea eb ec ed (suc (suc (suc w))) = ed
-
-abbrev equal : Block → Block → Bool
-equal x y = ((eqb (x .a) (y .a) && eqb (x .b) (y .b)) && eqb (x .c) (y .c)) && eqb (x .d) (y .d)
-
--- Blocks of equal words have the same rows,
-pub same-e : (x y : Block) → equal x y ≡ true → Same x y
-unfolding hasIn
-same-e x y t r v l m =
-    let abc = &&-l _ (eqb (x .d) (y .d)) t in
-    let ab = &&-l _ (eqb (x .c) (y .c)) abc in
-    ap (λ (n : ℕ). has n (16 * (r % 4) + v))
-    (words-same x y
-    (eqb-true _ _ (&&-l (eqb (x .a) (y .a)) (eqb (x .b) (y .b)) ab))
-    (eqb-true _ _ (&&-r (eqb (x .a) (y .a)) (eqb (x .b) (y .b)) ab))
-    (eqb-true _ _ (&&-r (eqb (x .a) (y .a) && eqb (x .b) (y .b)) (eqb (x .c) (y .c)) abc))
-    (eqb-true _ _ (&&-r ((eqb (x .a) (y .a) && eqb (x .b) (y .b)) && eqb (x .c) (y .c)) (eqb (x .d) (y .d)) t))
-    (r / 4))
-
--- and with the same rows the words are equal: each digit of a word is a value of a row.
-word-same : (x y : Block) → Same x y → (w : ℕ) → w < 4 → wordOf x w < 2 ^ 64 → wordOf y w < 2 ^ 64 → eqb (wordOf x w) (wordOf y w) ≡ true
-unfolding hasIn
-word-same x y h w l f g =
-    eq-eqb _ _
-    (same-members 64 (wordOf x w) (wordOf y w) f g
-    (λ k m. let e : (4 * w + k / 16) / 4 ≡ w = omega arith in
-    let d : 16 * ((4 * w + k / 16) % 4) + k % 16 ≡ k = omega arith in
-    let s : has (wordOf x ((4 * w + k / 16) / 4)) (16 * ((4 * w + k / 16) % 4) + k % 16)
-    ≡ has (wordOf y ((4 * w + k / 16) / 4)) (16 * ((4 * w + k / 16) % 4) + k % 16) =
-    h (4 * w + k / 16) (k % 16) (omega arith) (omega arith) in
-    rw (e, d) at s))
-
-pub record WordsFit (x : Block) : Type 0 where
-  pub a : x .a < 2 ^ 64
-  pub b : x .b < 2 ^ 64
-  pub c : x .c < 2 ^ 64
-  pub d : x .d < 2 ^ 64
-
-pub same-i : (x y : Block) → WordsFit x → WordsFit y → Same x y → equal x y ≡ true
-unfolding wordOf
-same-i x y f g h =
-    let ea : eqb (x .a) (y .a) ≡ true = word-same x y h 0 (omega arith) (f .a) (g .a) in
-    let eb : eqb (x .b) (y .b) ≡ true = word-same x y h 1 (omega arith) (f .b) (g .b) in
-    let ec : eqb (x .c) (y .c) ≡ true = word-same x y h 2 (omega arith) (f .c) (g .c) in
-    let ed : eqb (x .d) (y .d) ≡ true = word-same x y h 3 (omega arith) (f .d) (g .d) in
-    rw (ea, eb, ec, ed)
+unfolding rowAt
+block-lt rows i j at e h a l = subst (λ (k : ℕ). getD rows k 0 < 65536) (ap (λ (n : ℕ). n + a) e ∙ place-from i j a) (h a l)
 
 -- One side of a pair, transposed, is the other exactly when the pair is mirrored.
 pub mirrored-is : (rows : List ℕ) (i j : ℕ) (x y z : Block) (r : Bool) → BlockOf rows i j x → Turned x y → BlockOf rows j i z
@@ -136,16 +45,6 @@ mirrored-is rows i j x y z r hx hy hz f e =
     (λ t. e .1 (λ a v l m. hy a v l m ∙ hx v a m l ∙ mirrored-e 16 rows i j t v a m l ∙ sym (hz a v l m)))
 
 -- ---- a block stored
-
--- Row q of a word.
-row-of : (x : Block) (w q : ℕ) → q < 4 → wordOf x w / 2 ^ (16 * q) % 2 ^ 16 ≡ rowOf x (4 * w + q)
-unfolding rowOf hasIn
-row-of x w q l =
-    sym (word-mod 16 (wordOf x w / 2 ^ (16 * q)))
-    ∙ word-cong 16 _ _
-    (λ v m. let e : (4 * w + q) / 4 ≡ w = omega arith in
-    let d : (4 * w + q) % 4 ≡ q = omega arith in
-    has-shr (wordOf x w) (16 * q) v ∙ rw (e, d))
 
 place-more : (i j n m : ℕ) → place 16 i j n + m ≡ place 16 i j (n + m)
 unfolding place
@@ -178,18 +77,17 @@ fours-put before now after i j x w n li lj lw p e h s =
     rw (let t : n + 3 + 1 ≡ n + 4 = omega arith in t) at h4
 
 -- The four words of a block, one after the other.
-pub block-put : (r0 r1 r2 r3 r4 : List ℕ) (i j : ℕ) (x : Block) → i < 16 → j < 16 → length r0 ≡ 4096
-    → r1 ≡ putFour r0 ((i * 16 + j) * 16) (x .a) → r2 ≡ putFour r1 ((i * 16 + j) * 16 + 4) (x .b)
-    → r3 ≡ putFour r2 ((i * 16 + j) * 16 + 8) (x .c) → r4 ≡ putFour r3 ((i * 16 + j) * 16 + 12) (x .d)
-    → Filled 16 r0 r4 i j (rowOf x) 16
-unfolding wordOf place
-block-put r0 r1 r2 r3 r4 i j x li lj e s1 s2 s3 s4 =
-    let h0 = filled-none 16 r0 i j (rowOf x) in
-    let first : r1 ≡ putFour r0 ((i * 16 + j) * 16 + 0) (x .a) = s1 ∙ ap (λ (k : ℕ). putFour r0 k (x .a)) (sym (add-zero ((i * 16 + j) * 16))) in
-    let h1 = fours-put r0 r0 r1 i j x 0 0 li lj (omega arith) refl e h0 first in
-    let h2 = fours-put r0 r1 r2 i j x 1 4 li lj (omega arith) refl e h1 s2 in
-    let h3 = fours-put r0 r2 r3 i j x 2 8 li lj (omega arith) refl e h2 s3 in
-    fours-put r0 r3 r4 i j x 3 12 li lj (omega arith) refl e h3 s4
+pub block-put : (r0 r4 : List ℕ) (i j : ℕ) (x : Block) → i < 16 → j < 16 → length r0 ≡ 4096
+    → r4 ≡ putSixteen r0 (place 16 i j 0) x → Filled 16 r0 r4 i j (rowOf x) 16
+unfolding wordOf putSixteen
+block-put r0 r4 i j x li lj e s =
+    let r1 = putFour r0 (place 16 i j 0) (x .a) in
+    let r2 = putFour r1 (place 16 i j 0 + 4) (x .b) in
+    let r3 = putFour r2 (place 16 i j 0 + 8) (x .c) in
+    let h1 = fours-put r0 r0 r1 i j x 0 0 li lj (omega arith) refl e (filled-none 16 r0 i j (rowOf x)) refl in
+    let h2 = fours-put r0 r1 r2 i j x 1 4 li lj (omega arith) refl e h1 (ap (λ (k : ℕ). putFour r1 k (x .b)) (place-from i j 4)) in
+    let h3 = fours-put r0 r2 r3 i j x 2 8 li lj (omega arith) refl e h2 (ap (λ (k : ℕ). putFour r2 k (x .c)) (place-from i j 8)) in
+    fours-put r0 r3 r4 i j x 3 12 li lj (omega arith) refl e h3 (s ∙ ap (λ (k : ℕ). putFour r3 k (x .d)) (place-from i j 12))
 
 -- Rows that are equal fill the same.
 filled-cong : (w : ℕ) (before after : List ℕ) (i j : ℕ) (f g : ℕ → ℕ) (n : ℕ) → ((a : ℕ) → a < n → f a ≡ g a)

@@ -1,18 +1,18 @@
 // The flat array of rows, on lent arrays and numbers.
-mod blocks;
 mod strays;
 
-use blocks::block_at;
-use blocks::put_block;
+use blocks::Block;
 use blocks::same;
 use blocks::transposed;
 pub use strays::repeated;
 pub use strays::stray;
 ghost use mathlib.Core.Path.{_≡_};
-ghost use Prim.Native.Nat.{_<_};
+ghost use Prim.Native.Nat.{ℕ, _<_};
 ghost use lib.ListN.{length, set};
+ghost use Rattle.blocks.specs.Blocks.{rowOf};
 ghost use Rattle.rows.specs.Rows.{place, rowAt, mirroredAt, partnersWithin};
-ghost use Rattle.rows.specs.Frames.{Mirrored};
+ghost use Rattle.rows.specs.Sides.{BlockOf};
+ghost use Rattle.rows.specs.Frames.{Filled, Mirrored};
 
 // Where the row of value `a` of `i` against `j` stands.
 fn place(i: usize, j: usize, a: usize) -> usize
@@ -37,6 +37,22 @@ pub fn put(rows: &mut [u16; 4096], i: usize, j: usize, a: usize, x: u16)
 {
     let at = place(i, j, a);
     rows[at] = x;
+}
+
+// All rows of `i` against `j`.
+fn block_at(rows: &[u16; 4096], i: usize, j: usize) -> Block
+    requires { ⌜ (i < 16) × (j < 16) ⌝ }
+    ensures { λ r. ⌜ BlockOf (now (rows .entry)) i j r × ((a : ℕ) → a < 16 → rowAt 16 (now (rows .entry)) i j a < 65536) ⌝ }
+{
+    blocks::sixteen(rows, place(i, j, 0))
+}
+
+// Stores all rows of `i` against `j`.
+pub fn put_block(rows: &mut [u16; 4096], i: usize, j: usize, x: Block)
+    requires { ⌜ (i < 16) × (j < 16) × (length (now rows) ≡ 4096) ⌝ }
+    ensures { λ _. ⌜ Filled 16 (now (rows .entry)) (now (rows .exit)) i j (rowOf x) 16 ⌝ }
+{
+    blocks::put_sixteen(rows, place(i, j, 0), x);
 }
 
 // The rows of `i` against `j` and those of `j` against `i` say the same: one side, transposed, is the other.

@@ -1,5 +1,5 @@
 // What the rows of a pair have besides the values that they may have: 64 digits at a time, and with no branch.
-use crate::blocks::four;
+use blocks::four;
 ghost use mathlib.Core.Bool.{Bool};
 ghost use mathlib.Core.Path.{_≡_};
 ghost use Prim.Native.Nat.{ℕ, _+_, _*_, _<_};

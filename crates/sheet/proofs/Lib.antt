@@ -1,14 +1,3 @@
-pub mod View
-pub mod Keep
-pub mod Reading
-pub mod Sizeless
-pub mod Stepping
-pub mod Steps
-pub mod Reducing
-pub mod RoundTrip
-pub mod Solutions
-pub mod Builds
-pub mod Verdicts
+pub mod Calls
 pub mod Written
 pub mod Promise
-pub mod Cuts

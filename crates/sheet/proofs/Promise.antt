@@ -29,17 +29,18 @@ use Rattle.format.specs.Parse.{parse}
 use Rattle.format.specs.Builds.{options, isBuildOf}
 use Rattle.format.proofs.SheetOf.{wellformed-n}
 use Rattle.format.proofs.Builds.{builds-solve, builds-are-solutions, options-are, option-sizes-are}
-use Rattle.sheet.specs.declared.state.State.{State}
-use Rattle.sheet.specs.View.{view, pack, soundState}
-use Rattle.sheet.specs.Answers.{says, rules}
-use Rattle.sheet.specs.Read.{readSheet}
-use Rattle.sheet.specs.Solutions.{valuesOf, tested, completeNumber, completedBuffer, verdictOf}
+use Rattle.state.specs.declared.state.State.{State}
+use Rattle.state.specs.View.{view, pack, soundState}
+use Rattle.answers.specs.Answers.{says, rules}
+use Rattle.state.specs.Read.{readSheet}
+use Rattle.state.specs.Solutions.{valuesOf, tested, completeNumber, completedBuffer, verdictOf}
 use Rattle.sheet.specs.Promise.{handedBack, stateAfter, adds, addedBy, keepsTo, networkRead, ruledAs, lastState, lastNetwork, buildOfSheet, buildCount, Promise, Demand3}
-use Rattle.sheet.proofs.View.{Shaped, Packed, pack-view}
-use Rattle.sheet.proofs.Keep.{after-packed}
-use Rattle.sheet.proofs.Steps.{call-answers, answer-packed}
-use Rattle.sheet.proofs.RoundTrip.{Accepted, accepted, read-sound}
-use Rattle.sheet.proofs.Solutions.{tested-yes, yes-solves, complete-accepted, completed-buffer, verdict-of, ruled-as}
+use Rattle.state.proofs.View.{Shaped, Packed, pack-view}
+use Rattle.state.proofs.Keep.{after-packed}
+use Rattle.state.proofs.Steps.{answer-packed}
+use Rattle.sheet.proofs.Calls.{call-answers, ruled-as}
+use Rattle.cutting.proofs.RoundTrip.{Accepted, accepted, read-sound}
+use Rattle.state.proofs.Solutions.{tested-yes, yes-solves, complete-accepted, completed-buffer, verdict-of}
 
 -- A list of calls on a sound state hands back the state of the network that the same calls make of its network.
 pub after-answers : (s : State) → Shaped s → soundState s ≡ true → (cs : List Call) → stateAfter s cs ≡ pack (after (view s) cs)

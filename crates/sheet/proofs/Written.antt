@@ -21,14 +21,14 @@ use Rattle.network.specs.Sound.{Sound}
 use Rattle.network.specs.Sheet.{sheetOf, tableOf, fresh}
 use Rattle.network.proofs.SheetOf.{network-ext, fresh-leader, fresh-domain}
 use Rattle.format.specs.Writing.{heldBy, bytesHeld}
-use Rattle.parts.specs.Choices.{freshValue, freshParts}
-use Rattle.sheet.specs.declared.state.State.{State}
-use Rattle.sheet.specs.View.{view, soundState}
-use Rattle.sheet.specs.declared.answers.WriteAnswer.the-variants as writeAnswer
-use Rattle.sheet.specs.Answers.{writeTold}
-use Rattle.sheet.specs.Write.{Wrote, sheetBytes, writeRefusal, writeSheet}
-use Rattle.sheet.proofs.View.{Shaped, state-sound, state-size}
-use Rattle.sheet.proofs.RoundTrip.{write-accepted, wrote, wrote-nothing}
+use Rattle.builds.specs.Choices.{freshValue, freshParts}
+use Rattle.state.specs.declared.state.State.{State}
+use Rattle.state.specs.View.{view, soundState}
+use Rattle.answers.specs.declared.WriteAnswer.the-variants as writeAnswer
+use Rattle.answers.specs.Answers.{writeTold}
+use Rattle.state.specs.Write.{Wrote, sheetBytes, writeRefusal, writeSheet}
+use Rattle.state.proofs.View.{Shaped, state-sound, state-size}
+use Rattle.cutting.proofs.RoundTrip.{write-accepted, wrote, wrote-nothing}
 
 -- A list within a size has all values below it exactly when it is their word.
 full-list : (domain size : ℕ) → domain < 65536 → size ≤ 16 → ((a : ℕ) → has domain a ≡ true → a < size)

@@ -1,10 +1,2 @@
--- What the public calls mean.
-pub mod View
-pub mod Answers
-pub mod Read
-pub mod Write
-pub mod Steps
-pub mod Worked
-pub mod Solutions
-pub mod Cut
+-- Demand 3.
 pub mod Promise

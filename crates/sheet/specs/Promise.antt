@@ -7,7 +7,6 @@ use mathlib.Core.Path.{_≡_}
 use Prim.Native.Nat.{ℕ, _+_, _-_, _<_}
 use lib.ListN.{length, getD, take}
 use Rattle.bounded.specs.Bool.{and}
-use Rattle.bounded.specs.Table.{tabulate}
 use Rattle.words.specs.Word.{has}
 use Rattle.network.specs.Network.{Network, free}
 use Rattle.network.specs.Reduction.{freeCount}
@@ -18,12 +17,12 @@ use Rattle.network.specs.Calls.{Call, follow-step, full-reduction, after}
 use Rattle.format.specs.Layout.{version1}
 use Rattle.format.specs.Parse.{Parse, got, bad, parse}
 use Rattle.format.specs.Builds.{options, optionSize, isBuild, isBuildOf}
-use Rattle.sheet.specs.declared.state.State.{State}
-use Rattle.sheet.specs.View.{view, pack, zeroState}
-use Rattle.sheet.specs.Answers.{ReadTold, Told, says, VerdictTold, rules}
-use Rattle.sheet.specs.Read.{readSheet}
-use Rattle.sheet.specs.Steps.{stepped, reduced}
-use Rattle.sheet.specs.Solutions.{valuesOf, tested, completeNumber, completedBuffer, verdictOf}
+use Rattle.state.specs.declared.state.State.{State}
+use Rattle.state.specs.View.{view, pack, zeroState}
+use Rattle.answers.specs.Answers.{says, VerdictTold, rules}
+use Rattle.state.specs.Read.{readSheet}
+use Rattle.state.specs.Steps.{stepped, reduced}
+use Rattle.state.specs.Solutions.{valuesOf, tested, completeNumber, completedBuffer, verdictOf}
 
 -- "Each call gets the state that the one before it handed back; a refused call hands back what it was given."
 unfoldable pub handedBack : State → Call → State

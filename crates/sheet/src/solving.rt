@@ -1,25 +1,19 @@
 // The calls that read a state and give or judge builds: the tester, the completer and the verdict. What they look at is lent.
-use crate::answers::Outcome;
-use crate::answers::TestAnswer;
-use crate::answers::Verdict;
-use crate::answers::VerdictAnswer;
-use crate::state::State;
+use answers::Outcome;
+use answers::TestAnswer;
+use answers::Verdict;
+use answers::VerdictAnswer;
+use builds::complete_values;
+use builds::pairs_kept;
+use builds::values_below;
+use builds::values_kept;
 use cause::Cause;
-use parts::complete_values;
-use parts::domains_open;
-use parts::live_count;
-use parts::lowest_build;
-use parts::pairs_kept;
+use cutting::verdict_of;
 use parts::sound_parts;
-use parts::values_below;
-use parts::values_kept;
+use state::State;
 ghost use mathlib.Core.Path.{_≡_};
-ghost use mathlib.Core.Bool.{true};
-ghost use Rattle.bounded.specs.Fold.{first};
-ghost use Rattle.parts.specs.Parts.{Lent};
-ghost use Rattle.sheet.specs.View.{stateOf, soundState};
-ghost use Rattle.sheet.specs.Answers.{testTold, outcomeNumber, verdictTold};
-ghost use Rattle.sheet.specs.Solutions.{tested, completeNumber, completedBuffer, verdictOf};
+ghost use Rattle.answers.specs.Answers.{testTold, outcomeNumber, verdictTold};
+ghost use Rattle.state.specs.Solutions.{tested, completeNumber, completedBuffer, verdictOf};
 
 // The tester: "yes exactly when each value is in its option's list and each stated pair allows its two values". It judges every option as a live one.
 pub fn test(state: State, solution: &[u8]) -> TestAnswer
@@ -78,36 +72,6 @@ pub fn complete(state: State, solution: &mut [u8]) -> Outcome
     }
     complete_values(n, &state.domains, &state.leaders, &state.rows, solution);
     Outcome::Done
-}
-
-// The verdict of the parts of a sound state: "NONE if some live list is empty; else BUILT if exactly one option is live ..; else OPEN".
-pub(crate) fn verdict_of<'a>(
-    n: usize,
-    sizes: &'a [u8; 16],
-    domains: &'a [u16; 16],
-    leaders: &'a [u8; 16],
-    stated: &'a [u16; 16],
-    rows: &'a [u16; 4096],
-) -> VerdictAnswer
-    requires { ⌜ Lent (now sizes) (now domains) (now leaders) (now stated) (now rows) × (soundState (stateOf n (now sizes) (now domains) (now leaders) (now stated) (now rows)) ≡ true) ⌝ }
-    ensures { λ r. ⌜ verdictTold (r .verdict) (r .solution) ≡ verdictOf (stateOf n (now (sizes .entry)) (now (domains .entry)) (now (leaders .entry)) (now (stated .entry)) (now (rows .entry))) ⌝ }
-{
-    if !domains_open(n, leaders, domains) {
-        return VerdictAnswer {
-            verdict: Verdict::None,
-            solution: [0u8; 16],
-        };
-    }
-    if live_count(n, leaders) != 1 {
-        return VerdictAnswer {
-            verdict: Verdict::Open,
-            solution: [0u8; 16],
-        };
-    }
-    VerdictAnswer {
-        verdict: Verdict::Built,
-        solution: lowest_build(n, domains, leaders, rows),
-    }
 }
 
 // The verdict does not reduce first.

@@ -1,8 +1,7 @@
 // Soundness as a call.
-use crate::state::State;
+use state::State;
 ghost use mathlib.Core.Path.{_≡_};
-ghost use Rattle.network.specs.Sound.{sound};
-ghost use Rattle.sheet.specs.View.{soundState};
+ghost use Rattle.state.specs.View.{soundState};
 use parts::sound_parts;
 
 // "A state is sound when": every sentence holds of it.

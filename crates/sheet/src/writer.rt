@@ -1,12 +1,12 @@
 // Writing a sheet.
 ghost use mathlib.Core.Path.{_≡_};
-ghost use Rattle.sheet.specs.Answers.{writeTold};
-ghost use Rattle.sheet.specs.Write.{writeSheet};
-use crate::answers::WriteAnswer;
-use crate::state::State;
+ghost use Rattle.answers.specs.Answers.{writeTold};
+ghost use Rattle.state.specs.Write.{writeSheet};
+use answers::WriteAnswer;
+use builds::fresh_parts;
 use cause::Cause;
-use parts::fresh_parts;
 use parts::sound_parts;
+use state::State;
 
 // Writes the sheet of a state as just read into a lent buffer: "the writer tests 9, 18, 17". A refusal writes nothing.
 pub fn write(state: State, buffer: &mut [u8]) -> WriteAnswer

@@ -1,5 +1,3 @@
-pub mod Judging
-pub mod Searching
 pub mod StepArrays
 pub mod StepRows
 pub mod Stepped

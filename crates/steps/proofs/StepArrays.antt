@@ -2,59 +2,51 @@
 use mathlib.Core.Bool.{Bool, true, false}
 use mathlib.Core.List.{List}
 use mathlib.Core.Path.{_≡_, refl, sym, ap, _∙_}
-use Prim.Native.Nat.{ℕ, suc, _+_, _^_, _≤_, _<_}
+use Prim.Native.Nat.{ℕ, suc, _+_, _^_, _<_}
 use native.Mathlib.Numerals.{add-one}
 use native.Mathlib.Omega.{arith}
 use lib.Dec.{eqb}
 use lib.ListN.{length, getD, set, length-set}
-use lib.Seq.{getD-set-same, getD-set-other}
-use borrow.Author.Tests.{eq-eqb, ne-eqb}
-use Rattle.bounded.specs.Bool.{and, or, not, if}
+use borrow.Author.Tests.{eq-eqb, ne-eqb, eqb-true}
 use Rattle.bounded.specs.Table.{tabulate}
-use Rattle.bounded.proofs.Bool.{by-cases, clash, not-e, not-true→false, and-l, and-r, and-true, and-false, or-l, or-r, or-false-i, if-true, if-false, if-or, and-assoc}
-use Rattle.bounded.proofs.Fold.{below-suc, is-or-not}
-use Rattle.bounded.proofs.Table.{is-table}
+use Rattle.bounded.proofs.Table.{length-tabulate, getD-tabulate, is-table, getD-set}
+use Rattle.bounded.specs.Bool.{and, or, not}
+use Rattle.bounded.proofs.Bool.{by-cases, clash, not-e, not-true→false, and-l, and-r, and-true, and-false, or-l, or-r, if-true, if-false, if-or, and-assoc}
+use Rattle.bounded.proofs.Fold.{is-or-not}
 use Rattle.network.proofs.Pairs.{Moved, Stays, moved}
 use Rattle.words.specs.Word.{has, word}
 use Rattle.words.proofs.Laws.{has-word, word-cong, is-word}
-use Rattle.steps.specs.StepParts.{leaderAfter, thirdOf, statedAfter}
-
--- ---- an array filled from its first entry on
-
-pub record FilledTo (n : ℕ) (f : ℕ → ℕ) (l : List ℕ) (k : ℕ) : Type 0 where
-  pub fill-length : length l ≡ n
-  pub fill-done : (x : ℕ) → x < k → getD l x 0 ≡ f x
-
-pub filled-none : (n : ℕ) (f : ℕ → ℕ) (l : List ℕ) → length l ≡ n → FilledTo n f l 0
-filled-none n f l e = record { fill-length = e; fill-done = λ x m. absurd (let b : ⊥ = omega arith in b) }
-
-pub filled-more : (n : ℕ) (f : ℕ → ℕ) (l : List ℕ) (k v : ℕ) → k < n → FilledTo n f l k → v ≡ f k → FilledTo n f (set l k v) (k + 1)
-filled-more n f l k v m h e =
-    rw (add-one k)
-    (record {
-      fill-length = length-set l k v ∙ h .fill-length;
-      fill-done = λ x b. below-suc k x b
-          (λ q. rw q (getD-set-same l k v 0 (omega (arith, h .fill-length)) ∙ e))
-          (λ q. getD-set-other l k x v 0 (λ r. let b : ⊥ = omega arith in b) ∙ h .fill-done x q);
-    })
-
-pub filled-all : (n : ℕ) (f : ℕ → ℕ) (l : List ℕ) (k : ℕ) → n ≤ k → FilledTo n f l k → l ≡ tabulate n f
-filled-all n f l k m h = is-table n f l 0 (h .fill-length) (λ x b. h .fill-done x (omega arith))
+use Rattle.steps.specs.StepParts.{ledAfter, leaderAfter, thirdOf, statedAfter}
 
 -- ---- leaders
 
-module _ (i j x l : ℕ) where
-  pub j-led : x ≡ j → i + 1 ≡ leaderAfter i j x l
-  unfolding leaderAfter
-  j-led e = add-one i ∙ sym (if-true _ _ _ (or-l _ _ (eq-eqb x j e)))
+module _ (i j l : ℕ) where
+  pub follower-of-j-led : l ≡ j + 1 → i + 1 ≡ ledAfter i j l
+  unfolding ledAfter
+  follower-of-j-led e = add-one i ∙ sym (if-true _ _ _ (eq-eqb l (suc j) (e ∙ add-one j)))
 
-  pub follower-of-j-led : l ≡ j + 1 → i + 1 ≡ leaderAfter i j x l
-  unfolding leaderAfter
-  follower-of-j-led e = add-one i ∙ sym (if-true _ _ _ (or-r _ _ (eq-eqb l (suc j) (e ∙ add-one j))))
+  pub other-led : (l ≡ j + 1 → ⊥) → l ≡ ledAfter i j l
+  unfolding ledAfter
+  other-led e = sym (if-false _ _ _ (ne-eqb l (suc j) (λ q. e (q ∙ sym (add-one j)))))
 
-  pub other-led : (x ≡ j → ⊥) → (l ≡ j + 1 → ⊥) → l ≡ leaderAfter i j x l
+  j-led : (x : ℕ) → x ≡ j → i + 1 ≡ leaderAfter i j x l
   unfolding leaderAfter
-  other-led d e = sym (if-false _ _ _ (or-false-i _ _ (ne-eqb x j d) (ne-eqb l (suc j) (λ q. e (q ∙ sym (add-one j))))))
+  j-led x e = add-one i ∙ sym (if-true _ _ _ (or-l _ _ (eq-eqb x j e)))
+
+  led-same : (x : ℕ) → eqb x j ≡ false → ledAfter i j l ≡ leaderAfter i j x l
+  unfolding ledAfter leaderAfter or
+  led-same x e = rw e
+
+-- The rule for others than j, and then j.
+pub leaders-led : (i j : ℕ) (leaders after : List ℕ) → j < 16 → after ≡ tabulate 16 (λ (x : ℕ). ledAfter i j (getD leaders x 0))
+    → set after j (i + 1) ≡ tabulate 16 (λ (x : ℕ). leaderAfter i j x (getD leaders x 0))
+leaders-led i j leaders after l e =
+    let n : length after ≡ 16 = ap length e ∙ length-tabulate 16 _ in
+    is-table 16 _ _ 0 (length-set after j (i + 1) ∙ n)
+    (λ x m. getD-set after j x (i + 1) 0 (omega arith)
+    ∙ by-cases (eqb x j)
+    (λ t. if-true _ _ _ t ∙ j-led i j _ x (eqb-true x j t))
+    (λ t. if-false _ _ _ t ∙ ap (λ (a : List ℕ). getD a x 0) e ∙ getD-tabulate 16 _ x 0 m ∙ led-same i j _ x t))
 
 -- ---- stated pairs
 

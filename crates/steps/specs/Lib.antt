@@ -1,3 +1,3 @@
--- What the steps read of a state, and what the rules make of its arrays.
+-- What the rules of a step make of the arrays of a state.
 pub mod StepParts
 pub mod Stepped

@@ -1,5 +1,4 @@
--- What judging and searching for a step read of a state: n and four of its arrays. Sizes are not read: a row AND a list is counted over all 16 values,
--- and in a sound state each list lies within its size.
+-- The rules of a step on the arrays of a state: j comes to follow i. They say of one entry what `eliminate` says of it.
 use mathlib.Core.Bool.{Bool, true, false}
 use mathlib.Core.List.{List}
 use mathlib.Core.Path.{_≡_}
@@ -8,44 +7,18 @@ use lib.Dec.{eqb}
 use lib.ListN.{length, getD}
 use Rattle.bounded.specs.Bool.{and, or, not, if}
 use Rattle.words.specs.Word.{has}
-use Rattle.cause.specs.Number.{numberOf}
-use Rattle.network.specs.Network.{Network}
-use Rattle.network.specs.Reduction.{reducible, nextLeader, nextFollower}
 use Rattle.network.proofs.Pairs.{Stays}
-use Rattle.rows.specs.Rows.{rowAt, allowsOf}
+use Rattle.rows.specs.Rows.{rowAt}
 use Rattle.rows.specs.Frames.{Words}
 use Rattle.compose.specs.Compose.{composedAt}
-use Rattle.steps.specs.declared.search.Judgement.{Judgement}
-use Rattle.steps.specs.declared.search.Judgement.the-variants as judgement
-use Rattle.steps.specs.declared.search.Pair.{Pair}
-use Rattle.steps.specs.declared.search.Pair.the-variants as pair
-
--- The network that they hold, every variable taken to have 16 values.
-unfoldable pub sizeless : ℕ → List ℕ → List ℕ → List ℕ → List ℕ → Network
-sizeless n domains leaders stated rows =
-    record {
-      n = n;
-      size = λ (i : ℕ). 16;
-      domain = λ (i a : ℕ). has (getD domains i 0) a;
-      leader = λ (i : ℕ). getD leaders i 0;
-      stated = λ (i j : ℕ). has (getD stated i 0) j;
-      allows = allowsOf 16 rows;
-    }
-
--- The number that refuses a step; 0 for a legal one.
-unfoldable pub judgedNumber : Judgement → ℕ
-judgedNumber judgement.Legal = 0
-judgedNumber (judgement.Refused c) = numberOf c
-
--- "the lowest i that has a legal j, with the lowest such j", or nothing where no step is legal.
-unfoldable pub nextPair : Network → Pair
-nextPair N = if (reducible N) (pair.Found (nextLeader N) (nextFollower N)) pair.Nothing
-
--- The rules on the arrays of a state: j comes to follow i. They say of one entry what `eliminate` says of it.
 
 -- Rule 3, for x, whose leader was l: "Followers of j get i as leader, and so does j."
 unfoldable pub leaderAfter : ℕ → ℕ → ℕ → ℕ → ℕ
 leaderAfter i j x l = if (or (eqb x j) (eqb l (suc j))) (suc i) l
+
+-- The same for another than j.
+unfoldable pub ledAfter : ℕ → ℕ → ℕ → ℕ
+ledAfter i j l = if (eqb l (suc j)) (suc i) l
 
 -- "third option k stated with j", of which `pairs` are those stated with j.
 unfoldable pub thirdOf : ℕ → ℕ → (ℕ → Bool) → ℕ → Bool

@@ -1,21 +1,18 @@
 // The rules of a follow step on the arrays of a state: `j` comes to follow `i`, both counted from 0.
-ghost use mathlib.Core.Bool.{true, false};
+ghost use mathlib.Core.Bool.{false};
 ghost use mathlib.Core.Path.{_≡_};
 ghost use Prim.Native.Nat.{ℕ, _<_};
 ghost use lib.ListN.{length, getD};
 ghost use Rattle.bounded.specs.Table.{tabulate};
 ghost use Rattle.words.specs.Word.{has, word};
-ghost use Rattle.steps.specs.StepParts.{leaderAfter, thirdOf, statedAfter, thirdAt, madeRow, MovedRows};
+ghost use Rattle.steps.specs.StepParts.{ledAfter, leaderAfter, thirdOf, statedAfter, thirdAt, madeRow, MovedRows};
 ghost use Rattle.steps.specs.Stepped.{Stepped};
 
-// Rule 3 for the variable `x`, whose leader was `leader`.
-fn leader_after(leader: u8, i: usize, j: usize, x: usize) -> u8
+// Rule 3 for a variable other than `j`, whose leader was `leader`.
+fn leader_after(leader: u8, i: usize, j: usize) -> u8
     requires { ⌜ (i < 16) × (j < 16) ⌝ }
-    ensures { λ r. ⌜ r ≡ leaderAfter i j x leader ⌝ }
+    ensures { λ r. ⌜ r ≡ ledAfter i j leader ⌝ }
 {
-    if x == j {
-        return (i + 1) as u8;
-    }
     if leader == (j + 1) as u8 {
         return (i + 1) as u8;
     }
@@ -29,8 +26,9 @@ fn leaders_after(leaders: &[u8; 16], i: usize, j: usize) -> [u8; 16]
 {
     let mut after = [0u8; 16];
     for x in 0..16 {
-        after[x] = leader_after(leaders[x], i, j, x);
+        after[x] = leader_after(leaders[x], i, j);
     }
+    after[j] = (i + 1) as u8;
     after
 }
 

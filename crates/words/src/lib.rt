@@ -6,6 +6,13 @@ ghost use Rattle.bounded.specs.Bool.{and, or, implies, not};
 ghost use Rattle.bounded.specs.Fold.{every, count, first};
 ghost use Rattle.words.specs.Word.{has, word};
 
+// A byte as a value.
+pub fn wide(x: u8) -> usize
+    ensures { λ r. ⌜ r ≡ x ⌝ }
+{
+    x as usize
+}
+
 // `v` is a member of `x`.
 pub fn member(x: u16, v: usize) -> bool
     requires { ⌜ v < 16 ⌝ }

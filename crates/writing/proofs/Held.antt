@@ -6,7 +6,7 @@ use Prim.Native.Nat.{ℕ, zero, suc, _+_, _-_, _*_, _/_, _%_, _^_, _≤_, _<_}
 use native.Mathlib.Nat.{add-zero, zero-add, add-suc, mul-one, mul-zero, mul-le-mul}
 use native.Mathlib.Numerals.{add-one}
 use native.Mathlib.Omega.{arith}
-use lib.Dec.{eqb, ltb}
+use lib.Dec.{eqb}
 use lib.Pow.{shr-shr}
 use lib.ListN.{length, getD, length-append}
 use borrow.Author.Tests.{lt-ltb}
@@ -18,7 +18,7 @@ use Rattle.bounded.proofs.Fold.{sum-cong, sum-mul, count-cong, count-le}
 use Rattle.words.specs.Word.{has, word}
 use Rattle.words.proofs.Laws.{word-cong, word-widen, word-mod}
 use Rattle.network.specs.Sound.{Sound}
-use Rattle.network.specs.Sheet.{Table, collect, tableOf, sheetOf}
+use Rattle.network.specs.Sheet.{collect, tableOf, sheetOf}
 use Rattle.network.proofs.SheetOf.{n-sheetOf}
 use Rattle.rows.specs.Rows.{rowAt, allowsOf}
 use Rattle.format.specs.Layout.{version1}

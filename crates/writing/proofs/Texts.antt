@@ -4,10 +4,8 @@ use mathlib.Core.List.{List, [], _∷_, _++_, append-assoc, append-nil}
 use mathlib.Core.Path.{_≡_, refl, sym, _∙_, ap}
 use Prim.Native.Nat.{ℕ, zero, suc, _+_, _-_, _/_, _%_, _≤_, _<_}
 use native.Mathlib.Nat.{add-zero}
-use native.Mathlib.Numerals.{add-one}
 use native.Mathlib.Omega.{arith}
-use lib.ListN.{length, getD, set, take, drop, length-append, length-set, take-append-drop}
-use lib.Seq.{set-split, take-at, drop-at, drop-drop, length-take-le}
+use lib.ListN.{length, getD, drop, length-append}
 use Rattle.bounded.proofs.Bool.{if-true, if-false}
 use Rattle.buffers.proofs.Laws.{wrote-none, wrote-then}
 use Rattle.words.specs.Word.{has}

@@ -1,8 +1,7 @@
 -- The parts of a sheet's bytes, each as the code writes it: what the contracts inside the crate say.
 use mathlib.Core.List.{List, [], _∷_, _++_}
-use mathlib.Core.Path.{_≡_}
-use Prim.Native.Nat.{ℕ, suc, _+_, _-_, _*_, _≤_}
-use lib.ListN.{length, getD, take, drop}
+use Prim.Native.Nat.{ℕ, suc, _+_, _-_, _*_}
+use lib.ListN.{length, getD}
 use Rattle.bounded.specs.Bool.{if}
 use Rattle.bounded.specs.Fold.{sum, count}
 use Rattle.words.specs.Word.{has}

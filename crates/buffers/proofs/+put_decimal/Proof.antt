@@ -4,7 +4,6 @@ use native.Mathlib.Omega.{arith}
 use borrow.Author.Needs.{needs}
 use borrow.Fn.Kinds.{In}
 use borrow.Fn.PlainCycle.{Measures, is, falls, and}
-use Rattle.buffers.specs.Digits.{decimal}
 use Rattle.buffers.proofs.Laws.{wrote-then}
 use Rattle.buffers.proofs.Digits.{decimal-one, decimal-more, length-decimal-one, length-decimal-more}
 use Rattle.buffers.proofs.put_decimal.Reads as reads

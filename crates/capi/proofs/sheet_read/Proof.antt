@@ -1,15 +1,16 @@
+use Rattle.cutting.specs.Parts.{readPartsTold}
 use Rattle.capi.proofs.Laws.{read-out}
 use borrow.Author.Needs.{needs}
 use Rattle.capi.proofs.sheet_read.Statement.{statement}
 use Rattle.capi.proofs.sheet_read.Tie as tie
 use Rattle.capi.proofs.sheet_read.Reads as reads
 use Rattle.capi.proofs.sheet_read.Lts as lts
-use Rattle.capi.proofs.read_number.Reads as read-number-reads
-use Rattle.capi.proofs.read_place.Reads as read-place-reads
-use Rattle.sheet.proofs.read.Reads as read-reads
+use Rattle.answers.proofs.read_number.Reads as read-number-reads
+use Rattle.answers.proofs.read_place.Reads as read-place-reads
+use Rattle.cutting.proofs.read_parts.Reads as read-parts-reads
 
-read-requires : tie.Need-read-requires
-read-requires c κs = search needs
+read-parts-requires : tie.Need-read-parts-requires
+read-parts-requires c κs = search needs
 
 read-number-requires : tie.Need-read-number-requires
 read-number-requires c κs = search needs
@@ -18,8 +19,11 @@ read-place-requires : tie.Need-read-place-requires
 read-place-requires c κs = search needs
 
 returns : tie.Need-returns
-returns c = read-out _ _ _ _ (c .before .before .before .read .ensures) (c .before .read-number .ensures) (c .read-place .ensures)
+unfolding readPartsTold
+returns c =
+    read-out (readPartsTold (c .before .before .before .before .before .read-parts .result) _) _ _ _
+    (c .before .before .before .before .before .read-parts .ensures) (c .before .read-number .ensures) (c .read-place .ensures)
 
 pub sheet-read-spec : {M : Type 1} → statement M
 sheet-read-spec =
-    tie.close (tie.spec read-requires read-number-requires read-place-requires returns)
+    tie.close (tie.spec read-parts-requires read-number-requires read-place-requires returns)

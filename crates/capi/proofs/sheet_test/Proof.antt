@@ -4,8 +4,8 @@ use Rattle.capi.proofs.sheet_test.Statement.{statement}
 use Rattle.capi.proofs.sheet_test.Tie as tie
 use Rattle.capi.proofs.sheet_test.Reads as reads
 use Rattle.capi.proofs.sheet_test.Lts as lts
-use Rattle.capi.proofs.test_agrees.Reads as test-agrees-reads
-use Rattle.capi.proofs.test_number.Reads as test-number-reads
+use Rattle.answers.proofs.test_agrees.Reads as test-agrees-reads
+use Rattle.answers.proofs.test_number.Reads as test-number-reads
 use Rattle.sheet.proofs.test.Reads as test-reads
 
 test-requires : tie.Need-test-requires

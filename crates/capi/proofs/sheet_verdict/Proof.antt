@@ -4,8 +4,8 @@ use Rattle.capi.proofs.sheet_verdict.Statement.{statement}
 use Rattle.capi.proofs.sheet_verdict.Tie as tie
 use Rattle.capi.proofs.sheet_verdict.Reads as reads
 use Rattle.capi.proofs.sheet_verdict.Lts as lts
-use Rattle.capi.proofs.verdict_kind.Reads as verdict-kind-reads
-use Rattle.capi.proofs.verdict_number.Reads as verdict-number-reads
+use Rattle.answers.proofs.verdict_kind.Reads as verdict-kind-reads
+use Rattle.answers.proofs.verdict_number.Reads as verdict-number-reads
 use Rattle.sheet.proofs.verdict.Reads as verdict-reads
 
 verdict-requires : tie.Need-verdict-requires

@@ -4,8 +4,8 @@ use Rattle.capi.proofs.sheet_write.Statement.{statement}
 use Rattle.capi.proofs.sheet_write.Tie as tie
 use Rattle.capi.proofs.sheet_write.Reads as reads
 use Rattle.capi.proofs.sheet_write.Lts as lts
-use Rattle.capi.proofs.write_length.Reads as write-length-reads
-use Rattle.capi.proofs.write_number.Reads as write-number-reads
+use Rattle.answers.proofs.write_length.Reads as write-length-reads
+use Rattle.answers.proofs.write_number.Reads as write-number-reads
 use Rattle.sheet.proofs.write.Reads as write-reads
 
 write-requires : tie.Need-write-requires

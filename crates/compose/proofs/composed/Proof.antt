@@ -1,49 +1,58 @@
--- One law for each way out: the value is outside the list of `k`, the pair was not stated, or it was.
-use mathlib.Core.Path.{sym, _∙_}
+-- The parts of the word, each by its call: `composed-is`.
+use Rattle.compose.proofs.Composition.{chosen-fits, composed-is}
 use borrow.Author.Needs.{needs}
-use borrow.Author.Tests.{not-true, not-false}
-use Rattle.compose.proofs.Composition.{composed-outside, composed-new, composed-old}
 use Rattle.compose.proofs.composed.Statement.{statement}
 use Rattle.compose.proofs.composed.Tie as tie
-
-member-requires : tie.Need-member-requires
-member-requires c κs = search needs
-
-returns : tie.Need-returns
-returns c = composed-outside 16 _ _ _ _ _ _ _ _ _ (sym (c .before .member .ensures) ∙ not-true _ (c .if1 .taken))
-
-reach-requires : tie.Need-reach-requires
-reach-requires c κs = search needs
+use Rattle.compose.proofs.composed.Reads as reads
+use Rattle.compose.proofs.composed.Lts as lts
+use Rattle.compose.proofs.unbarred.Reads as unbarred-reads
+use Rattle.rows.proofs.row.Reads as row-reads
+use Rattle.words.proofs.both.Reads as both-reads
+use Rattle.words.proofs.either.Reads as either-reads
 
 both-requires : tie.Need-both-requires
 both-requires c κs = search needs
 
-returns-2 : tie.Need-returns-2
-returns-2 c = composed-new 16 _ _ _ _ _ _ _ _ _ _ _ (not-true _ (c .if2 .taken))
-    (sym (c .before .before .before .before .member .ensures) ∙ not-false _ (c .before .before .before .if1 .left))
-    (c .before .before .reach .ensures) (c .before .both .ensures)
-
 row-requires : tie.Need-row-requires
 row-requires c κs = search needs
+
+unbarred-requires : tie.Need-unbarred-requires
+unbarred-requires c κs = search needs
+
+either-requires : tie.Need-either-requires
+either-requires c κs = search needs
 
 both-requires-2 : tie.Need-both-requires-2
 both-requires-2 c κs = search needs
 
-returns-3 : tie.Need-returns-3
-returns-3 c = composed-old 16 _ _ _ _ _ _ _ _ _ _ _ _ _ (not-false _ (c .before .before .if2 .left))
-    (sym (c .before .before .before .before .before .before .member .ensures) ∙ not-false _ (c .before .before .before .before .before .if1 .left))
-    (c .before .before .before .before .reach .ensures) (c .before .before .before .both .ensures)
-    (c .before .row .ensures) (c .both2 .ensures)
+cast-result : tie.Need-cast-result
+cast-result c = search needs
+
+shr-result : tie.Need-shr-result
+shr-result c = search needs
+
+mul-result : tie.Need-mul-result
+mul-result c = search (chosen-fits, needs)
+
+returns : tie.Need-returns
+returns c =
+    let e = c .before in
+    let u = e .before in
+    let r = u .before in
+    let b = r .before in
+    composed-is 16 _ _ _ _ _ _ _ _ _ _ _ _ _ _ _ (b .before .pre .3) (b .both .ensures) (r .row .ensures) (u .unbarred .ensures)
+    (e .either .ensures) (c .both2 .ensures)
 
 pub composed-spec : {M : Type 1} → statement M
 composed-spec =
     tie.close
     (tie.spec
-    member-requires
-    returns
-    reach-requires
     both-requires
-    returns-2
     row-requires
+    unbarred-requires
+    either-requires
     both-requires-2
-    returns-3)
+    cast-result
+    shr-result
+    mul-result
+    returns)

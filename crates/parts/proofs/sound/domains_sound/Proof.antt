@@ -6,7 +6,7 @@ use Rattle.rows.proofs.Loops.{test-joins}
 use lib.ListN.{getD}
 use Rattle.parts.specs.Parts.{within, domainsFit}
 use Rattle.parts.proofs.Tests.{within-same}
-use mathlib.Core.Path.{_≡_, refl, ap, _∙_}
+use mathlib.Core.Path.{_≡_, refl}
 use native.Mathlib.Omega.{arith}
 use borrow.Author.Needs.{needs}
 use Rattle.parts.proofs.sound.domains_sound.Statement.{statement}

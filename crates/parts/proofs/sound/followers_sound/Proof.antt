@@ -2,7 +2,7 @@
 use native.Mathlib.Omega.{arith}
 use borrow.Author.Needs.{needs}
 use mathlib.Core.Path.{_≡_, refl}
-use Prim.Native.Nat.{ℕ, _-_, _≤_}
+use Prim.Native.Nat.{_-_, _≤_}
 use Rattle.bounded.specs.Fold.{every}
 use Rattle.rows.proofs.Loops.{test-joins}
 use Rattle.parts.specs.Parts.{freeOrFits, followersFit}

@@ -3,7 +3,7 @@ use mathlib.Core.Path.{sym, _∙_}
 use borrow.Author.Needs.{needs}
 use borrow.Author.Tests.{not-true, not-false}
 use Rattle.parts.specs.Parts.{rowsFit}
-use Rattle.parts.proofs.Tests.{and-fails, and-holds}
+use Rattle.bounded.proofs.Bool.{and-fails, and-holds}
 use Rattle.parts.proofs.sound.rows_sound.Statement.{statement}
 use Rattle.parts.proofs.sound.rows_sound.Tie as tie
 

@@ -2,7 +2,7 @@
 use mathlib.Core.Path.{sym, _∙_}
 use borrow.Author.Tests.{le-leb, lt-leb, not-true, not-false}
 use Rattle.parts.specs.Parts.{partsFit}
-use Rattle.parts.proofs.Tests.{and-fails, and-holds}
+use Rattle.bounded.proofs.Bool.{and-fails, and-holds}
 use Rattle.parts.proofs.Parts.{size-le, parts-sound}
 use native.Mathlib.Omega.{arith}
 use borrow.Author.Needs.{needs}

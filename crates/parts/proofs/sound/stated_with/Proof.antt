@@ -1,5 +1,5 @@
 -- The loop's invariant: the members are those of the first `j` words that have `i`. A turn moves one more digit: `digit-joins`.
-use mathlib.Core.Path.{_≡_, refl, sym}
+use mathlib.Core.Path.{_≡_, sym}
 use Prim.Native.Nat.{ℕ, _-_, _≤_}
 use lib.Pow.{pow-mono}
 use lib.ListN.{getD}

@@ -1,7 +1,7 @@
 -- Field after field: each answer is refused with its own cause and place, or leaves less to parse.
 use denote.Ref.{now}
 use borrow.Author.Needs.{needs}
-use Rattle.reading.proofs.Fields.{read-got, read-bad}
+use Rattle.fields.proofs.Fields.{read-got, read-bad}
 use Rattle.reading.proofs.Reading.{Counted, Listed, Constrained, Tabled, counted, listed, constrained, tabled-all}
 use Rattle.reading.proofs.Reading.{no-count, no-sizes, no-constraints, no-tables, left-over, body-read, pairs-fit}
 use Rattle.reading.proofs.read.read_body.Statement.{statement}

@@ -2,7 +2,7 @@
 use Prim.Native.Nat.{_-_}
 use native.Mathlib.Omega.{arith}
 use borrow.Author.Needs.{needs}
-use Rattle.reading.proofs.Fields.{read-got, read-bad}
+use Rattle.fields.proofs.Fields.{read-got, read-bad}
 use Rattle.reading.proofs.SizesLoop.{SizesSoFar, size-fits, sizes-none, sizes-more, sizes-end, sizes-refused}
 use Rattle.reading.proofs.sizes.read_sizes.Statement.{statement}
 use Rattle.reading.proofs.sizes.read_sizes.Tie as tie

@@ -1,11 +1,11 @@
--- The pair first, then its rows; then the other side is made and the pair stated.
+-- The pair first, then its rows on both sides; then the pair is stated.
 use mathlib.Core.Path.{_≡_}
 use native.Mathlib.Omega.{arith}
 use denote.Ref.{now}
 use borrow.Author.Needs.{needs}
 use Rattle.format.specs.Layout.{pairTest}
 use Rattle.format.specs.Parse.{got, field}
-use Rattle.reading.proofs.Fields.{read-got, read-bad}
+use Rattle.fields.proofs.Fields.{read-got, read-bad}
 use Rattle.reading.proofs.TablesLoop.{PairIn, pair-in, table-no-pair, table-no-rows, table-read}
 use Rattle.reading.proofs.tables.read_table.Statement.{statement}
 use Rattle.reading.proofs.tables.read_table.Tie as tie
@@ -44,20 +44,20 @@ sub-i c = omega (arith, pair-known c)
 sub-j : tie.Need-sub-j
 sub-j c = omega (arith, pair-known c)
 
-element-copy-out-read-rows : tie.Need-element-copy-out-read-rows
-element-copy-out-read-rows c = omega (arith, pair-known c)
+element-copy-out-read-sides : tie.Need-element-copy-out-read-sides
+element-copy-out-read-sides c = omega (arith, pair-known c)
 
-cast-read-rows : tie.Need-cast-read-rows
-cast-read-rows c = omega (arith, pair-known (c .before))
+cast-read-sides : tie.Need-cast-read-sides
+cast-read-sides c = omega (arith, pair-known (c .before))
 
-element-copy-out-read-rows-2 : tie.Need-element-copy-out-read-rows-2
-element-copy-out-read-rows-2 c = omega (arith, pair-known (c .before))
+element-copy-out-read-sides-2 : tie.Need-element-copy-out-read-sides-2
+element-copy-out-read-sides-2 c = omega (arith, pair-known (c .before))
 
-cast-read-rows-2 : tie.Need-cast-read-rows-2
-cast-read-rows-2 c = omega (arith, pair-known (c .before .before))
+cast-read-sides-2 : tie.Need-cast-read-sides-2
+cast-read-sides-2 c = omega (arith, pair-known (c .before .before))
 
-read-rows-requires : tie.Need-read-rows-requires
-read-rows-requires c κs = omega (arith, pair-known (c .before .before .before))
+read-sides-requires : tie.Need-read-sides-requires
+read-sides-requires c κs = omega (arith, pair-known (c .before .before .before))
 
 enum-known-body : tie.Need-enum-known-body
 enum-known-body c = search needs
@@ -71,31 +71,21 @@ returns-2 c =
     let pair = body .before .before .before .before in
     rw (c .enum-told2 .given .1)
     (table-no-rows _ _ (pair .before .before .before .before .before .pre .3) (omega arith) _ _ _ _ _ (pair-read pair)
-    _ _ _ (body .read-rows .ensures) _ _ (c .enum-told2 .given .1) _)
-
-mirror-requires : tie.Need-mirror-requires
-mirror-requires c κs =
-    let body = c .before .before .before .before in
-    omega (
-      arith,
-      pair-known (body .before .before .before .before),
-      body .read-rows .ensures .stored _ _ (c .before .before .body .given .1) .filled .size,
-    )
+    _ _ _ (body .read-sides .ensures) _ _ (c .enum-told2 .given .1) _)
 
 mark-requires : tie.Need-mark-requires
-mark-requires c κs = omega (arith, pair-known (c .before .before .before .before .before .before .before .before .before .before))
+mark-requires c κs = omega (arith, pair-known (c .before .before .before .before .before .before .before .before))
 
 mark-requires-2 : tie.Need-mark-requires-2
-mark-requires-2 c κs = omega (arith, pair-known (c .before .before .before .before .before .before .before .before .before .before .before .before))
+mark-requires-2 c κs = omega (arith, pair-known (c .before .before .before .before .before .before .before .before .before .before))
 
 returns-3 : tie.Need-returns-3
 returns-3 c =
-    let mirrored = c .before .before .before .before in
-    let body = mirrored .before .before .before .before .before in
+    let told = c .before .before .before .before in
+    let body = told .before .before .before in
     let pair = body .before .before .before .before in
     table-read _ _ (pair .before .before .before .before .before .pre .3) (omega arith) _ _ _ _ _ (pair-read pair)
-    _ _ _ (body .read-rows .ensures) _ _ (mirrored .before .before .before .body .given .1)
-    _ (mirrored .mirror .ensures) _ _ _ (c .before .before .mark .ensures) (c .mark2 .ensures)
+    _ _ _ (body .read-sides .ensures) _ _ (told .before .body .given .1) _ _ _ (c .before .before .mark .ensures) (c .mark2 .ensures)
 
 pub read-table-spec : {M : Type 1} → statement M
 read-table-spec =
@@ -107,15 +97,14 @@ read-table-spec =
     returns
     sub-i
     sub-j
-    element-copy-out-read-rows
-    cast-read-rows
-    element-copy-out-read-rows-2
-    cast-read-rows-2
-    read-rows-requires
+    element-copy-out-read-sides
+    cast-read-sides
+    element-copy-out-read-sides-2
+    cast-read-sides-2
+    read-sides-requires
     enum-known-body
     enum-told-2
     returns-2
-    mirror-requires
     mark-requires
     mark-requires-2
     returns-3)

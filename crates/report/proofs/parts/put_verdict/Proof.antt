@@ -2,7 +2,7 @@
 use borrow.Author.Needs.{needs}
 use native.Mathlib.Omega.{arith}
 use Rattle.buffers.proofs.Laws.{wrote-none}
-use Rattle.sheet.specs.Answers.{verdictTold}
+use Rattle.answers.specs.Answers.{verdictTold}
 use Rattle.report.specs.Text.{ascii, ruledText, verdictText}
 use Rattle.report.specs.Parts.{builtText}
 use Rattle.report.proofs.parts.put_verdict.Statement.{statement}

@@ -1,5 +1,6 @@
--- The answer of `cut` can be printed, whatever the bytes are.
+-- What `cut_parts` gives can be printed, whatever the bytes are.
 use native.Mathlib.Omega.{arith}
+use mathlib.Core.Path.{sym}
 use lib.ListN.{getD}
 use mir.Syntax.{w8}
 use mir.Val.{Fits}
@@ -11,20 +12,20 @@ use Rattle.report.proofs.text.report.Tie as tie
 use Rattle.report.proofs.text.report.Reads as reads
 use Rattle.report.proofs.text.report.Lts as lts
 use Rattle.report.proofs.text.written.Reads as written-reads
-use Rattle.sheet.proofs.cut.Reads as cut-reads
+use Rattle.cutting.proofs.cut_parts.Reads as cut-parts-reads
 
-cut-requires : tie.Need-cut-requires
-cut-requires c κs = search needs
+cut-parts-requires : tie.Need-cut-parts-requires
+cut-parts-requires c κs = search needs
 
 written-requires : tie.Need-written-requires
 written-requires c κs =
-    printable-answer _ (λ k. omega (arith, c .before .shared-slice-known .given k)) (c .cut .result) (c .cut .ensures)
-    (λ k. let f : Fits w8 (getD (c .cut .result .state .leaders) k 0) = search needs in f .fits)
-    (λ k. let f : Fits w8 (getD (c .cut .result .solution) k 0) = search needs in f .fits)
+    printable-answer _ (λ k. omega (arith, c .before .before .shared-slice-known .given k)) (c .cut-parts .result) _ (c .cut-parts .ensures)
+    (λ k. let f : Fits w8 (getD (c .cut-parts .result .leaders) k 0) = search needs in f .fits)
+    (λ k. let f : Fits w8 (getD (c .cut-parts .result .solution) k 0) = search needs in f .fits)
 
 returns : tie.Need-returns
 unfolding textOf
-returns c = rw (c .before .cut .ensures) at (c .written .ensures)
+returns c = rw (sym (c .before .cut-parts .ensures)) (c .written .ensures _)
 
 pub report-spec : {M : Type 1} → statement M
-report-spec = tie.close (tie.spec cut-requires written-requires returns)
+report-spec = tie.close (tie.spec cut-parts-requires written-requires returns)

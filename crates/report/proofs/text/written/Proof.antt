@@ -1,7 +1,8 @@
 -- The text fits (`text-fits`), and is written at the start of zeros (`printed`).
+use mathlib.Core.List.{[]}
 use borrow.Author.Needs.{needs}
 use native.Mathlib.Omega.{arith}
-use Rattle.sheet.specs.Cut.{cutTold}
+use Rattle.cutting.specs.Parts.{cutPartsTold}
 use Rattle.report.proofs.Fits.{text-fits, printed}
 use Rattle.report.proofs.Answer.{accepted-text, refused-text}
 use Rattle.report.proofs.text.written.Statement.{statement}
@@ -16,40 +17,40 @@ enum-told-2 c = search needs
 slice-aggregate-put-refusal : tie.Need-slice-aggregate-put-refusal
 slice-aggregate-put-refusal c = search needs
 
-number-of-requires : tie.Need-number-of-requires
-number-of-requires c κs = search needs
+read-number-requires : tie.Need-read-number-requires
+read-number-requires c κs = search needs
 
-place-of-requires : tie.Need-place-of-requires
-place-of-requires c κs = search needs
+read-place-requires : tie.Need-read-place-requires
+read-place-requires c κs = search needs
 
 put-refusal-requires : tie.Need-put-refusal-requires
 put-refusal-requires c κs =
     let t = c .before .before .before in
     let s = t .before .before in
-    omega (arith, rw (refused-text (s .args .answer) (t .enum-told2 .given .1) (c .before .number-of .ensures) (c .place-of .ensures)) at (text-fits _ (s .pre)))
+    omega (arith, rw (refused-text (s .args .cut) _ (t .enum-told2 .given .1) (c .before .read-number .ensures) (c .read-place .ensures)) at (text-fits _ (s .pre [])))
 
 returns : tie.Need-returns
-returns c =
+returns c = λ rows.
     let p = c .before .before in
     let t = p .before .before .before in
     let s = t .before .before in
-    rw (refused-text (s .args .answer) (t .enum-told2 .given .1) (p .before .number-of .ensures) (p .place-of .ensures)) (printed 512 (c .before .put-refusal .ensures))
+    rw (refused-text (s .args .cut) _ (t .enum-told2 .given .1) (p .before .read-number .ensures) (p .read-place .ensures)) (printed 512 (c .before .put-refusal .ensures))
 
 slice-aggregate-put-cut : tie.Need-slice-aggregate-put-cut
 slice-aggregate-put-cut c = search needs
 
 put-cut-requires : tie.Need-put-cut-requires
-unfolding cutTold
+unfolding cutPartsTold
 put-cut-requires c κs =
     let t = c .before .before .before .before .before .before .before in
     let s = t .before .before in
-    (s .pre .options-le, omega (arith, rw (accepted-text (s .args .answer) (t .enum-told .given .1)) at (text-fits _ (s .pre))))
+    (s .pre [] .options-le, omega (arith, rw (accepted-text (s .args .cut) _ (t .enum-told .given .1)) at (text-fits _ (s .pre []))))
 
 returns-2 : tie.Need-returns-2
-returns-2 c =
+returns-2 c = λ rows.
     let t = c .before .before .before .before .before .before .before .before .before in
     let s = t .before .before in
-    rw (accepted-text (s .args .answer) (t .enum-told .given .1)) (printed 512 (c .before .put-cut .ensures))
+    rw (accepted-text (s .args .cut) _ (t .enum-told .given .1)) (printed 512 (c .before .put-cut .ensures))
 
 pub written-spec : {M : Type 1} → statement M
 written-spec =
@@ -58,8 +59,8 @@ written-spec =
     enum-told
     enum-told-2
     slice-aggregate-put-refusal
-    number-of-requires
-    place-of-requires
+    read-number-requires
+    read-place-requires
     put-refusal-requires
     returns
     slice-aggregate-put-cut

@@ -1,7 +1,7 @@
 -- The word is four rows side by side that are all the same: `has-four`.
 use mathlib.Core.Path.{refl}
 use Prim.Native.Nat.{ℕ}
-use Rattle.rows.proofs.Digits.{has-four}
+use Rattle.blocks.proofs.Digits.{has-four}
 use Rattle.rows.proofs.strays.repeated.Statement.{statement}
 use Rattle.rows.proofs.strays.repeated.Tie as tie
 

@@ -7,12 +7,12 @@ use native.Mathlib.Omega.{arith}
 use lib.ListN.{length}
 use borrow.Author.Needs.{needs}
 use borrow.Author.Tests.{not-true, not-false}
-use Rattle.sheet.specs.View.{soundState}
-use Rattle.sheet.specs.Answers.{outcomeNumber}
-use Rattle.parts.specs.Choices.{valuesKept, pairsKept}
-use Rattle.sheet.specs.declared.state.State.{State}
-use Rattle.sheet.proofs.View.{Shaped, shape, shaped-lent, sound-told, n-most}
-use Rattle.sheet.proofs.Builds.{complete-9, complete-14, complete-15, complete-16, complete-led, complete-done}
+use Rattle.state.specs.View.{soundState}
+use Rattle.answers.specs.Answers.{outcomeNumber}
+use Rattle.builds.specs.Choices.{valuesKept, pairsKept}
+use Rattle.state.specs.declared.state.State.{State}
+use Rattle.state.proofs.View.{Shaped, shape, shaped-lent, sound-told, n-most}
+use Rattle.cutting.proofs.Builds.{complete-9, complete-14, complete-15, complete-16, complete-led, complete-done}
 use Rattle.sheet.proofs.solving.complete.Statement.{statement}
 use Rattle.sheet.proofs.solving.complete.Tie as tie
 

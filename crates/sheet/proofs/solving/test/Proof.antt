@@ -6,13 +6,13 @@ use Prim.Native.Nat.{ℕ}
 use native.Mathlib.Omega.{arith}
 use lib.ListN.{length, replicate}
 use borrow.Author.Tests.{not-true, not-false}
-use Rattle.sheet.specs.View.{soundState}
-use Rattle.sheet.specs.Answers.{testTold, says}
-use Rattle.sheet.specs.Solutions.{tested}
-use Rattle.parts.specs.Choices.{valuesKept, pairsKept}
-use Rattle.sheet.specs.declared.state.State.{State}
-use Rattle.sheet.proofs.View.{Shaped, shape, shaped-lent, sound-told, n-most}
-use Rattle.sheet.proofs.Builds.{tested-9, tested-14, tested-15, tested-outside, tested-pairs, all-live}
+use Rattle.state.specs.View.{soundState}
+use Rattle.answers.specs.Answers.{testTold, says}
+use Rattle.state.specs.Solutions.{tested}
+use Rattle.builds.specs.Choices.{valuesKept, pairsKept}
+use Rattle.state.specs.declared.state.State.{State}
+use Rattle.state.proofs.View.{Shaped, shape, shaped-lent, sound-told, n-most}
+use Rattle.cutting.proofs.Builds.{tested-9, tested-14, tested-15, tested-outside, tested-pairs, all-live}
 use Rattle.sheet.proofs.solving.test.Statement.{statement}
 use Rattle.sheet.proofs.solving.test.Tie as tie
 

@@ -1,9 +1,9 @@
 -- Of a state that is not sound there is no verdict; of a sound one it is that of `verdict_of`.
 use mathlib.Core.Path.{sym, _∙_}
 use borrow.Author.Tests.{not-true, not-false}
-use Rattle.sheet.specs.Answers.{verdictTold}
-use Rattle.sheet.proofs.View.{Shaped, shape, shaped-lent, sound-told}
-use Rattle.sheet.proofs.Verdicts.{verdict-9}
+use Rattle.answers.specs.Answers.{verdictTold}
+use Rattle.state.proofs.View.{Shaped, shape, shaped-lent, sound-told}
+use Rattle.state.proofs.Solutions.{verdict-refused}
 use Rattle.sheet.proofs.solving.verdict.Statement.{statement}
 use Rattle.sheet.proofs.solving.verdict.Tie as tie
 
@@ -15,7 +15,7 @@ sound-parts-requires c κs = shaped-lent _ (shaped (c .before .before .before .b
 
 returns : tie.Need-returns
 unfolding verdictTold
-returns c = verdict-9 _ (sym (sound-told _ _ (c .before .sound-parts .ensures)) ∙ not-true _ (c .if1 .taken))
+returns c = sym (verdict-refused _ (sym (sound-told _ _ (c .before .sound-parts .ensures)) ∙ not-true _ (c .if1 .taken)))
 
 verdict-of-requires : tie.Need-verdict-of-requires
 verdict-of-requires c κs =

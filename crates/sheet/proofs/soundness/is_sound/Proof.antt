@@ -1,7 +1,7 @@
 -- The parts of a state are its arrays, which have their types' lengths and ranges.
-use Rattle.parts.specs.Parts.{partsView, Lent}
-use Rattle.sheet.specs.View.{view, soundState}
-use Rattle.sheet.proofs.View.{shape}
+use Rattle.parts.specs.Parts.{partsView}
+use Rattle.state.specs.View.{view, soundState}
+use Rattle.state.proofs.View.{shape}
 use Rattle.sheet.proofs.soundness.is_sound.Statement.{statement}
 use Rattle.sheet.proofs.soundness.is_sound.Tie as tie
 

@@ -8,10 +8,10 @@ use borrow.Author.Needs.{needs}
 use borrow.Author.Tests.{not-true, not-false}
 use Rattle.network.specs.Sheet.{fresh}
 use Rattle.format.specs.Writing.{bytesHeld}
-use Rattle.sheet.specs.View.{view, soundState}
-use Rattle.sheet.specs.declared.state.State.{State}
-use Rattle.sheet.proofs.View.{Shaped, shape, shaped-lent, sound-told, n-most}
-use Rattle.sheet.proofs.RoundTrip.{write-unsound, write-not-fresh, write-no-room}
+use Rattle.state.specs.View.{view, soundState}
+use Rattle.state.specs.declared.state.State.{State}
+use Rattle.state.proofs.View.{Shaped, shape, shaped-lent, sound-told, n-most}
+use Rattle.cutting.proofs.RoundTrip.{write-unsound, write-not-fresh, write-no-room}
 use Rattle.sheet.proofs.Written.{bytes-held, fresh-told, held-sound, sizes-most, stated-below, refused-told, written-told}
 use Rattle.sheet.proofs.writer.write.Statement.{statement}
 use Rattle.sheet.proofs.writer.write.Tie as tie

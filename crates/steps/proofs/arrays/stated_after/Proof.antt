@@ -1,17 +1,16 @@
 -- The loop's invariant: the first `x` entries are what the rule says.
-use mathlib.Core.Path.{_≡_}
 use Prim.Native.Nat.{ℕ, _-_, _≤_}
 use native.Mathlib.Omega.{arith}
 use lib.ListN.{getD}
 use borrow.Author.Needs.{needs}
 use Rattle.words.specs.Word.{has, word}
 use Rattle.steps.specs.StepParts.{statedAfter}
-use Rattle.steps.proofs.StepArrays.{FilledTo, filled-none, filled-more, filled-all}
+use Rattle.bounded.proofs.Fill.{Filled, filled-none, filled-more, filled-end}
 use Rattle.steps.proofs.arrays.stated_after.Statement.{statement}
 use Rattle.steps.proofs.arrays.stated_after.Tie as tie
 
 abbrev Inv-loop : tie.InvT-loop
-Inv-loop stated thirds i j after₀ x₀ after x = (x ≤ 16) × FilledTo 16 (λ (v : ℕ). word 16 (statedAfter i j (has thirds) v (has (getD stated v 0)))) after x
+Inv-loop stated thirds i j after₀ x₀ after x = (x ≤ 16) × Filled 16 (λ (v : ℕ). word 16 (statedAfter i j (has thirds) v (has (getD stated v 0)))) after x
 
 abbrev μ-loop : tie.MeasureT-loop
 μ-loop stated thirds i j after₀ x₀ after x = 16 - x
@@ -41,10 +40,10 @@ loop-less : tie.Need-loop-less Inv-loop μ-loop
 loop-less c = search needs
 
 loop-again : tie.Need-loop-again Inv-loop μ-loop
-loop-again c = (omega arith, filled-more 16 _ _ _ _ (c .before .before .loop-test .taken) (c .before .before .before .loop .inv .1) (c .pairs-after .ensures))
+loop-again c = (omega arith, filled-more 16 _ _ _ _ (c .before .before .before .loop .inv .1) (c .before .before .loop-test .taken) (c .pairs-after .ensures))
 
 returns : tie.Need-returns Inv-loop μ-loop
-returns c = filled-all 16 _ _ _ (c .loop-test .left) (c .before .loop .inv .1)
+returns c = filled-end 16 _ _ _ (c .before .loop .inv .1) (c .loop-test .left)
 
 pub stated-after-spec : {M : Type 1} → statement M
 stated-after-spec =

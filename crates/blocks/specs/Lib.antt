@@ -1,0 +1,2 @@
+-- Rows four at a time and sixteen at a time.
+pub mod Blocks

@@ -1,0 +1,59 @@
+-- The loop's invariant: the first `i` values are the lowest, and the others 0. A turn stores one more.
+use native.Mathlib.Omega.{arith}
+use borrow.Author.Needs.{needs}
+use mathlib.Core.Path.{_≡_}
+use Prim.Native.Nat.{_-_, _≤_}
+use Rattle.bounded.specs.Table.{tabulate}
+use Rattle.builds.specs.Choices.{lowestOf}
+use Rattle.builds.proofs.Choices.{lowest-none, lowest-more}
+use Rattle.builds.proofs.values.lowest_values.Statement.{statement}
+use Rattle.builds.proofs.values.lowest_values.Tie as tie
+
+abbrev Inv-loop : tie.InvT-loop
+Inv-loop n domains values₀ i₀ values i = (i ≤ n) × (values ≡ tabulate 16 (lowestOf i domains))
+
+abbrev μ-loop : tie.MeasureT-loop
+μ-loop n domains values₀ i₀ values i = n - i
+
+loop-holds : tie.Need-loop-holds Inv-loop μ-loop
+loop-holds c = (omega arith, lowest-none _)
+
+mul-lowest-value : tie.Need-mul-lowest-value Inv-loop μ-loop
+mul-lowest-value c = search needs
+
+element-copy-out-lowest-value : tie.Need-element-copy-out-lowest-value Inv-loop μ-loop
+element-copy-out-lowest-value c = search needs
+
+lowest-value-requires : tie.Need-lowest-value-requires Inv-loop μ-loop
+lowest-value-requires c κs = search needs
+
+array-write-values : tie.Need-array-write-values Inv-loop μ-loop
+array-write-values c = search needs
+
+add-i : tie.Need-add-i Inv-loop μ-loop
+add-i c = search needs
+
+loop-less : tie.Need-loop-less Inv-loop μ-loop
+loop-less c = search needs
+
+loop-again : tie.Need-loop-again Inv-loop μ-loop
+loop-again c = (omega arith, lowest-more _ _ _ _ (omega arith) (c .before .before .before .loop .inv .1) (c .lowest-value .ensures))
+
+returns : tie.Need-returns Inv-loop μ-loop
+returns c = rw (let e : c .before .loop .i ≡ c .before .before .args .n = omega arith in e) at (c .before .loop .inv .1)
+
+pub lowest-values-spec : {M : Type 1} → statement M
+lowest-values-spec =
+    tie.close
+    (tie.spec
+    Inv-loop
+    μ-loop
+    loop-holds
+    mul-lowest-value
+    element-copy-out-lowest-value
+    lowest-value-requires
+    array-write-values
+    add-i
+    loop-less
+    loop-again
+    returns)

@@ -1,0 +1,72 @@
+-- The loop's invariant: the pairs of `i` with the first `j` variables pass. A turn tests one more.
+use mathlib.Core.Path.{_≡_, refl}
+use Prim.Native.Nat.{ℕ, _-_, _≤_}
+use Rattle.bounded.specs.Fold.{every}
+use Rattle.rows.proofs.Loops.{test-joins}
+use lib.ListN.{getD}
+use Rattle.words.specs.Word.{has}
+use Rattle.builds.specs.Choices.{pairKept, sideKept}
+use Rattle.builds.proofs.Choices.{pair-same}
+use native.Mathlib.Omega.{arith}
+use borrow.Author.Needs.{needs}
+use Rattle.builds.proofs.values.side_kept.Statement.{statement}
+use Rattle.builds.proofs.values.side_kept.Tie as tie
+
+abbrev Inv-loop : tie.InvT-loop
+Inv-loop n leaders stated rows values i all₀ j₀ all j = (j ≤ n) × (all ≡ every j (λ (k : ℕ). pairKept (getD leaders i 0) (getD leaders k 0) (has stated k) rows i k (getD values i 0) (getD values k 0)))
+
+abbrev μ-loop : tie.MeasureT-loop
+μ-loop n leaders stated rows values i all₀ j₀ all j = n - j
+
+loop-holds : tie.Need-loop-holds Inv-loop μ-loop
+unfolding every
+loop-holds c = (omega arith, refl)
+
+element-copy-out-pair-kept : tie.Need-element-copy-out-pair-kept Inv-loop μ-loop
+element-copy-out-pair-kept c = search needs
+
+element-copy-out-pair-kept-2 : tie.Need-element-copy-out-pair-kept-2 Inv-loop μ-loop
+element-copy-out-pair-kept-2 c = search needs
+
+member-requires : tie.Need-member-requires Inv-loop μ-loop
+member-requires c κs = search needs
+
+shared-slice-read-pair-kept : tie.Need-shared-slice-read-pair-kept Inv-loop μ-loop
+shared-slice-read-pair-kept c = search needs
+
+shared-slice-read-pair-kept-2 : tie.Need-shared-slice-read-pair-kept-2 Inv-loop μ-loop
+shared-slice-read-pair-kept-2 c = search needs
+
+pair-kept-requires : tie.Need-pair-kept-requires Inv-loop μ-loop
+pair-kept-requires c κs = search needs
+
+add-j : tie.Need-add-j Inv-loop μ-loop
+add-j c = search needs
+
+loop-less : tie.Need-loop-less Inv-loop μ-loop
+loop-less c = search needs
+
+loop-again : tie.Need-loop-again Inv-loop μ-loop
+loop-again c = (omega arith, test-joins _ _ _ _ (c .before .before .before .before .before .before .before .loop .inv .1) (pair-same _ _ _ _ _ _ _ _ _ _ (c .pair-kept .ensures) (c .before .before .before .member .ensures)))
+
+returns : tie.Need-returns Inv-loop μ-loop
+unfolding sideKept
+returns c = rw (let e : c .before .loop .j ≡ c .before .before .before .args .n = omega arith in e) at (c .before .loop .inv .1)
+
+pub side-kept-spec : {M : Type 1} → statement M
+side-kept-spec =
+    tie.close
+    (tie.spec
+    Inv-loop
+    μ-loop
+    loop-holds
+    element-copy-out-pair-kept
+    element-copy-out-pair-kept-2
+    member-requires
+    shared-slice-read-pair-kept
+    shared-slice-read-pair-kept-2
+    pair-kept-requires
+    add-j
+    loop-less
+    loop-again
+    returns)

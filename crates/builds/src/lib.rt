@@ -1,0 +1,11 @@
+// Builds against the lent arrays of a state.
+mod values;
+
+pub use values::complete_values;
+pub use values::domains_open;
+pub use values::fresh_parts;
+pub use values::live_count;
+pub use values::lowest_build;
+pub use values::pairs_kept;
+pub use values::values_below;
+pub use values::values_kept;

@@ -1,0 +1,189 @@
+-- Reading and writing: which sheets are accepted and what state they give, and both round trips.
+use mathlib.Core.Bool.{true, false}
+use mathlib.Core.List.{List, _++_}
+use mathlib.Core.Logic.{_↔_}
+use mathlib.Core.Path.{_≡_, refl, sym, ap, _∙_}
+use Prim.Native.Nat.{ℕ, _≤_, _<_}
+use native.Mathlib.Omega.{arith}
+use lib.Dec.{ltb}
+use lib.ListN.{length, getD, drop}
+use borrow.Author.Tests.{lt-ltb, le-ltb}
+use Rattle.bounded.proofs.Bool.{by-cases, not-i, not-false-i, if-true, if-false}
+use Rattle.cause.specs.declared.Cause.{Cause}
+use Rattle.cause.specs.Number.{numberOf}
+use Rattle.cause.proofs.Laws.{number-positive}
+use Rattle.network.specs.Network.{Network, solves}
+use Rattle.network.specs.Sound.{Sound}
+use Rattle.network.specs.Sheet.{Sheet, networkOf, sheetOf, fresh}
+use Rattle.network.proofs.SheetOf.{fresh-leader, fresh-domain, networkOf-fresh, networkOf-sheetOf}
+use Rattle.format.specs.Layout.{version1}
+use Rattle.format.specs.Parse.{Parse, got, bad, parse}
+use Rattle.format.specs.Print.{print}
+use Rattle.format.specs.WellFormed.{WellFormed}
+use Rattle.format.specs.Builds.{isBuild}
+use Rattle.format.proofs.RoundTrip.{version1-usable, parse-wellformed, print-of-parse, parse-of-print}
+use Rattle.format.proofs.SheetOf.{wellformed-sound, wellformed-n, wellformed-size, wellformed-sheetOf, sheetOf-wellformed}
+use Rattle.format.proofs.Builds.{builds-solve}
+use Rattle.state.specs.declared.state.State.{State}
+use Rattle.state.specs.View.{view, pack, zeroState, soundState}
+use Rattle.state.specs.Answers.{ReadTold}
+use Rattle.state.specs.Read.{readAs, readSheet}
+use Rattle.state.specs.Write.{sheetBytes, writeRefusal, writeAs, writeSheet}
+use Rattle.state.proofs.View.{Shaped, Packed, pack-view, pack-sound, state-sound, state-n, state-size}
+
+-- Reading, case by case.
+module _ (bytes : List ℕ) where
+  pub read-got : (s : Sheet) (next : ℕ) → parse version1 bytes ≡ got s next
+      → readSheet bytes ≡ record { number = 0; place = 0; state = pack (networkOf s) }
+  unfolding readSheet readAs
+  read-got s next e = rw e
+
+  -- A refused read has its cause's number, its place and the zero state.
+  pub read-refused : (c : Cause) (at : ℕ) → parse version1 bytes ≡ bad c at
+      → readSheet bytes ≡ record { number = numberOf c; place = at; state = zeroState }
+  unfolding readSheet readAs
+  read-refused c at e = rw e
+
+  pub got-or-bad : {A : Type 0} (p : Parse Sheet) → parse version1 bytes ≡ p
+      → ((s : Sheet) (next : ℕ) → parse version1 bytes ≡ got s next → A)
+      → ((c : Cause) (at : ℕ) → parse version1 bytes ≡ bad c at → A)
+      → A
+  got-or-bad (got s next) e f g = f s next e
+  got-or-bad (bad c at) e f g = g c at e
+
+  -- A sheet is accepted exactly when the parser gets it.
+  pub accepted-exactly : (readSheet bytes .number ≡ 0) ↔ ((s : Sheet) × (next : ℕ) × (parse version1 bytes ≡ got s next))
+  accepted-exactly = (
+    λ h. got-or-bad (parse version1 bytes) refl
+        (λ s next e. (s, next, e))
+        (λ c at e. absurd (let z : readSheet bytes .number ≡ numberOf c = ap (λ (r : ReadTold). r .number) (read-refused c at e) in
+        let x : ⊥ = omega (arith, number-positive c) in x)),
+    λ g. ap (λ (r : ReadTold). r .number) (read-got (g .0) (g .1) (g .2)),
+  )
+
+-- What an accepted sheet was parsed as: its network is sound, is held by the state that was read, and prints as the bytes.
+pub record Accepted (bytes : List ℕ) (s : Sheet) : Type 0 where
+  pub parsed : parse version1 bytes ≡ got s (length bytes)
+  pub well-formed : WellFormed version1 s
+  pub printed : print version1 s ≡ bytes
+  pub sheet-sound : Sound (networkOf s)
+  pub packed : Packed (networkOf s)
+  pub state-is : readSheet bytes .state ≡ pack (networkOf s)
+  pub view-is : view (readSheet bytes .state) ≡ networkOf s
+
+-- A state as read: "A sheet just read has full lists, no leader".
+pub record AsRead (t : State) : Type 0 where
+  pub read-shaped : Shaped t
+  pub is-sound : soundState t ≡ true
+  pub is-fresh : fresh (view t) ≡ true
+  pub no-leader : (i : ℕ) → view t .leader i ≡ 0
+  pub full-lists : (i a : ℕ) → view t .domain i a ≡ ltb a (view t .size i)
+
+module _ (bytes : List ℕ) (octets : (k : ℕ) → getD bytes k 0 < 256) where
+  pub got-accepted : (s : Sheet) (next : ℕ) → parse version1 bytes ≡ got s next → Accepted bytes s
+  got-accepted s next e =
+      let W = parse-wellformed version1 version1-usable bytes octets s next e in
+      let P = print-of-parse version1 version1-usable bytes octets s next e in
+      let S = wellformed-sound s W in
+      let K = pack-sound (networkOf s) S (wellformed-n s W) (wellformed-size s W) in
+      let is = ap (λ (r : ReadTold). r .state) (read-got bytes s next e) in
+      record {
+        parsed = e ∙ ap (got s) (P .1);
+        well-formed = W;
+        printed = P .0;
+        sheet-sound = S;
+        packed = K;
+        state-is = is;
+        view-is = ap view is ∙ K .packed-view;
+      }
+
+  pub accepted : readSheet bytes .number ≡ 0 → (s : Sheet) × Accepted bytes s
+  accepted h = let g = accepted-exactly bytes .0 h in (g .0, got-accepted (g .0) (g .1) (g .2))
+
+  module _ (h : readSheet bytes .number ≡ 0) where
+    -- The state is sound, and as just read.
+    pub read-sound : AsRead (readSheet bytes .state)
+    read-sound =
+        let (s, A) = accepted h in
+        let N = view (readSheet bytes .state) in
+        let S : Sound N = rw (A .view-is) (A .sheet-sound) in
+        let F : fresh N ≡ true = rw (A .view-is) (networkOf-fresh s) in
+        record {
+          read-shaped = rw (A .state-is) (A .packed .packed-shaped);
+          is-sound = rw (A .state-is) (A .packed .packed-sound);
+          is-fresh = F;
+          no-leader = fresh-leader N S F;
+          full-lists = fresh-domain N S F;
+        }
+
+    -- Its solutions are the builds read off the bytes.
+    pub read-solutions : (f : ℕ → ℕ) → solves (view (readSheet bytes .state)) f ≡ isBuild bytes f
+    read-solutions f =
+        let (s, A) = accepted h in
+        ap (λ (N : Network). solves N f) (A .view-is) ∙ sym (builds-solve bytes octets s (length bytes) (A .parsed) f)
+
+-- The writer's refusal, case by case: "the writer tests 9, 18, 17".
+module _ (s : State) (space : ℕ) where
+  pub write-unsound : soundState s ≡ false → writeRefusal s space ≡ 9
+  unfolding writeRefusal
+  write-unsound h = if-true _ _ _ (not-i _ h)
+
+  pub write-not-fresh : soundState s ≡ true → fresh (view s) ≡ false → writeRefusal s space ≡ 18
+  unfolding writeRefusal
+  write-not-fresh h f = if-false _ _ _ (not-false-i _ h) ∙ if-true _ _ _ (not-i _ f)
+
+  pub write-no-room : soundState s ≡ true → fresh (view s) ≡ true → space < length (sheetBytes s) → writeRefusal s space ≡ 17
+  unfolding writeRefusal
+  write-no-room h f l = if-false _ _ _ (not-false-i _ h) ∙ if-false _ _ _ (not-false-i _ f) ∙ if-true _ _ _ (lt-ltb _ _ l)
+
+  pub write-accepted : soundState s ≡ true → fresh (view s) ≡ true → length (sheetBytes s) ≤ space → writeRefusal s space ≡ 0
+  unfolding writeRefusal
+  write-accepted h f l = if-false _ _ _ (not-false-i _ h) ∙ if-false _ _ _ (not-false-i _ f) ∙ if-false _ _ _ (le-ltb _ _ l)
+
+  -- Only a sound and fresh state is written.
+  pub written-fresh : writeRefusal s space ≡ 0 → (soundState s ≡ true) × (fresh (view s) ≡ true)
+  written-fresh e =
+      by-cases (soundState s)
+      (λ h. by-cases (fresh (view s)) (λ f. (h, f)) (λ f. absurd (let x : ⊥ = omega (arith, write-not-fresh h f) in x)))
+      (λ h. absurd (let x : ⊥ = omega (arith, write-unsound h) in x))
+
+-- What is written, and what is answered.
+module _ (s : State) (buffer : List ℕ) where
+  pub wrote : writeRefusal s (length buffer) ≡ 0
+      → writeSheet s buffer
+      ≡ record { answer = record { number = 0; length = length (sheetBytes s) }; buffer = sheetBytes s ++ drop (length (sheetBytes s)) buffer }
+  unfolding writeSheet writeAs
+  wrote e = rw e (if-false _ _ _ (le-ltb 0 0 (omega arith)))
+
+  pub wrote-nothing : (number : ℕ) → writeRefusal s (length buffer) ≡ number → 1 ≤ number
+      → writeSheet s buffer ≡ record { answer = record { number = number; length = 0 }; buffer = buffer }
+  unfolding writeSheet writeAs
+  wrote-nothing number e h = rw e (if-true _ _ _ (lt-ltb 0 number h))
+
+-- "Reading a written sheet returns the same state":
+pub read-of-write : (s : State) → Shaped s → (space : ℕ) → writeRefusal s space ≡ 0
+    → readSheet (sheetBytes s) ≡ record { number = 0; place = 0; state = s }
+unfolding sheetBytes
+read-of-write s h space e =
+    let (t, F) = written-fresh s space e in
+    let S = state-sound s h t in
+    let W = sheetOf-wellformed (view s) S (state-n s t) (state-size s h t) in
+    read-got (sheetBytes s) (sheetOf (view s)) _ (parse-of-print version1 version1-usable (sheetOf (view s)) W)
+    ∙ ap (λ (u : State). record { number = 0; place = 0; state = u }) (ap pack (networkOf-sheetOf (view s) S F) ∙ pack-view s h)
+
+-- "writing a sheet just read, into enough space, returns the same bytes".
+module _ (bytes : List ℕ) (octets : (k : ℕ) → getD bytes k 0 < 256) (h : readSheet bytes .number ≡ 0) where
+  pub sheetBytes-of-read : sheetBytes (readSheet bytes .state) ≡ bytes
+  unfolding sheetBytes
+  sheetBytes-of-read =
+      let (s, A) = accepted bytes octets h in
+      rw (A .view-is, wellformed-sheetOf s (A .well-formed)) (A .printed)
+
+  pub write-of-read : (buffer : List ℕ) → length bytes ≤ length buffer
+      → writeSheet (readSheet bytes .state) buffer
+      ≡ record { answer = record { number = 0; length = length bytes }; buffer = bytes ++ drop (length bytes) buffer }
+  write-of-read buffer l =
+      let r = read-sound bytes octets h in
+      rw sheetBytes-of-read at
+      (wrote (readSheet bytes .state) buffer
+      (write-accepted (readSheet bytes .state) (length buffer) (r .is-sound) (r .is-fresh) (rw sheetBytes-of-read l)))

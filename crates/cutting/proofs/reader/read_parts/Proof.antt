@@ -1,0 +1,55 @@
+use native.Mathlib.Omega.{arith}
+use borrow.Author.Needs.{needs}
+use Rattle.state.specs.View.{zeroState}
+use Rattle.state.specs.Answers.{readTold}
+use Rattle.cutting.specs.Parts.{readPartsTold}
+use Rattle.cutting.proofs.Reading.{stateRead, fullDomains, read-accepted, read-refused, read-sizes}
+use Rattle.cutting.proofs.reader.read_parts.Statement.{statement}
+use Rattle.cutting.proofs.reader.read_parts.Tie as tie
+use Rattle.cutting.proofs.reader.read_parts.Reads as reads
+use Rattle.cutting.proofs.reader.read_parts.Lts as lts
+use Rattle.cutting.proofs.reader.full_domains.Reads as full-domains-reads
+use Rattle.cutting.proofs.reader.zero_rows.Reads as zero-rows-reads
+use Rattle.reading.proofs.read_into.Reads as read-into-reads
+
+read-into-requires : tie.Need-read-into-requires
+read-into-requires c κs = search needs
+
+enum-known-n : tie.Need-enum-known-n
+enum-known-n c = search needs
+
+full-domains-requires : tie.Need-full-domains-requires
+full-domains-requires c κs =
+    read-sizes _ _ _ _
+    (λ k. omega (arith, c .before .before .before .before .before .before .before .shared-slice-known .given k))
+    _ _ (c .before .before .before .read-into .ensures) (c .before .n .given .1)
+
+enum-known-cause : tie.Need-enum-known-cause
+enum-known-cause c = search needs
+
+zero-rows-requires : tie.Need-zero-rows-requires
+zero-rows-requires c κs = search needs
+
+returns : tie.Need-returns
+unfolding readPartsTold readTold stateRead fullDomains
+returns c =
+    rw (c .full-domains .ensures)
+    (read-accepted _ _ _ _ _ _ (c .before .before .before .before .read-into .ensures) (c .before .before .n .given .1))
+
+returns-2 : tie.Need-returns-2
+unfolding readPartsTold readTold zeroState
+returns-2 c =
+    rw (c .zero-rows .ensures)
+    (read-refused _ _ _ _ _ _ _ (c .before .before .before .before .before .read-into .ensures) (c .before .before .before .cause .given .1))
+
+pub read-parts-spec : {M : Type 1} → statement M
+read-parts-spec =
+    tie.close
+    (tie.spec
+    read-into-requires
+    enum-known-n
+    full-domains-requires
+    enum-known-cause
+    zero-rows-requires
+    returns
+    returns-2)

@@ -1,0 +1,2 @@
+-- Answers whose rows are lent.
+pub mod Parts

@@ -1,0 +1,29 @@
+-- An answer whose rows are lent: what it tells together with the rows at exit.
+use mathlib.Core.List.{List}
+use Prim.Native.Nat.{ℕ}
+use lib.ListN.{replicate}
+use Rattle.answers.specs.Answers.{readNumber, readPlace, verdictTold}
+use Rattle.state.specs.View.{stateOf}
+use Rattle.state.specs.Answers.{ReadTold}
+use Rattle.state.specs.Cut.{CutTold}
+use Rattle.cutting.specs.declared.reader.ReadParts.{ReadParts}
+use Rattle.cutting.specs.declared.cut.CutParts.{CutParts}
+
+-- A sheet just read has no leader.
+unfoldable pub readPartsTold : ReadParts → List ℕ → ReadTold
+readPartsTold r rows =
+    record {
+      number = readNumber (r .outcome);
+      place = readPlace (r .outcome);
+      state = stateOf (r .n) (r .sizes) (r .domains) (replicate 16 0) (r .stated) rows;
+    }
+
+unfoldable pub cutPartsTold : CutParts → List ℕ → CutTold
+cutPartsTold r rows =
+    record {
+      number = readNumber (r .outcome);
+      place = readPlace (r .outcome);
+      state = stateOf (r .n) (r .sizes) (r .domains) (r .leaders) (r .stated) rows;
+      steps = r .steps;
+      verdict = verdictTold (r .verdict) (r .solution);
+    }

@@ -1,0 +1,52 @@
+-- The four parts come to stand side by side: `has-four`.
+use mathlib.Core.Path.{_≡_, ap, _∙_}
+use Prim.Native.Nat.{ℕ, _+_, _*_}
+use native.Mathlib.Omega.{arith}
+use borrow.Author.Needs.{needs}
+use Rattle.blocks.proofs.Digits.{has-four}
+use Rattle.fields.specs.Fields.{twoAt}
+use Rattle.fields.proofs.four.eight.Statement.{statement}
+use Rattle.fields.proofs.four.eight.Tie as tie
+
+two-requires : tie.Need-two-requires
+two-requires c κs = search needs
+
+add-two : tie.Need-add-two
+add-two c = search needs
+
+two-requires-2 : tie.Need-two-requires-2
+two-requires-2 c κs = search needs
+
+add-two-2 : tie.Need-add-two-2
+add-two-2 c = search needs
+
+two-requires-3 : tie.Need-two-requires-3
+two-requires-3 c κs = search needs
+
+add-two-3 : tie.Need-add-two-3
+add-two-3 c = search needs
+
+two-requires-4 : tie.Need-two-requires-4
+two-requires-4 c κs = search needs
+
+returns : tie.Need-returns
+returns c =
+    let args = c .before .before .before .before .before .args in
+    let f : ℕ → ℕ = λ q. twoAt (args .bytes .now) (args .at + 2 * q) in
+    let first = c .before .before .before .two in
+    let e : first .result ≡ f 0 = first .ensures .0 ∙ ap (twoAt (args .bytes .now)) (let z : args .at ≡ args .at + 2 * 0 = omega arith in z) in
+    has-four f _ _ _ _ e (c .before .before .two2 .ensures .0) (c .before .two3 .ensures .0) (c .two4 .ensures .0)
+    (first .ensures .1) (c .before .before .two2 .ensures .1) (c .before .two3 .ensures .1) (c .two4 .ensures .1)
+
+pub eight-spec : {M : Type 1} → statement M
+eight-spec =
+    tie.close
+    (tie.spec
+    two-requires
+    add-two
+    two-requires-2
+    add-two-2
+    two-requires-3
+    add-two-3
+    two-requires-4
+    returns)

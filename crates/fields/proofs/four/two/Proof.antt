@@ -1,0 +1,44 @@
+-- A byte is below 256, so two of them make a number below 65536.
+use borrow.Author.Needs.{needs}
+use Rattle.fields.specs.Fields.{twoAt}
+use Rattle.fields.proofs.Fields.{byte-fits, high-fits, two-fits, two-lt}
+use Rattle.fields.proofs.four.two.Statement.{statement}
+use Rattle.fields.proofs.four.two.Tie as tie
+
+shared-slice-read-first : tie.Need-shared-slice-read-first
+shared-slice-read-first c = search needs
+
+cast-first : tie.Need-cast-first
+cast-first c = search (byte-fits, needs)
+
+add-second : tie.Need-add-second
+add-second c = search needs
+
+shared-slice-read-second : tie.Need-shared-slice-read-second
+shared-slice-read-second c = search needs
+
+cast-second : tie.Need-cast-second
+cast-second c = search (byte-fits, needs)
+
+mul-result : tie.Need-mul-result
+mul-result c = search (high-fits, needs)
+
+add-result : tie.Need-add-result
+add-result c = search (two-fits, needs)
+
+returns : tie.Need-returns
+unfolding twoAt
+returns c = search (two-lt, needs)
+
+pub two-spec : {M : Type 1} → statement M
+two-spec =
+    tie.close
+    (tie.spec
+    shared-slice-read-first
+    cast-first
+    add-second
+    shared-slice-read-second
+    cast-second
+    mul-result
+    add-result
+    returns)

@@ -1,0 +1,2 @@
+-- What the functions that read a field answer.
+pub mod Fields

@@ -1,0 +1,46 @@
+-- `models::choices::are_kept` is safe and ends: the loop counts up to its end. Assumes nothing.
+use Prim.Native.Nat.{_-_}
+use borrow.Author.Needs.{needs}
+use Rattle.models.proofs.choices.are_kept.Statement.{statement}
+use Rattle.models.proofs.choices.are_kept.Tie as tie
+
+abbrev Inv-loop : tie.InvT-loop
+Inv-loop n leaders before after i₀ i = Unit
+
+abbrev μ-loop : tie.MeasureT-loop
+μ-loop n leaders before after i₀ i = 16 - i
+
+loop-holds : tie.Need-loop-holds Inv-loop μ-loop
+loop-holds c = search needs
+
+is-kept-requires : tie.Need-is-kept-requires Inv-loop μ-loop
+is-kept-requires c κs = search needs
+
+returns : tie.Need-returns Inv-loop μ-loop
+returns c = search needs
+
+add-i : tie.Need-add-i Inv-loop μ-loop
+add-i c = search needs
+
+loop-less : tie.Need-loop-less Inv-loop μ-loop
+loop-less c = search needs
+
+loop-again : tie.Need-loop-again Inv-loop μ-loop
+loop-again c = search needs
+
+returns-2 : tie.Need-returns-2 Inv-loop μ-loop
+returns-2 c = search needs
+
+pub are-kept-spec : {M : Type 1} → statement M
+are-kept-spec =
+    tie.close
+    (tie.spec
+    Inv-loop
+    μ-loop
+    loop-holds
+    is-kept-requires
+    returns
+    add-i
+    loop-less
+    loop-again
+    returns-2)

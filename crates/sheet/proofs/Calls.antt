@@ -1,0 +1,34 @@
+-- A call of the list: what it hands back; and the kind of a verdict.
+use mathlib.Core.Bool.{true}
+use mathlib.Core.Logic.{_↔_}
+use mathlib.Core.Path.{_≡_, ap, _∙_}
+use Rattle.bounded.specs.Table.{tabulate}
+use Rattle.answers.specs.Answers.{rules}
+use Rattle.network.specs.Completion.{Verdict, verdict, shown}
+use Rattle.state.specs.Solutions.{verdictOf}
+use Rattle.state.proofs.Solutions.{verdict-of}
+use Rattle.network.specs.Calls.{Call, follow-step, full-reduction, answer}
+use Rattle.state.specs.declared.state.State.{State}
+use Rattle.state.specs.View.{view, pack, soundState}
+use Rattle.state.proofs.View.{Shaped}
+use Rattle.state.proofs.Steps.{StateKept, step-answers, reduced-answers, step-keeps, reduced-keeps}
+use Rattle.sheet.specs.Promise.{handedBack, ruledAs}
+
+-- On a sound state it is the state of the network that the call answers.
+pub call-answers : (s : State) → Shaped s → soundState s ≡ true → (c : Call) → handedBack s c ≡ pack (answer (view s) c)
+unfolding handedBack
+call-answers s h t (follow-step l f) = step-answers s h t l f
+call-answers s h t full-reduction = reduced-answers s h t
+
+-- It keeps soundness, variables, sizes and solutions, refused or not.
+pub call-keeps : (s : State) → Shaped s → (c : Call) → StateKept s (handedBack s c)
+unfolding handedBack
+call-keeps s h (follow-step l f) = step-keeps s h l f
+call-keeps s h full-reduction = reduced-keeps s h
+
+pub ruled-as : (s : State) → soundState s ≡ true → (k : Verdict) → ruledAs k (verdictOf s) ↔ (verdict (view s) ≡ k)
+unfolding ruledAs
+ruled-as s t k = (
+  λ r. let p = verdict-of s t in let q = r .1 in cc,
+  λ v. (tabulate 16 (shown (view s)), verdict-of s t ∙ ap (λ (x : Verdict). rules x (tabulate 16 (shown (view s)))) v),
+)

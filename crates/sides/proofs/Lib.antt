@@ -1,0 +1,2 @@
+pub mod RowsLoop
+pub mod Storing

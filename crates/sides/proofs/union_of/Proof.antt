@@ -1,0 +1,14 @@
+-- A member of a row is one of its word, and of the union: `union-has`.
+use borrow.Author.Needs.{needs}
+use Rattle.sides.proofs.Storing.{union-has}
+use Rattle.sides.proofs.union_of.Statement.{statement}
+use Rattle.sides.proofs.union_of.Tie as tie
+
+folded-requires : tie.Need-folded-requires
+folded-requires c κs = search needs
+
+returns : tie.Need-returns
+returns c = union-has _ _ (c .folded .ensures)
+
+pub union-of-spec : {M : Type 1} → statement M
+union-of-spec = tie.close (tie.spec folded-requires returns)

@@ -1,0 +1,122 @@
+-- The tester, the completer and the verdict on states, case by case; and what they mean on a sound state.
+use mathlib.Core.Bool.{true, false}
+use mathlib.Core.List.{List}
+use mathlib.Core.Path.{_≡_, refl, sym, ap, _∙_}
+use Prim.Native.Nat.{ℕ, _≤_, _<_}
+use native.Mathlib.Omega.{arith}
+use lib.Dec.{eqb}
+use lib.ListN.{length, getD, replicate}
+use borrow.Author.Tests.{eq-eqb, ne-eqb, eqb-true, eqb-false, lt-ltb}
+use Rattle.bounded.specs.Table.{tabulate}
+use Rattle.bounded.proofs.Bool.{by-cases, not-i, not-false-i, if-true, if-false}
+use Rattle.bounded.proofs.Fold.{every-i}
+use Rattle.bounded.proofs.Table.{length-tabulate, getD-tabulate}
+use Rattle.network.specs.Network.{Network, solves, testRefusal}
+use Rattle.network.specs.Sound.{Sound}
+use Rattle.network.specs.Completion.{allowedChoice, completed, verdict, shown}
+use Rattle.network.proofs.Completion as completion
+use Rattle.state.specs.declared.state.State.{State}
+use Rattle.state.specs.View.{view, soundState}
+use Rattle.answers.specs.Answers.{says, refuses, rules, no-verdict}
+use Rattle.state.specs.Solutions.{valuesOf, buildRefusal, tested, completeNumber, completedBuffer, verdictOf}
+use Rattle.state.proofs.View.{Shaped, state-sound}
+
+-- The tests that the tester and the completer share: 9, 14, and then the call's own.
+module _ (s : State) (build : List ℕ) (own : ℕ) where
+  pub build-unsound : soundState s ≡ false → buildRefusal s build own ≡ 9
+  unfolding buildRefusal
+  build-unsound h = if-true _ _ _ (not-i _ h)
+
+  pub build-not-n : soundState s ≡ true → (length build ≡ s .n → ⊥) → buildRefusal s build own ≡ 14
+  unfolding buildRefusal
+  build-not-n h d = if-false _ _ _ (not-false-i _ h) ∙ if-true _ _ _ (not-i _ (ne-eqb _ _ d))
+
+  pub build-own : soundState s ≡ true → length build ≡ s .n → buildRefusal s build own ≡ own
+  unfolding buildRefusal
+  build-own h e = if-false _ _ _ (not-false-i _ h) ∙ if-false _ _ _ (not-false-i _ (eq-eqb _ _ e))
+
+  pub build-taken : buildRefusal s build own ≡ 0 → (soundState s ≡ true) × (length build ≡ s .n) × (own ≡ 0)
+  build-taken z =
+      by-cases (soundState s)
+      (λ h. by-cases (eqb (length build) (s .n))
+      (λ e. let q = eqb-true (length build) (s .n) e in (h, q, sym (build-own h q) ∙ z))
+      (λ e. absurd (let x : ⊥ = omega (arith, build-not-n h (eqb-false _ _ e)) in x)))
+      (λ h. absurd (let x : ⊥ = omega (arith, build-unsound h) in x))
+
+-- The tester.
+module _ (s : State) (build : List ℕ) where
+  -- Why it refuses, if it does.
+  abbrev pub testNumber : ℕ
+  testNumber = buildRefusal s build (testRefusal (view s) (valuesOf build))
+
+  pub tested-says : testNumber ≡ 0 → tested s build ≡ says (solves (view s) (valuesOf build))
+  unfolding tested
+  tested-says e = if-true _ _ _ (eq-eqb _ 0 e)
+
+  pub tested-refuses : (number : ℕ) → testNumber ≡ number → 1 ≤ number → tested s build ≡ refuses number
+  unfolding tested
+  tested-refuses number e h = if-false _ _ _ (ne-eqb testNumber 0 (omega arith)) ∙ ap refuses e
+
+-- The values of a solution lie within the sizes: the tester does not refuse it.
+pub solves-in-range : (N : Network) → Sound N → (f : ℕ → ℕ) → solves N f ≡ true → testRefusal N f ≡ 0
+unfolding testRefusal
+solves-in-range N S f h =
+    if-true _ _ _ (every-i (N .n) _ (λ i l. lt-ltb _ _ (S .domain-in i (f i) (completion.solves-domain N f h i l))))
+
+module _ (s : State) (h : Shaped s) (t : soundState s ≡ true) (build : List ℕ) where
+  -- "The tester says yes exactly when each value is in its option's list and each stated pair allows its two values", of a buffer of n bytes.
+  pub tested-yes : length build ≡ s .n → solves (view s) (valuesOf build) ≡ true → tested s build ≡ says true
+  tested-yes e k =
+      tested-says s build (build-own s build _ t e ∙ solves-in-range (view s) (state-sound s h t) (valuesOf build) k)
+      ∙ ap says k
+
+  pub yes-solves : tested s build ≡ says true → (length build ≡ s .n) × (solves (view s) (valuesOf build) ≡ true)
+  yes-solves y =
+      by-cases (eqb (testNumber s build) 0)
+      (λ e. let z = eqb-true _ 0 e in
+      let p = tested-says s build z in
+      (build-taken s build _ z .1, (cc)))
+      (λ e. let d : testNumber s build ≡ 0 → ⊥ = eqb-false _ 0 e in
+      let p = tested-refuses s build (testNumber s build) refl (omega arith) in (cc, cc))
+
+-- The completer.
+module _ (s : State) (build : List ℕ) where
+  pub complete-accepted : soundState s ≡ true → length build ≡ s .n → allowedChoice (view s) (valuesOf build) ≡ true → completeNumber s build ≡ 0
+  unfolding completeNumber
+  complete-accepted t e a = build-own s build _ t e ∙ completion.accepted (view s) (valuesOf build) a
+
+  pub accepted-complete : completeNumber s build ≡ 0
+      → (soundState s ≡ true) × (length build ≡ s .n) × (allowedChoice (view s) (valuesOf build) ≡ true)
+  unfolding completeNumber
+  accepted-complete z =
+      let p = build-taken s build _ z in
+      (p .0, p .1, completion.accepted-only (view s) (valuesOf build) (p .2))
+
+  pub completed-buffer : completeNumber s build ≡ 0 → completedBuffer s build ≡ tabulate (s .n) (completed (view s) (valuesOf build))
+  unfolding completedBuffer
+  completed-buffer z = if-true _ _ _ (eq-eqb _ 0 z)
+
+  -- "A refusal changes no byte."
+  pub refused-buffer : 1 ≤ completeNumber s build → completedBuffer s build ≡ build
+  unfolding completedBuffer
+  refused-buffer h = if-false _ _ _ (ne-eqb (completeNumber s build) 0 (omega arith))
+
+  pub completed-length : length (completedBuffer s build) ≡ length build
+  completed-length =
+      by-cases (eqb (completeNumber s build) 0)
+      (λ e. let z = eqb-true _ 0 e in ap length (completed-buffer z) ∙ length-tabulate (s .n) _ ∙ sym (accepted-complete z .1))
+      (λ e. let d : completeNumber s build ≡ 0 → ⊥ = eqb-false _ 0 e in ap length (refused-buffer (omega arith)))
+
+  pub completed-value : completeNumber s build ≡ 0 → (i : ℕ) → i < s .n → valuesOf (completedBuffer s build) i ≡ completed (view s) (valuesOf build) i
+  unfolding valuesOf
+  completed-value z i l = ap (λ (b : List ℕ). getD b i 0) (completed-buffer z) ∙ getD-tabulate (s .n) _ i 0 l
+
+-- The verdict.
+module _ (s : State) where
+  pub verdict-of : soundState s ≡ true → verdictOf s ≡ rules (verdict (view s)) (tabulate 16 (shown (view s)))
+  unfolding verdictOf
+  verdict-of t = if-true _ _ _ t
+
+  pub verdict-refused : soundState s ≡ false → verdictOf s ≡ no-verdict 9 (replicate 16 0)
+  unfolding verdictOf
+  verdict-refused t = if-false _ _ _ t

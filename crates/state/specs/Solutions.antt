@@ -1,0 +1,42 @@
+-- The tester, the completer and the verdict on states. A build is a buffer of bytes, one for each option.
+use mathlib.Core.List.{List}
+use Prim.Native.Nat.{ℕ}
+use lib.Dec.{eqb}
+use lib.ListN.{length, getD, replicate}
+use Rattle.bounded.specs.Bool.{not, if}
+use Rattle.bounded.specs.Table.{tabulate}
+use Rattle.network.specs.Network.{solves, testRefusal}
+use Rattle.network.specs.Completion.{completeRefusal, completed, verdict, shown}
+use Rattle.state.specs.declared.state.State.{State}
+use Rattle.state.specs.View.{view, soundState}
+use Rattle.answers.specs.Answers.{TestTold, says, refuses, VerdictTold, rules, no-verdict}
+
+-- The values of a buffer's bytes.
+unfoldable pub valuesOf : List ℕ → ℕ → ℕ
+valuesOf build i = getD build i 0
+
+-- 9 "state not sound", then 14 "build buffer not n bytes", then the call's own.
+unfoldable pub buildRefusal : State → List ℕ → ℕ → ℕ
+buildRefusal s build own = if (not (soundState s)) 9 (if (not (eqb (length build) (s .n))) 14 own)
+
+-- The tester: 9, 14, 15, and then yes or no.
+unfoldable pub tested : State → List ℕ → TestTold
+tested s build =
+    if (eqb (buildRefusal s build (testRefusal (view s) (valuesOf build))) 0)
+    (says (solves (view s) (valuesOf build)))
+    (refuses (buildRefusal s build (testRefusal (view s) (valuesOf build))))
+
+-- The completer's number, 9, 14, 15, 16 or 0,
+unfoldable pub completeNumber : State → List ℕ → ℕ
+completeNumber s build = buildRefusal s build (completeRefusal (view s) (valuesOf build))
+
+-- and the buffer at exit: a refusal changes no byte.
+unfoldable pub completedBuffer : State → List ℕ → List ℕ
+completedBuffer s build = if (eqb (completeNumber s build) 0) (tabulate (s .n) (completed (view s) (valuesOf build))) build
+
+-- The verdict, and the build of 16 values: "zero past n, and all zero with NONE or OPEN" and with a refusal.
+unfoldable pub verdictOf : State → VerdictTold
+verdictOf s =
+    if (soundState s)
+    (rules (verdict (view s)) (tabulate 16 (shown (view s))))
+    (no-verdict 9 (replicate 16 0))

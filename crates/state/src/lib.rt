@@ -1,0 +1,13 @@
+// The state of a sheet, what each public call on it answers, and the two that hand a state back changed.
+mod answer;
+mod reduction;
+mod state;
+
+pub use answer::Answer;
+pub use answer::CutAnswer;
+pub use answer::ReadAnswer;
+pub use reduction::Worked;
+pub use reduction::eliminate_parts;
+pub use reduction::reduce_parts;
+pub use reduction::reduce_sound;
+pub use state::State;
