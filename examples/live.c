@@ -22,10 +22,10 @@ int main(int argc, char **argv) {
         printf("refused with %d at byte %zu\n", read.number, read.place);
         return 1;
     }
-    struct sheet_step_answer reduced = sheet_reduce(read.state);
-    for (size_t i = 0; i < reduced.state.n; i++) {
-        if (reduced.state.leaders[i] == 0) {
-            printf("option %zu list %04X\n", i + 1, (unsigned)reduced.state.lists[i]);
+    sheet_reduce_state(&read.state);
+    for (size_t i = 0; i < read.state.n; i++) {
+        if (read.state.leaders[i] == 0) {
+            printf("option %zu list %04X\n", i + 1, (unsigned)read.state.lists[i]);
         }
     }
     return 0;

@@ -1,9 +1,10 @@
 /* Option sheets: the proved library for C. Build it with `rt staticlib capi`; link target/staticlib/libcapi.a.
  *
  * Every function takes any state and any bytes; none asks anything of its caller but that a pointer and its length name memory that may be read
- * (and, for a buffer, written). A slice crosses as a pointer and a length, a state by value (8 KiB, on the stack). `number` is the number of the
- * cause of a refusal, 0 where nothing is refused; any part of a refused answer that is not named is zero. Options count from 1 in calls and from 0
- * as indices of arrays.
+ * (and, for a buffer, written), and that what is written does not overlap what else is lent. A slice crosses as a pointer and a length, a state by
+ * value (8 KiB, on the stack); a step and a reduction change a state in place, lent as its five arrays. `number` is the number of the cause of a
+ * refusal, 0 where nothing is refused; any part of a refused answer that is not named is zero. Options count from 1 in calls and from 0 as indices
+ * of arrays.
  */
 #ifndef SHEET_H
 #define SHEET_H
@@ -33,11 +34,10 @@ struct sheet_read_answer {
     struct sheet_state state;
 };
 
-/* A step or a reduction: the number that refuses, how many steps were taken, and the state, which after a refusal is the one given. */
+/* A step or a reduction: the number that refuses, and how many steps were taken. */
 struct sheet_step_answer {
     uint8_t number;
     size_t steps;
-    struct sheet_state state;
 };
 
 /* Writing: the number that refuses, and how many bytes the sheet has. */
@@ -88,11 +88,24 @@ struct sheet_write_answer sheet_write(struct sheet_state state, uint8_t *buffer,
 /* Whether a state is sound. */
 bool sheet_is_sound(struct sheet_state state);
 
-/* One follow step: `follower` comes to follow `leader`. Numbers 9 to 13. */
-struct sheet_step_answer sheet_eliminate(struct sheet_state state, size_t leader, size_t follower);
+/* One follow step: `follower` comes to follow `leader`. The arrays are those of a state and are changed in place; no two of the five may overlap.
+ * Numbers 9 to 13; a refusal changes nothing. */
+struct sheet_step_answer sheet_eliminate(size_t n, const uint8_t sizes[16], uint16_t lists[16], uint8_t leaders[16], uint16_t stated[16],
+                                         uint16_t rows[4096], size_t leader, size_t follower);
 
-/* The full reduction. Number 9. */
-struct sheet_step_answer sheet_reduce(struct sheet_state state);
+/* The full reduction, on arrays as above. Number 9; a refusal changes nothing. */
+struct sheet_step_answer sheet_reduce(size_t n, const uint8_t sizes[16], uint16_t lists[16], uint8_t leaders[16], uint16_t stated[16],
+                                      uint16_t rows[4096]);
+
+/* One follow step of a state, in place. */
+static inline struct sheet_step_answer sheet_eliminate_state(struct sheet_state *state, size_t leader, size_t follower) {
+    return sheet_eliminate(state->n, state->sizes, state->lists, state->leaders, state->stated, state->rows, leader, follower);
+}
+
+/* The full reduction of a state, in place. */
+static inline struct sheet_step_answer sheet_reduce_state(struct sheet_state *state) {
+    return sheet_reduce(state->n, state->sizes, state->lists, state->leaders, state->stated, state->rows);
+}
 
 /* Whether n bytes, a value for each option, are a build. Numbers 9, 14, 15. */
 struct sheet_test_answer sheet_test(struct sheet_state state, const uint8_t *solution, size_t length);

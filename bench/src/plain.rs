@@ -310,26 +310,18 @@ fn step(s: &mut State, i: usize, j: usize) {
     s.leaders[j] = i as u8 + 1;
 }
 
-/// One follow step in place, options counted from 1; the number that refuses.
-pub fn eliminate(s: &mut State, leader: usize, follower: usize) -> u8 {
+/// One follow step in place, options counted from 1.
+pub fn eliminate(s: &mut State, leader: usize, follower: usize) -> Stepped {
     if !is_sound(s) {
-        return 9;
+        return Stepped { number: 9, steps: 0 };
     }
     let number = refusal(s, leader, follower);
     if number == 0 {
         step(s, leader - 1, follower - 1);
     }
-    number
-}
-
-/// One follow step where the state goes by value, as in the proved library.
-#[inline(never)]
-pub fn eliminate_by_value(mut state: State, leader: usize, follower: usize) -> Stepped {
-    let number = eliminate(&mut state, leader, follower);
     Stepped {
         number,
         steps: (number == 0) as usize,
-        state,
     }
 }
 
@@ -366,19 +358,15 @@ fn reduce_sound(s: &mut State) -> usize {
     steps
 }
 
-/// The full reduction in place: the number that refuses, and the count of steps.
-pub fn reduce(s: &mut State) -> (u8, usize) {
+/// The full reduction in place.
+pub fn reduce(s: &mut State) -> Stepped {
     if !is_sound(s) {
-        return (9, 0);
+        return Stepped { number: 9, steps: 0 };
     }
-    (0, reduce_sound(s))
-}
-
-/// The full reduction where the state goes by value, as in the proved library.
-#[inline(never)]
-pub fn reduce_by_value(mut state: State) -> Stepped {
-    let (number, steps) = reduce(&mut state);
-    Stepped { number, steps, state }
+    Stepped {
+        number: 0,
+        steps: reduce_sound(s),
+    }
 }
 
 /// The followers' values from those of the live options.

@@ -1,12 +1,28 @@
-//! Safe wrappers of the proved library. A slice crosses as a pointer and a length, a state by value.
-use crate::state::{Cut, Read, State, Stepped, Tested, Text, Verdict, Written};
+//! Safe wrappers of the proved library. A slice crosses as a pointer and a length, a state by value, or as its arrays where it is changed in place.
+use crate::state::{Cut, Read, Rows, State, Stepped, Tested, Text, Verdict, Written};
 
 extern "C" {
     fn sheet_read(bytes: *const u8, length: usize) -> Read;
     fn sheet_write(state: State, buffer: *mut u8, length: usize) -> Written;
     fn sheet_is_sound(state: State) -> bool;
-    fn sheet_eliminate(state: State, leader: usize, follower: usize) -> Stepped;
-    fn sheet_reduce(state: State) -> Stepped;
+    fn sheet_eliminate(
+        n: usize,
+        sizes: &[u8; 16],
+        lists: &mut [u16; 16],
+        leaders: &mut [u8; 16],
+        stated: &mut [u16; 16],
+        rows: &mut Rows,
+        leader: usize,
+        follower: usize,
+    ) -> Stepped;
+    fn sheet_reduce(
+        n: usize,
+        sizes: &[u8; 16],
+        lists: &mut [u16; 16],
+        leaders: &mut [u8; 16],
+        stated: &mut [u16; 16],
+        rows: &mut Rows,
+    ) -> Stepped;
     fn sheet_test(state: State, solution: *const u8, length: usize) -> Tested;
     fn sheet_complete(state: State, solution: *mut u8, length: usize) -> u8;
     fn sheet_verdict(state: State) -> Verdict;
@@ -14,7 +30,7 @@ extern "C" {
     fn sheet_text(bytes: *const u8, length: usize) -> Text;
 }
 
-// No function has a `requires`: each takes any state and any slice, and keeps to the slice it is lent.
+// No function has a `requires`: each takes any state and any slice, and keeps to what it is lent.
 
 #[inline]
 pub fn read(bytes: &[u8]) -> Read {
@@ -32,13 +48,26 @@ pub fn is_sound(state: &State) -> bool {
 }
 
 #[inline]
-pub fn eliminate(state: &State, leader: usize, follower: usize) -> Stepped {
-    unsafe { sheet_eliminate(*state, leader, follower) }
+pub fn eliminate(state: &mut State, leader: usize, follower: usize) -> Stepped {
+    let s = state;
+    unsafe {
+        sheet_eliminate(
+            s.n,
+            &s.sizes,
+            &mut s.lists,
+            &mut s.leaders,
+            &mut s.stated,
+            &mut s.rows,
+            leader,
+            follower,
+        )
+    }
 }
 
 #[inline]
-pub fn reduce(state: &State) -> Stepped {
-    unsafe { sheet_reduce(*state) }
+pub fn reduce(state: &mut State) -> Stepped {
+    let s = state;
+    unsafe { sheet_reduce(s.n, &s.sizes, &mut s.lists, &mut s.leaders, &mut s.stated, &mut s.rows) }
 }
 
 #[inline]

@@ -1,6 +1,9 @@
 //! The state and the answers, laid out as in `include/sheet.h`.
 
-/// The state of a sheet. Options count from 0 here. Row `a` of `rows[i][j]` holds the values of `j` that go with value `a` of `i`.
+/// Row `a` of `rows[i][j]` holds the values of `j` that go with value `a` of `i`.
+pub type Rows = [[[u16; 16]; 16]; 16];
+
+/// The state of a sheet. Options count from 0 here.
 #[repr(C)]
 #[derive(Clone, Copy, PartialEq, Eq, Debug)]
 pub struct State {
@@ -9,7 +12,7 @@ pub struct State {
     pub lists: [u16; 16],
     pub leaders: [u8; 16],
     pub stated: [u16; 16],
-    pub rows: [[[u16; 16]; 16]; 16],
+    pub rows: Rows,
 }
 
 impl State {
@@ -36,7 +39,6 @@ pub struct Read {
 pub struct Stepped {
     pub number: u8,
     pub steps: usize,
-    pub state: State,
 }
 
 #[repr(C)]

@@ -1,6 +1,6 @@
 //! Compares the proved library with plain Rust: number, place, state, buffer and text of every call. `differ [SHEETS]` sets how many sheets are made.
 use bench::inputs::*;
-use bench::state::{Cut, Read, State, Stepped, Text};
+use bench::state::{Cut, Read, State, Text};
 use bench::{plain, proved};
 
 /// What was compared, and how the calls answered.
@@ -84,16 +84,24 @@ fn write(state: &State, length: usize, random: &mut Random, counts: &mut Counts)
     counts.note(1, one.number, &(one, here), &(other, there));
 }
 
-fn eliminate(state: &State, leader: usize, follower: usize, counts: &mut Counts) -> Stepped {
-    let one = proved::eliminate(state, leader, follower);
-    counts.note(3, one.number, &one, &plain::eliminate_by_value(*state, leader, follower));
-    one
+/// One follow step; the state left, which after a refusal is the one given.
+fn eliminate(state: &State, leader: usize, follower: usize, counts: &mut Counts) -> State {
+    let (mut here, mut there) = (*state, *state);
+    let one = proved::eliminate(&mut here, leader, follower);
+    let other = plain::eliminate(&mut there, leader, follower);
+    let kept = one.number == 0 || here == *state;
+    counts.note(3, one.number, &(one, here, kept), &(other, there, true));
+    here
 }
 
-fn reduce(state: &State, counts: &mut Counts) -> Stepped {
-    let one = proved::reduce(state);
-    counts.note(4, one.number, &one, &plain::reduce_by_value(*state));
-    one
+/// The full reduction; the state left, which after a refusal is the one given.
+fn reduce(state: &State, counts: &mut Counts) -> State {
+    let (mut here, mut there) = (*state, *state);
+    let one = proved::reduce(&mut here);
+    let other = plain::reduce(&mut there);
+    let kept = one.number == 0 || here == *state;
+    counts.note(4, one.number, &(one, here, kept), &(other, there, true));
+    here
 }
 
 fn test_and_complete(state: &State, build: &[u8], counts: &mut Counts) {
@@ -148,9 +156,9 @@ fn from_sheet(sheet: &Sheet, random: &mut Random, counts: &mut Counts) {
     for _ in 0..1 + random.below(6) {
         let n = state.n;
         state = if random.chance(8) {
-            reduce(&state, counts).state
+            reduce(&state, counts)
         } else {
-            eliminate(&state, 1 + random.below(n), 1 + random.below(n), counts).state
+            eliminate(&state, 1 + random.below(n), 1 + random.below(n), counts)
         };
         counts.input(STEPPED_STATE);
         calls(&state, &sheet.build, random, counts);

@@ -1,3 +1,4 @@
 pub mod Digits
 pub mod Stages
 pub mod Blocks
+pub mod Joins

@@ -4,9 +4,9 @@ ghost use mathlib.Core.Path.{_≡_};
 ghost use Prim.Native.Nat.{ℕ, _+_, _-_, _*_, _%_, _≤_, _<_};
 ghost use lib.Dec.{leb};
 ghost use lib.ListN.{getD};
-ghost use Rattle.bounded.specs.Bool.{and, not, if};
+ghost use Rattle.bounded.specs.Bool.{and, or, not, if};
 ghost use Rattle.words.specs.Word.{has};
-ghost use Rattle.blocks.specs.Blocks.{wordOf, putFour, putSixteen, FourOf, SixteenOf, Turned, Same, digitAt, Apart, swapFrom, eightsFrom, foursFrom, rowsFrom};
+ghost use Rattle.blocks.specs.Blocks.{wordOf, hasIn, rowOf, putFour, putSixteen, FourOf, SixteenOf, Turned, Same, digitAt, Apart, swapFrom, eightsFrom, foursFrom, rowsFrom};
 
 // Sixteen rows: rows 0 to 3 in `a`, 4 to 7 in `b`, and so on.
 pub struct Block {
@@ -165,4 +165,93 @@ pub fn put_sixteen(rows: &mut [u16; 4096], at: usize, x: Block)
     put_four(rows, at + 4, x.b);
     put_four(rows, at + 8, x.c);
     put_four(rows, at + 12, x.d);
+}
+
+// A word of 16 digits four times.
+pub fn repeated(x: u16) -> u64
+    ensures { λ r. ⌜ ((q v : ℕ) → q < 4 → v < 16 → has r (16 * q + v) ≡ has x v) ⌝ }
+{
+    let y = x as u64;
+    y | (y << 16) | (y << 32) | (y << 48)
+}
+
+// The rows of `y` joined to those of the four rows of `reached` whose row of `x` has value 0: the lowest digits of the four rows, side by side, times a
+// full row.
+fn joined_four(x: u64, y: u64, reached: u64) -> u64
+    ensures { λ r. ⌜ ((q v : ℕ) → q < 4 → v < 16 → has r (16 * q + v) ≡ or (has reached (16 * q + v)) (and (has x (16 * q)) (has y (16 * q + v)))) ⌝ }
+{
+    reached | (((x & 0x0001000100010001) * 65535) & y)
+}
+
+// Row `y` joined to those of the sixteen rows of `reached` whose row of `x` has value 0.
+pub fn joined(x: Block, y: u16, reached: Block) -> Block
+    ensures { λ r. ⌜ ((a v : ℕ) → a < 16 → v < 16 → hasIn r a v ≡ or (hasIn reached a v) (and (hasIn x a 0) (has y v))) ⌝ }
+{
+    let rows = repeated(y);
+    Block {
+        a: joined_four(x.a, rows, reached.a),
+        b: joined_four(x.b, rows, reached.b),
+        c: joined_four(x.c, rows, reached.c),
+        d: joined_four(x.d, rows, reached.d),
+    }
+}
+
+// Each digit one lower, so that the next value of each row is its value 0.
+pub fn halved(x: Block) -> Block
+    ensures { λ r. ⌜ ((w k : ℕ) → has (wordOf r w) k ≡ has (wordOf x w) (k + 1)) ⌝ }
+{
+    Block {
+        a: x.a >> 1,
+        b: x.b >> 1,
+        c: x.c >> 1,
+        d: x.d >> 1,
+    }
+}
+
+fn word_of(x: Block, w: usize) -> u64
+    ensures { λ r. ⌜ r ≡ wordOf x w ⌝ }
+{
+    if w == 0 {
+        return x.a;
+    }
+    if w == 1 {
+        return x.b;
+    }
+    if w == 2 {
+        return x.c;
+    }
+    x.d
+}
+
+// Row `a` of a block.
+pub fn row_of(x: Block, a: usize) -> u16
+    requires { ⌜ a < 16 ⌝ }
+    ensures { λ r. ⌜ r ≡ rowOf x a ⌝ }
+{
+    narrow(word_of(x, a / 4) >> (16 * (a % 4)))
+}
+
+// Sixteen times the same row.
+pub fn all_rows(x: u16) -> Block
+    ensures { λ r. ⌜ ((a v : ℕ) → a < 16 → v < 16 → hasIn r a v ≡ has x v) ⌝ }
+{
+    let four = repeated(x);
+    Block {
+        a: four,
+        b: four,
+        c: four,
+        d: four,
+    }
+}
+
+// What both blocks have.
+pub fn common(x: Block, y: Block) -> Block
+    ensures { λ r. ⌜ ((a v : ℕ) → hasIn r a v ≡ and (hasIn x a v) (hasIn y a v)) ⌝ }
+{
+    Block {
+        a: x.a & y.a,
+        b: x.b & y.b,
+        c: x.c & y.c,
+        d: x.d & y.d,
+    }
 }

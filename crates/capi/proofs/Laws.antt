@@ -5,16 +5,18 @@ use mathlib.Core.Path.{_≡_, refl, sym, ap, _∙_}
 use Prim.Native.Nat.{ℕ}
 use Rattle.answers.specs.declared.Verdict.{Verdict}
 use Rattle.answers.specs.declared.Verdict.the-variants as verdict
-use Rattle.answers.specs.Answers.{WriteTold, TestTold, testNumber, testAgrees, VerdictTold, verdictTold, verdictNumber, verdictKind, verdictBuild}
+use Rattle.answers.specs.Answers.{outcomeNumber, WriteTold, TestTold, testNumber, testAgrees, VerdictTold, verdictTold, verdictNumber, verdictKind, verdictBuild}
+use Rattle.state.specs.declared.reduction.Worked.{Worked}
+use Rattle.state.specs.View.{stateOf}
 use Rattle.state.specs.Answers.{ReadTold, Told}
+use Rattle.state.specs.Worked.{workedTold}
 use Rattle.state.specs.Cut.{CutTold}
 use Rattle.capi.specs.declared.SheetRead.{SheetRead}
-use Rattle.capi.specs.declared.SheetStepped.{SheetStepped}
 use Rattle.capi.specs.declared.SheetWritten.{SheetWritten}
 use Rattle.capi.specs.declared.SheetTested.{SheetTested}
 use Rattle.capi.specs.declared.SheetVerdict.{SheetVerdict}
 use Rattle.capi.specs.declared.SheetCut.{SheetCut}
-use Rattle.capi.specs.Answers.{readOut, steppedOut, writtenOut, testedOut, verdictOut, cutOut}
+use Rattle.capi.specs.Answers.{readOut, leftAs, writtenOut, testedOut, verdictOut, cutOut}
 
 pub read-out : (r t : ReadTold) (number place : ℕ) → r ≡ t → number ≡ r .number → place ≡ r .place
     → _≡_ {A = SheetRead}
@@ -32,21 +34,15 @@ pub read-out : (r t : ReadTold) (number place : ℕ) → r ≡ t → number ≡ 
 unfolding readOut
 read-out r t number place e p q = (λ i. readOut (record { number = p i; place = q i; state = r .state })) ∙ ap readOut e
 
-pub stepped-out : (r t : Told) (number : ℕ) → r ≡ t → number ≡ r .number
-    → _≡_ {A = SheetStepped}
-    (record {
-      number = number;
-      steps = r .steps;
-      n = r .state .n;
-      sizes = r .state .sizes;
-      domains = r .state .domains;
-      leaders = r .state .leaders;
-      stated = r .state .stated;
-      rows = r .state .rows;
-    })
-    (steppedOut t)
-unfolding steppedOut
-stepped-out r t number e p = (λ i. steppedOut (record { number = p i; state = r .state; steps = r .steps })) ∙ ap steppedOut e
+pub left-as : (n : ℕ) (sizes : List ℕ) (worked : Worked) (rows : List ℕ) (number : ℕ) → number ≡ outcomeNumber (worked .outcome)
+    → leftAs n sizes (worked .domains) (worked .leaders) (worked .stated) rows (record { number = number; steps = worked .steps }) ≡ workedTold n sizes worked rows
+unfolding leftAs
+left-as n sizes worked rows number p = λ i.
+    record {
+      number = p i;
+      state = stateOf n sizes (worked .domains) (worked .leaders) (worked .stated) rows;
+      steps = worked .steps;
+    }
 
 pub written-out : (r t : WriteTold) (number length : ℕ) → r ≡ t → number ≡ r .number → length ≡ r .length
     → _≡_ {A = SheetWritten} (record { number = number; length = length }) (writtenOut t)

@@ -1,5 +1,8 @@
 -- The answers of the library's definitions as the structs that C and Rust are handed. Number 0 stands for "not refused".
+use mathlib.Core.List.{List}
+use Prim.Native.Nat.{ℕ}
 use Rattle.answers.specs.Answers.{WriteTold, TestTold, testNumber, testAgrees, VerdictTold, verdictNumber, verdictKind, verdictBuild}
+use Rattle.state.specs.View.{stateOf}
 use Rattle.state.specs.Answers.{ReadTold, Told}
 use Rattle.state.specs.Cut.{CutTold}
 use Rattle.capi.specs.declared.SheetRead.{SheetRead}
@@ -22,17 +25,13 @@ readOut t =
       rows = t .state .rows;
     }
 
-unfoldable pub steppedOut : Told → SheetStepped
-steppedOut t =
+-- What a step or a reduction tells, of the struct and of the arrays as they are left.
+unfoldable pub leftAs : ℕ → (sizes domains leaders stated rows : List ℕ) → SheetStepped → Told
+leftAs n sizes domains leaders stated rows r =
     record {
-      number = t .number;
-      steps = t .steps;
-      n = t .state .n;
-      sizes = t .state .sizes;
-      domains = t .state .domains;
-      leaders = t .state .leaders;
-      stated = t .state .stated;
-      rows = t .state .rows;
+      number = r .number;
+      state = stateOf n sizes domains leaders stated rows;
+      steps = r .steps;
     }
 
 unfoldable pub writtenOut : WriteTold → SheetWritten

@@ -1,16 +1,17 @@
 // The calls of the library for C and Rust. Enums do not cross, so an answer is a struct of document 01's numbers; 0 stands for "not refused".
-// A state goes in and comes back by value, and any contents of it are taken. `include/sheet.h` declares all of this in C.
+// A state goes in by value, and a step or a reduction changes one in place, lent as its arrays; any contents of it are taken. `include/sheet.h` declares
+// all of this in C.
 ghost use mathlib.Core.Path.{_≡_};
-ghost use Rattle.state.specs.View.{soundState};
+ghost use Rattle.parts.specs.Parts.{Lent};
+ghost use Rattle.state.specs.View.{stateOf, soundState};
 ghost use Rattle.state.specs.Read.{readSheet};
 ghost use Rattle.state.specs.Write.{writeSheet};
-ghost use Rattle.state.specs.Worked.{workedTold};
 ghost use Rattle.state.specs.Steps.{stepped, reduced};
 ghost use Rattle.state.specs.Solutions.{tested, completeNumber, completedBuffer, verdictOf};
 ghost use Rattle.state.specs.Cut.{cutSheet};
 ghost use Rattle.report.specs.Text.{textOf};
 ghost use Rattle.report.specs.Printed.{Printed};
-ghost use Rattle.capi.specs.Answers.{readOut, steppedOut, writtenOut, testedOut, verdictOut, cutOut};
+ghost use Rattle.capi.specs.Answers.{readOut, leftAs, writtenOut, testedOut, verdictOut, cutOut};
 use answers::outcome_number;
 use answers::read_number;
 use answers::read_place;
@@ -23,7 +24,6 @@ use answers::write_number;
 use cutting::cut_parts;
 use cutting::read_parts;
 use state::State;
-use state::Worked;
 use state::eliminate_parts;
 use state::reduce_parts;
 
@@ -41,18 +41,11 @@ pub struct SheetRead {
     pub rows: [u16; 4096],
 }
 
-// A step or a reduction: the number that refuses, how many steps were taken, and the state handed back.
+// A step or a reduction: the number that refuses, and how many steps were taken.
 #[repr(C)]
 pub struct SheetStepped {
     pub number: u8,
     pub steps: usize,
-    // The state, laid out as `State` is.
-    pub n: usize,
-    pub sizes: [u8; 16],
-    pub domains: [u16; 16],
-    pub leaders: [u8; 16],
-    pub stated: [u16; 16],
-    pub rows: [u16; 4096],
 }
 
 // Writing: the number that refuses, and how many bytes the sheet has.
@@ -145,63 +138,115 @@ pub extern "C" fn sheet_is_sound(state: State) -> bool
     sheet::is_sound(state)
 }
 
-// What a step or a reduction left.
-fn handed_back(n: usize, sizes: [u8; 16], worked: Worked, rows: [u16; 4096]) -> SheetStepped
-    ensures { λ r. ⌜ r ≡ steppedOut (workedTold n sizes worked rows) ⌝ }
-{
-    let outcome = worked.outcome;
-    let domains = worked.domains;
-    let leaders = worked.leaders;
-    let stated = worked.stated;
-    SheetStepped {
-        number: outcome_number(outcome),
-        steps: worked.steps,
-        n,
-        sizes,
-        domains,
-        leaders,
-        stated,
-        rows,
-    }
-}
+// What a type says of every array, which is not known of one behind a reference.
+fn whole(
+    sizes: [u8; 16],
+    domains: [u16; 16],
+    leaders: [u8; 16],
+    stated: [u16; 16],
+    rows: [u16; 4096],
+)
+    ensures { λ r. ⌜ Lent sizes domains leaders stated rows ⌝ }
+{}
 
-// One follow step, options counted from 1.
+// One follow step in place, options counted from 1; a refusal leaves the arrays as they are.
 #[no_mangle]
-pub extern "C" fn sheet_eliminate(state: State, leader: usize, follower: usize) -> SheetStepped
-    ensures { λ r. ⌜ r ≡ steppedOut (stepped state leader follower) ⌝ }
+pub extern "C" fn sheet_eliminate(
+    n: usize,
+    sizes: &[u8; 16],
+    domains: &mut [u16; 16],
+    leaders: &mut [u8; 16],
+    stated: &mut [u16; 16],
+    rows: &mut [u16; 4096],
+    leader: usize,
+    follower: usize,
+) -> SheetStepped
+    ensures { λ r. ⌜
+        leftAs n (now (sizes .entry)) (now (domains .exit)) (now (leaders .exit)) (now (stated .exit)) (now (rows .exit)) r
+        ≡ stepped (stateOf n (now (sizes .entry)) (now (domains .entry)) (now (leaders .entry)) (now (stated .entry)) (now (rows .entry))) leader follower
+        ⌝ }
 {
-    let n = state.n;
-    let sizes = state.sizes;
-    let domains = state.domains;
-    let leaders = state.leaders;
-    let stated = state.stated;
-    let mut rows = state.rows;
+    let given_sizes = *sizes;
+    let given_domains = *domains;
+    let given_leaders = *leaders;
+    let given_stated = *stated;
+    let given_rows = *rows;
+    whole(
+        given_sizes,
+        given_domains,
+        given_leaders,
+        given_stated,
+        given_rows,
+    );
     let after = eliminate_parts(
         n,
-        &sizes,
-        &domains,
-        &leaders,
-        &stated,
-        &mut rows,
+        sizes,
+        &given_domains,
+        &given_leaders,
+        &given_stated,
+        rows,
         leader,
         follower,
     );
-    handed_back(n, sizes, after, rows)
+    let outcome = after.outcome;
+    let after_domains = after.domains;
+    let after_leaders = after.leaders;
+    let after_stated = after.stated;
+    *domains = after_domains;
+    *leaders = after_leaders;
+    *stated = after_stated;
+    SheetStepped {
+        number: outcome_number(outcome),
+        steps: after.steps,
+    }
 }
 
-// The full reduction.
+// The full reduction in place; a refusal leaves the arrays as they are.
 #[no_mangle]
-pub extern "C" fn sheet_reduce(state: State) -> SheetStepped
-    ensures { λ r. ⌜ r ≡ steppedOut (reduced state) ⌝ }
+pub extern "C" fn sheet_reduce(
+    n: usize,
+    sizes: &[u8; 16],
+    domains: &mut [u16; 16],
+    leaders: &mut [u8; 16],
+    stated: &mut [u16; 16],
+    rows: &mut [u16; 4096],
+) -> SheetStepped
+    ensures { λ r. ⌜
+        leftAs n (now (sizes .entry)) (now (domains .exit)) (now (leaders .exit)) (now (stated .exit)) (now (rows .exit)) r
+        ≡ reduced (stateOf n (now (sizes .entry)) (now (domains .entry)) (now (leaders .entry)) (now (stated .entry)) (now (rows .entry)))
+        ⌝ }
 {
-    let n = state.n;
-    let sizes = state.sizes;
-    let domains = state.domains;
-    let leaders = state.leaders;
-    let stated = state.stated;
-    let mut rows = state.rows;
-    let least = reduce_parts(n, &sizes, &domains, &leaders, &stated, &mut rows);
-    handed_back(n, sizes, least, rows)
+    let given_sizes = *sizes;
+    let given_domains = *domains;
+    let given_leaders = *leaders;
+    let given_stated = *stated;
+    let given_rows = *rows;
+    whole(
+        given_sizes,
+        given_domains,
+        given_leaders,
+        given_stated,
+        given_rows,
+    );
+    let least = reduce_parts(
+        n,
+        sizes,
+        &given_domains,
+        &given_leaders,
+        &given_stated,
+        rows,
+    );
+    let outcome = least.outcome;
+    let least_domains = least.domains;
+    let least_leaders = least.leaders;
+    let least_stated = least.stated;
+    *domains = least_domains;
+    *leaders = least_leaders;
+    *stated = least_stated;
+    SheetStepped {
+        number: outcome_number(outcome),
+        steps: least.steps,
+    }
 }
 
 // The tester.

@@ -1,4 +1,4 @@
-// What is claimed of reading, writing, builds and verdicts, checked on one state at a time and counted.
-pub mod builds;
-pub mod cuts;
+// What is claimed of reading, writing and lists of calls, checked and counted, and what a sheet comes to.
+pub mod lists;
+pub mod outcomes;
 pub mod reads;

@@ -1,10 +1,7 @@
 // Reading against the judge of bytes, and writing back what was read.
-use inputs::brute;
-use inputs::judge;
-use plain::calls;
-use plain::calls::Reading;
-use plain::states;
-use plain::tally;
+use calls::Reading;
+use oracle::brute;
+use oracle::judge;
 use sheet::State;
 
 fn is_full(list: u16, size: u8) -> bool {

@@ -1,112 +1,167 @@
 -- Rule 2, value by value: what a turn of `reach` joins, the cases of `composed`, and the frames of one more value and of both sides.
 use mathlib.Core.Bool.{Bool, true, false}
 use mathlib.Core.List.{List}
-use mathlib.Core.Path.{_≡_, refl, sym, ap, ap₂, _∙_}
-use Prim.Native.Nat.{ℕ, _+_, _*_, _/_, _^_, _<_}
+use mathlib.Core.Path.{_≡_, refl, sym, ap, ap₂, subst, _∙_}
+use Prim.Native.Nat.{ℕ, zero, suc, _+_, _-_, _*_, _/_, _%_, _^_, _≤_, _<_}
+use native.Mathlib.Nat.{add-zero}
+use native.Mathlib.Numerals.{add-one}
 use native.Mathlib.Omega.{arith}
 use lib.Dec.{ltb}
-use borrow.Author.Tests.{lt-ltb}
-use lib.Bits.{bitAnd, bitOr, or-add-and, and-le-l}
+use borrow.Author.Tests.{lt-ltb, ltb-true, ltb-false}
+use lib.Bits.{bitAnd}
 use mir.Syntax.{w16}
 use mir.Val.{Fits}
 use lib.ListN.{length, set}
 use Rattle.bounded.specs.Bool.{and, or, not, implies}
 use Rattle.bounded.specs.Fold.{some}
+use Rattle.bounded.proofs.Bool.{by-cases, and-true, or-comm}
 use Rattle.bounded.proofs.Fold.{some-cong}
 use Rattle.words.specs.Word.{has, word}
-use Rattle.words.proofs.Laws.{is-word, empty, has-word, word-lt, word-cong}
+use Rattle.words.proofs.Laws.{is-word, empty, has-word, has-past, has-half, has-zero, word-lt, word-cong}
+use Rattle.blocks.specs.declared.Block.{Block}
+use Rattle.blocks.specs.Blocks.{wordOf, hasIn, rowOf}
+use Rattle.rows.specs.Sides.{BlockOf}
 use Rattle.rows.specs.Rows.{place, rowAt}
 use Rattle.rows.specs.Frames.{Mirrored}
 use Rattle.compose.specs.Compose.{reach, composedAt, Composing, Composed}
 use Rattle.rows.proofs.Laws.{column-lt, has-column}
 use Rattle.rows.proofs.Frames.{filled-more, row-left}
-use Rattle.rows.proofs.Loops.{word-none, word-joins, has-chosen, chosen-lt}
+use Rattle.rows.proofs.Loops.{has-chosen, chosen-lt}
 use Rattle.rows.proofs.Partners.{has-cut}
 
--- A word times a digit is a word.
-pub chosen-fits : (x d b : ℕ) → Fits w16 x → Fits w16 (x * bitAnd (d / 2 ^ b) 1)
-chosen-fits x d b f = record { fits = chosen-lt 65536 x d b (f .fits) }
+no-word : (x : Block) → x .a ≡ 0 → x .b ≡ 0 → x .c ≡ 0 → x .d ≡ 0 → (w : ℕ) → wordOf x w ≡ 0
+unfolding wordOf
+no-word x pa pb pc pd zero = pa
+no-word x pa pb pc pd (suc zero) = pb
+no-word x pa pb pc pd (suc (suc zero)) = pc
+no-word x pa pb pc pd (suc (suc (suc w))) = pd
 
--- What the first b values of j join to value c of k.
-unfoldable pub reachUpTo : ℕ → List ℕ → ℕ → ℕ → ℕ → ℕ → ℕ → ℕ → ℕ
-reachUpTo w rows i j k dj b c =
-    word w (λ (a : ℕ). some b (λ (v : ℕ). and (and (has dj v) (has (rowAt w rows k j c) v)) (has (rowAt w rows j i v) a)))
+-- ---- words from their nth digit on
 
-and-swap : (a b c : Bool) → and a (and b c) ≡ and (and b a) c
+abbrev pub Rest : ℕ → ℕ → ℕ → Type 0
+Rest x n r = (v : ℕ) → has r v ≡ has x (v + n)
+
+pub rest-none : (x : ℕ) → Rest x 0 x
+rest-none x v = rw (add-zero v)
+
+pub rest-more : (x n r : ℕ) → Rest x n r → Rest x (n + 1) (r / 2)
+rest-more x n r h v =
+    let e : suc v + n ≡ v + (n + 1) = omega arith in
+    has-half r v ∙ h (suc v) ∙ ap (has x) e
+
+-- Where nothing is left there is no member from n on,
+pub rest-empty : (x n : ℕ) → Rest x n 0 → (v : ℕ) → n ≤ v → has x v ≡ false
+rest-empty x n h v l =
+    let e : v - n + n ≡ v = omega arith in
+    ap (has x) (sym e) ∙ sym (h (v - n)) ∙ has-zero (v - n)
+
+-- and of a word of w digits nothing is left after the last.
+pub rest-below : (w x n r : ℕ) → x < 2 ^ w → r < 2 ^ w → Rest x n r → (r ≡ 0 → ⊥) → n < w
+rest-below w x n r hx hr h p =
+    by-cases (ltb n w) (λ t. ltb-true n w t)
+    (λ t. let l = ltb-false n w t in absurd (p (empty w r hr (λ v m. h v ∙ has-past w x (v + n) hx (omega arith)))))
+
+abbrev pub Lowered : Block → ℕ → Block → Type 0
+Lowered x n y = (w : ℕ) → Rest (wordOf x w) n (wordOf y w)
+
+pub lowered-none : (x : Block) → Lowered x 0 x
+lowered-none x w = rest-none (wordOf x w)
+
+pub lowered-more : (x y z : Block) (n : ℕ) → Lowered x n y → ((w v : ℕ) → has (wordOf z w) v ≡ has (wordOf y w) (v + 1)) → Lowered x (n + 1) z
+lowered-more x y z n h f w v =
+    let e : v + 1 + n ≡ v + (n + 1) = omega arith in
+    f w v ∙ h w (v + 1) ∙ ap (has (wordOf x w)) e
+
+lowered-in : (x y : Block) (n c : ℕ) → Lowered x n y → hasIn y c 0 ≡ hasIn x c n
+unfolding hasIn
+lowered-in x y n c h =
+    let e : 16 * (c % 4) + 0 + n ≡ 16 * (c % 4) + n = omega arith in
+    h (c / 4) (16 * (c % 4) + 0) ∙ ap (has (wordOf x (c / 4))) e
+
+-- ---- what the first n values of j join to each value of k, as a block
+
+module _ (rows : List ℕ) (i j k dj : ℕ) where
+  abbrev pub Reached : ℕ → Block → Type 0
+  Reached n x =
+      (c a : ℕ) → c < 16 → a < 16
+      → hasIn x c a ≡ some n (λ (b : ℕ). and (and (has dj b) (has (rowAt 16 rows k j c) b)) (has (rowAt 16 rows j i b) a))
+
+  pub reached-none : (x : Block) → x .a ≡ 0 → x .b ≡ 0 → x .c ≡ 0 → x .d ≡ 0 → Reached 0 x
+  unfolding some hasIn
+  reached-none x pa pb pc pd c a l m = ap (λ (w : ℕ). has w (16 * (c % 4) + a)) (no-word x pa pb pc pd (c / 4)) ∙ has-zero (16 * (c % 4) + a)
+
+  -- A value outside the list joins nothing.
+  pub reached-skips : (n : ℕ) (x : Block) → has dj n ≡ false → Reached n x → Reached (n + 1) x
+  unfolding some and or
+  reached-skips n x p h c a l m =
+      rw (add-one n) (h c a l m ∙ sym (ap (λ (t : Bool).
+      or (and (and t (has (rowAt 16 rows k j c) n)) (has (rowAt 16 rows j i n) a))
+      (some n (λ (b : ℕ). and (and (has dj b) (has (rowAt 16 rows k j c) b)) (has (rowAt 16 rows j i b) a)))) p))
+
+  -- One in the list joins its row where it goes with the value of k. `others` has the rows of k against j, lowered by n.
+  pub reached-joins : (n y : ℕ) (block others x r : Block) → n < 16 → has dj n ≡ true → BlockOf rows k j block → Lowered block n others
+      → y ≡ rowAt 16 rows j i n
+      → ((c a : ℕ) → c < 16 → a < 16 → hasIn r c a ≡ or (hasIn x c a) (and (hasIn others c 0) (has y a)))
+      → Reached n x → Reached (n + 1) r
+  unfolding some and
+  reached-joins n y block others x r t p o u e f h c a l m =
+      rw (add-one n) (f c a l m ∙ rw (h c a l m, lowered-in block others n c u, o c n l t, e, p) (or-comm _ _))
+
+  -- So do all the values from n on, where none of them is in the list.
+  reached-past : (m n : ℕ) (x : Block) → ((v : ℕ) → n ≤ v → has dj v ≡ false) → Reached n x → Reached (n + m) x
+  reached-past zero n x p h = rw (add-zero n) h
+  reached-past (suc m) n x p h =
+      let e : n + 1 + m ≡ n + suc m = omega arith in
+      subst (λ (q : ℕ). Reached q x) e (reached-past m (n + 1) x (λ v l. p v (omega arith)) (reached-skips n x (p n (omega arith)) h))
+
+  pub reached-all : (n : ℕ) (x : Block) → n ≤ 16 → ((v : ℕ) → n ≤ v → has dj v ≡ false) → Reached n x
+      → (c : ℕ) → c < 16 → rowOf x c ≡ reach 16 rows i j k dj c
+  unfolding rowOf reach
+  reached-all n x t p h c l =
+      let e : n + (16 - n) ≡ 16 = omega arith in
+      word-cong 16 _ _ (λ a m. subst (λ (q : ℕ). Reached q x) e (reached-past (16 - n) n x p h) c a l m)
+
+-- ---- the rows that rule 2 makes
+
+free-made : (r t d : Bool) → and (and r t) d ≡ and (and t d) (and r true)
 unfolding and
-and-swap true true c = refl
-and-swap true false c = refl
-and-swap false true c = refl
-and-swap false false c = refl
+free-made true true d = sym (and-true d)
+free-made true false d = refl
+free-made false true true = refl
+free-made false true false = refl
+free-made false false d = refl
 
-module _ (w : ℕ) (rows : List ℕ) (i j k dj : ℕ) where
-  pub has-reach : (c a : ℕ) → a < w
-      → has (reach w rows i j k dj c) a
-      ≡ some w (λ (b : ℕ). and (and (has dj b) (has (rowAt w rows k j c) b)) (has (rowAt w rows j i b) a))
-  unfolding reach
-  has-reach c a l = has-word w _ a l
+stated-made : (r t d x : Bool) → and (and (and r t) d) x ≡ and (and t d) (and r x)
+unfolding and
+stated-made true true d x = refl
+stated-made true false d x = refl
+stated-made false true true x = refl
+stated-made false true false x = refl
+stated-made false false d x = refl
 
-  pub reach-none : (c : ℕ) → reachUpTo w rows i j k dj 0 c ≡ 0
-  unfolding reachUpTo
-  reach-none c = word-none w _
+module _ (rows : List ℕ) (i j k ti dj dk : ℕ) (reached lists kept columns listed : Block)
+    (r : (c : ℕ) → c < 16 → rowOf reached c ≡ reach 16 rows i j k dj c)
+    (t : (c a : ℕ) → c < 16 → a < 16 → hasIn lists c a ≡ has ti a)
+    (p : (c a : ℕ) → hasIn kept c a ≡ and (hasIn reached c a) (hasIn lists c a))
+    (d : (c a : ℕ) → c < 16 → a < 16 → hasIn columns c a ≡ has dk c)
+    (q : (c a : ℕ) → hasIn listed c a ≡ and (hasIn kept c a) (hasIn columns c a)) where
+  -- What is reached, in the list of i and of a value in the list of k.
+  listed-is : (c a : ℕ) → c < 16 → a < 16 → hasIn listed c a ≡ and (and (has (reach 16 rows i j k dj c) a) (has ti a)) (has dk c)
+  unfolding rowOf
+  listed-is c a l m =
+      q c a ∙ rw (p c a, t c a l m, d c a l m)
+      (ap (λ (x : Bool). and (and x (has ti a)) (has dk c)) (sym (has-word 16 (hasIn reached c) a m) ∙ ap (λ (n : ℕ). has n a) (r c l)))
 
-  pub reach-all : (c : ℕ) → reachUpTo w rows i j k dj w c ≡ reach w rows i j k dj c
-  unfolding reachUpTo reach
-  reach-all c = refl
+  -- That is rule 2 where the pair was not stated before;
+  pub made-free : (c : ℕ) → c < 16 → rowOf listed c ≡ composedAt 16 rows i j k ti dj dk false c
+  unfolding rowOf composedAt implies
+  made-free c l = word-cong 16 _ _ (λ a m. listed-is c a l m ∙ free-made _ _ _)
 
-  -- The row of value b of j is joined where b is in the list and goes with c.
-  abbrev pub joins : ℕ → ℕ → ℕ
-  joins b c = rowAt w rows j i b * bitAnd (dj / 2 ^ b) 1 * bitAnd (rowAt w rows k j c / 2 ^ b) 1
-
-  pub reach-joins : (b c : ℕ) → bitOr (reachUpTo w rows i j k dj b c) (joins b c) < 2 ^ w
-      → bitOr (reachUpTo w rows i j k dj b c) (joins b c) ≡ reachUpTo w rows i j k dj (b + 1) c
-  unfolding reachUpTo
-  reach-joins b c l =
-      let r = reachUpTo w rows i j k dj b c in
-      word-joins w _ _ (joins b c) b refl
-      (omega (arith, or-add-and r (joins b c), and-le-l r (joins b c)))
-      (λ v n. has-chosen (rowAt w rows j i b * bitAnd (dj / 2 ^ b) 1) (rowAt w rows k j c) b v
-      ∙ ap (and _) (has-chosen (rowAt w rows j i b) dj b v) ∙ and-swap _ _ _)
-
-regrouped : (d t r x was : Bool) → and d (and (and t r) (or x (not was))) ≡ and (and t d) (and r (implies was x))
-unfolding and or not implies
-regrouped true true true true true = refl
-regrouped true true true true false = refl
-regrouped true true true false true = refl
-regrouped true true true false false = refl
-regrouped true true false x was = refl
-regrouped true false r x was = refl
-regrouped false true r x was = refl
-regrouped false false r x was = refl
-
-module _ (w : ℕ) (rows : List ℕ) (i j k ti dj dk c : ℕ) where
-  pub has-composed : (was : Bool) (a : ℕ) → a < w
-      → has (composedAt w rows i j k ti dj dk was c) a
-      ≡ and (and (has ti a) (has dk c)) (and (has (reach w rows i j k dj c) a) (implies was (has (rowAt w rows k i c) a)))
-  unfolding composedAt
-  has-composed was a l = has-word w _ a l
-
-  -- What is reached and in the list of i, where the pair allows it or was not stated before, times the digit of c in the list of k.
-  pub composed-is : (was : Bool) (r kept x others allowed z : ℕ) → r ≡ reach w rows i j k dj c
-      → kept ≡ word w (λ (a : ℕ). and (has ti a) (has r a)) → x ≡ rowAt w rows k i c → others ≡ word w (λ (a : ℕ). not was)
-      → allowed ≡ word w (λ (a : ℕ). or (has x a) (has others a)) → z ≡ word w (λ (a : ℕ). and (has kept a) (has allowed a))
-      → z * bitAnd (dk / 2 ^ c) 1 ≡ composedAt w rows i j k ti dj dk was c
-  unfolding composedAt
-  composed-is was r kept x others allowed z e f g h p q =
-      is-word w _ _ (chosen-lt (2 ^ w) z dk c (rw q (word-lt w _)))
-      (λ a l. has-chosen z dk c a
-      ∙ ap (and (has dk c))
-      (has-cut w kept allowed z a q l
-      ∙ ap₂ and (has-cut w ti r kept a f l ∙ ap (λ (t : ℕ). and (has ti a) (has t a)) e)
-      (ap (λ (t : ℕ). has t a) p ∙ has-word w _ a l ∙ ap₂ or (ap (λ (t : ℕ). has t a) g) (ap (λ (t : ℕ). has t a) h ∙ has-word w _ a l)))
-      ∙ regrouped (has dk c) (has ti a) (has (reach w rows i j k dj c) a) (has (rowAt w rows k i c) a) was)
-
--- No value is left open where the pair was stated, and all are where it was not.
-pub none-open : (w : ℕ) → 0 ≡ word w (λ (a : ℕ). false)
-none-open w = sym (empty w _ (word-lt w _) (λ a l. has-word w _ a l))
-
-pub all-open : (w : ℕ) → word w (λ (a : ℕ). ltb a w) ≡ word w (λ (a : ℕ). true)
-all-open w = word-cong w _ _ (λ a l. lt-ltb a w l)
+  -- where it was, the two are combined.
+  pub made-stated : (before x : Block) → BlockOf rows k i before → ((c a : ℕ) → hasIn x c a ≡ and (hasIn listed c a) (hasIn before c a))
+      → (c : ℕ) → c < 16 → rowOf x c ≡ composedAt 16 rows i j k ti dj dk true c
+  unfolding rowOf composedAt implies
+  made-stated before x o h c l = word-cong 16 _ _ (λ a m. h c a ∙ rw (listed-is c a l m, o c a l m) (stated-made _ _ _ _))
 
 -- What rule 2 says is told by the rows that it reads.
 pub reach-cong : (w : ℕ) (rows rows′ : List ℕ) (i j k dj c : ℕ) → rowAt w rows k j c ≡ rowAt w rows′ k j c
@@ -127,28 +182,6 @@ unfolding composedAt
 composed-lt w rows i j k ti dj dk was c = word-lt w _
 
 -- ---- the frames
-
-module _ (w : ℕ) (before now : List ℕ) (i j k ti dj dk : ℕ) (was : Bool) (c : ℕ)
-    (li : i < 16) (lj : j < 16) (lk : k < 16) (i≢j : i ≡ j → ⊥) (j≢k : j ≡ k → ⊥) (lc : c < w)
-    (done : Composing w before now i j k ti dj dk was c) where
-  -- What is read for value c is as before.
-  value-same : composedAt w now i j k ti dj dk was c ≡ composedAt w before i j k ti dj dk was c
-  value-same =
-      composed-cong w now before i j k ti dj dk was c
-      (done .rest k j c lk lj lc (λ _ q _. i≢j (sym q)))
-      (λ b l. done .rest j i b lj li l (λ q _ _. j≢k q))
-      (row-left w before now k i _ c lk li lc done)
-
-  -- What it reaches is as before, too.
-  pub reach-same : reach w before i j k dj c ≡ reach w now i j k dj c
-  reach-same =
-      sym (reach-cong w now before i j k dj c
-      (done .rest k j c lk lj lc (λ _ q _. i≢j (sym q)))
-      (λ b l. done .rest j i b lj li l (λ q _ _. j≢k q)))
-
-  pub composing-more : (after : List ℕ) → length before ≡ 16 * 16 * w
-      → after ≡ set now (place w k i c) (composedAt w now i j k ti dj dk was c) → Composing w before after i j k ti dj dk was (c + 1)
-  composing-more after e s = filled-more w before now after k i _ c _ lk li lc e done s value-same
 
 -- All values from k, and then the other side.
 pub composed-both : (w : ℕ) (before now after : List ℕ) (i j k ti dj dk : ℕ) (was : Bool) → i < 16 → k < 16 → (k ≡ i → ⊥)

@@ -1,6 +1,5 @@
 // The text of sheetcut, byte for byte.
-use inputs::brute;
-use plain::tally;
+use oracle::brute;
 
 // The text is the first `length` bytes of `printed`, and zeros stand past it.
 fn is_text(printed: &[u8; 512], length: usize, expected: &[u8]) -> bool {

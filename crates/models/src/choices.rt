@@ -5,7 +5,6 @@ use crate::fields::is_free;
 use crate::fields::row_at;
 use crate::fields::same_at;
 use crate::fields::word_at;
-use inputs::random;
 
 fn is_listed<'a>(
     n: usize,
@@ -87,26 +86,6 @@ fn is_choice_at(n: usize, leaders: &[u8; 16], tuple: &[u8; 16], i: usize) -> boo
         return true;
     }
     byte_at(tuple, i) == 0
-}
-
-fn garbage_at(n: usize, leaders: &[u8; 16], tuple: &[u8; 16], i: usize, seed: &mut u64) -> u8 {
-    let garbage = random::byte(seed);
-    if 15 < i {
-        return 0;
-    }
-    if is_free(n, leaders, i) {
-        return tuple[i];
-    }
-    garbage
-}
-
-// The tuple with any bytes at the followers and past n.
-pub fn with_garbage(n: usize, leaders: &[u8; 16], tuple: &[u8; 16], seed: &mut u64) -> [u8; 16] {
-    let mut made = [0u8; 16];
-    for i in 0..16 {
-        made[i] = garbage_at(n, leaders, tuple, i, seed);
-    }
-    made
 }
 
 fn is_kept(n: usize, leaders: &[u8; 16], before: &[u8; 16], after: &[u8; 16], i: usize) -> bool {

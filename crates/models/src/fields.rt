@@ -96,7 +96,7 @@ fn is_nonzero_past(bytes: &[u8; 16], n: usize, i: usize) -> bool {
 }
 
 // The option `i` is live.
-pub(crate) fn is_free(n: usize, leaders: &[u8; 16], i: usize) -> bool {
+pub fn is_free(n: usize, leaders: &[u8; 16], i: usize) -> bool {
     if n <= i {
         return false;
     }

@@ -16,7 +16,8 @@ use Rattle.answers.specs.declared.Verdict.the-variants as verdict
 use Rattle.state.specs.Cut.{cutSheet}
 use Rattle.cutting.specs.Parts.{cutPartsTold}
 use Rattle.cutting.proofs.Cuts.{Small, cut-small}
-use Rattle.report.specs.Text.{refusedText, textAs}
+use Rattle.lines.specs.Text.{refusedText}
+use Rattle.report.specs.Text.{textAs}
 use Rattle.report.specs.Parts.{cutLines}
 use Rattle.report.specs.Printed.{Printable, buildOf}
 use Rattle.report.proofs.Fits.{text-accepted, text-refused}

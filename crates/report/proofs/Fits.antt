@@ -15,10 +15,13 @@ use Rattle.network.specs.Completion.{NONE, BUILT, OPEN}
 use Rattle.state.specs.declared.state.State.{State}
 use Rattle.answers.specs.Answers.{VerdictTold, rules, no-verdict}
 use Rattle.state.specs.Cut.{CutTold}
-use Rattle.report.specs.Text.{ascii, refusedText, optionText, optionTexts, valueTexts, ruledText, verdictText, cutText, textAs}
-use Rattle.report.specs.Parts.{pairLine, liveLine, optionLine, optionLines, cutLines}
+use Rattle.lines.specs.Text.{ascii, refusedText}
+use Rattle.lines.specs.Parts.{pairLine, liveLine, optionLine, optionLines}
+use Rattle.lines.proofs.Laws.{option-live, option-follows}
+use Rattle.verdicts.specs.Text.{valueTexts, ruledText, verdictText}
+use Rattle.report.specs.Text.{optionText, optionTexts, cutText, textAs}
+use Rattle.report.specs.Parts.{cutLines}
 use Rattle.report.specs.Printed.{Printed, Printable, buildOf}
-use Rattle.report.proofs.Laws.{option-live, option-follows}
 
 -- ---- the text in its parts
 

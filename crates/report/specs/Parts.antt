@@ -1,37 +1,11 @@
--- The parts of the text, by the arrays and numbers that the code has at hand: what the contracts inside the crate say.
-use mathlib.Core.List.{List, [], _++_}
-use Prim.Native.Nat.{ℕ, zero, suc, _+_}
-use lib.Dec.{eqb}
-use lib.ListN.{getD}
-use Rattle.bounded.specs.Bool.{if}
-use Rattle.buffers.specs.Digits.{decimal, hex4}
+-- The text of an accepted sheet, by the numbers and arrays that the code has at hand: what the contract inside the crate says.
+use mathlib.Core.List.{List, _++_}
+use Prim.Native.Nat.{ℕ}
+use Rattle.buffers.specs.Digits.{decimal}
 use Rattle.answers.specs.Answers.{VerdictTold}
-use Rattle.report.specs.Text.{ascii, valueTexts, verdictText}
-
--- A line of two numbers, each with a title.
-unfoldable pub pairLine : List ℕ → ℕ → List ℕ → ℕ → List ℕ
-pairLine first one second two = first ++ (decimal one ++ (second ++ (decimal two ++ ascii "\n")))
-
--- The line of a live option, which counts from 1, with its list.
-unfoldable pub liveLine : ℕ → ℕ → List ℕ
-liveLine number list = ascii "LIVE " ++ (decimal number ++ (ascii " LIST " ++ (hex4 list ++ ascii "\n")))
-
--- The line of the option i, which counts from 0, by its leader and its list.
-unfoldable pub optionLine : ℕ → ℕ → ℕ → List ℕ
-optionLine i leader list = if (eqb leader 0) (liveLine (i + 1) list) (pairLine (ascii "FOLLOWS ") (i + 1) (ascii " OF ") leader)
-
--- The lines of the first options, so many.
-unfoldable pub optionLines : List ℕ → List ℕ → ℕ → List ℕ
-optionLines leaders lists zero = []
-optionLines leaders lists (suc count) = optionLines leaders lists count ++ optionLine count (getD leaders count 0) (getD lists count 0)
-
--- " " and the value.
-unfoldable pub valueText : ℕ → List ℕ
-valueText value = ascii " " ++ decimal value
-
--- The verdict BUILT and the build of n values.
-unfoldable pub builtText : List ℕ → ℕ → List ℕ
-builtText build n = ascii "VERDICT BUILT\nBUILD" ++ (valueTexts build n ++ ascii "\n")
+use Rattle.lines.specs.Text.{ascii}
+use Rattle.lines.specs.Parts.{optionLines}
+use Rattle.verdicts.specs.Text.{verdictText}
 
 -- The text of n options with leaders and lists, after so many steps, with the verdict.
 unfoldable pub cutLines : ℕ → List ℕ → List ℕ → ℕ → VerdictTold → List ℕ

@@ -1,5 +1,5 @@
 // The text that sheetcut prints.
-mod parts;
+mod cut;
 mod text;
 
 pub use text::Text;

@@ -4,13 +4,13 @@ ghost use Prim.Native.Nat.{ℕ};
 ghost use Rattle.cutting.specs.Parts.{cutPartsTold};
 ghost use Rattle.report.specs.Text.{textAs, textOf};
 ghost use Rattle.report.specs.Printed.{Printed, Printable};
-use crate::parts::put_cut;
-use crate::parts::put_refusal;
+use crate::cut::put_cut;
 use answers::ReadOutcome;
 use answers::read_number;
 use answers::read_place;
 use cutting::CutParts;
 use cutting::cut_parts;
+use lines::put_refusal;
 
 pub struct Text {
     // The text, and zeros past it.

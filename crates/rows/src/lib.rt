@@ -2,9 +2,9 @@
 mod strays;
 
 use blocks::Block;
+pub use blocks::repeated;
 use blocks::same;
 use blocks::transposed;
-pub use strays::repeated;
 pub use strays::stray;
 ghost use mathlib.Core.Path.{_≡_};
 ghost use Prim.Native.Nat.{ℕ, _<_};
@@ -40,7 +40,7 @@ pub fn put(rows: &mut [u16; 4096], i: usize, j: usize, a: usize, x: u16)
 }
 
 // All rows of `i` against `j`.
-fn block_at(rows: &[u16; 4096], i: usize, j: usize) -> Block
+pub fn block_at(rows: &[u16; 4096], i: usize, j: usize) -> Block
     requires { ⌜ (i < 16) × (j < 16) ⌝ }
     ensures { λ r. ⌜ BlockOf (now (rows .entry)) i j r × ((a : ℕ) → a < 16 → rowAt 16 (now (rows .entry)) i j a < 65536) ⌝ }
 {

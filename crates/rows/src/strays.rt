@@ -2,18 +2,9 @@
 use blocks::four;
 ghost use mathlib.Core.Bool.{Bool};
 ghost use mathlib.Core.Path.{_≡_};
-ghost use Prim.Native.Nat.{ℕ, _+_, _*_, _<_};
+ghost use Prim.Native.Nat.{ℕ, _<_};
 ghost use lib.Dec.{eqb};
-ghost use Rattle.words.specs.Word.{has};
 ghost use Rattle.rows.specs.Search.{Bars, rowsIn};
-
-// A word of 16 digits four times.
-pub fn repeated(x: u16) -> u64
-    ensures { λ r. ⌜ ((q v : ℕ) → q < 4 → v < 16 → has r (16 * q + v) ≡ has x v) ⌝ }
-{
-    let y = x as u64;
-    y | (y << 16) | (y << 32) | (y << 48)
-}
 
 // The digits of the rows of `i` against `j` that `outside` has: 0 where there is none.
 pub fn stray(rows: &[u16; 4096], i: usize, j: usize, outside: u64) -> u64

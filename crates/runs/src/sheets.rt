@@ -1,13 +1,12 @@
 // One input: it is read, and where it is a sheet a list of calls runs on it.
-use crate::lists;
+use crate::cuts;
 use crate::unsound;
-use checks::builds;
-use checks::cuts;
+use checks::lists;
 use checks::reads;
 use inputs::families;
 use inputs::random;
-use plain::tally;
 use sheet::State;
+use tuples::builds;
 
 // The writer takes a state back exactly when no step was taken since it was read.
 fn check_writer(bytes: &[u8], state: State, steps: usize, tally: &mut [u64; 32]) {

@@ -132,12 +132,14 @@ pub fn step<'a>(
 {
     let ti = compose::supported(rows, i, j, domains[i], domains[j]);
     let thirds = thirds_of(stated[j], i, j);
-    move_thirds(rows, domains, stated[i], thirds, i, j, ti);
+    let led = leaders_after(leaders, i, j);
+    let pairs = stated_after(stated, thirds, i, j);
     let mut trimmed = *domains;
     trimmed[i] = ti;
+    move_thirds(rows, domains, stated[i], thirds, i, j, ti);
     Arrays {
         domains: trimmed,
-        leaders: leaders_after(leaders, i, j),
-        stated: stated_after(stated, thirds, i, j),
+        leaders: led,
+        stated: pairs,
     }
 }

@@ -1,8 +1,6 @@
 // Random sheets with random lists of calls, each tried against a brute force over the sheet's bytes.
 mod trials;
 
-use plain::tally;
-
 fn print(counts: &[u64; 32]) {
     tally::print(
         b"sparse\nchains\nbijective\nempty rows\ndense\nmixed\nwide\nlarge\nlargest\n\

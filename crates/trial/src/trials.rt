@@ -3,7 +3,6 @@ use inputs::damage;
 use inputs::families;
 use inputs::families::Sheet;
 use inputs::random;
-use plain::tally;
 use runs::sheets;
 
 // The bytes of a sheet of the family.

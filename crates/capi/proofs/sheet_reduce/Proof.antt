@@ -1,26 +1,24 @@
--- The parts are those of the state.
-use mathlib.Core.Path.{ap, _∙_}
-use Rattle.state.proofs.View.{Shaped, shape, shaped-lent}
-use Rattle.capi.specs.Answers.{steppedOut}
+-- The lists, leaders and stated pairs left are those worked out, and `whole` has told what the lent arrays are.
+use mathlib.Core.Path.{_∙_}
+use Rattle.capi.proofs.Laws.{left-as}
 use borrow.Author.Needs.{needs}
 use Rattle.capi.proofs.sheet_reduce.Statement.{statement}
 use Rattle.capi.proofs.sheet_reduce.Tie as tie
-use Rattle.capi.proofs.sheet_reduce.Reads as reads
-use Rattle.capi.proofs.sheet_reduce.Lts as lts
-use Rattle.capi.proofs.handed_back.Reads as handed-back-reads
-use Rattle.state.proofs.reduce_parts.Reads as reduce-parts-reads
 
-shaped : (c : tie.Start) → Shaped (c .args .state)
-shaped c = search shape
+whole-requires : tie.Need-whole-requires
+whole-requires c κs = search needs
 
 reduce-parts-requires : tie.Need-reduce-parts-requires
-reduce-parts-requires c κs = shaped-lent _ (shaped (c .before .before .before .before .before .before .before .before .before .before))
+reduce-parts-requires c κs = search needs
 
-handed-back-requires : tie.Need-handed-back-requires
-handed-back-requires c κs = search needs
+outcome-number-requires : tie.Need-outcome-number-requires
+outcome-number-requires c κs = search needs
 
 returns : tie.Need-returns
-returns c = c .handed-back .ensures ∙ ap steppedOut (c .before .reduce-parts .ensures)
+returns c =
+    let d = c .before .before .before .before in
+    left-as _ _ (d .reduce-parts .result) _ _ (c .outcome-number .ensures) ∙ d .reduce-parts .ensures
 
 pub sheet-reduce-spec : {M : Type 1} → statement M
-sheet-reduce-spec = tie.close (tie.spec reduce-parts-requires handed-back-requires returns)
+sheet-reduce-spec =
+    tie.close (tie.spec whole-requires reduce-parts-requires outcome-number-requires returns)

@@ -1,47 +1,30 @@
--- The loop's invariant is the frame: the values of `k` below `c` are done. What value `c` reaches was found before, and is as it was (`reach-same`).
--- A turn does one more value: `composing-more`.
-use mathlib.Core.List.{List}
-use mathlib.Core.Path.{_≡_, ap, _∙_}
-use Prim.Native.Nat.{ℕ, _-_, _≤_}
+-- The loop's invariant is the frame: the values of `k` below `c` are done. What rule 2 says was found before, and a turn stores one more value of it.
+use mathlib.Core.Path.{_≡_, _∙_}
+use Prim.Native.Nat.{_-_, _≤_}
 use native.Mathlib.Omega.{arith}
-use lib.ListN.{getD}
 use borrow.Author.Needs.{needs}
-use Rattle.bounded.proofs.Table.{getD-tabulate}
 use Rattle.compose.specs.Compose.{Composing}
-use Rattle.rows.proofs.Frames.{filled-none}
-use Rattle.compose.proofs.Composition.{reach-same, composing-more}
+use Rattle.rows.proofs.Frames.{filled-none, filled-more}
 use Rattle.compose.proofs.compose_values.Statement.{statement}
 use Rattle.compose.proofs.compose_values.Tie as tie
 
 abbrev Inv-loop : tie.InvT-loop
-Inv-loop rows₀ i j k ti dj dk was reached c₀ rows c = (c ≤ 16) × Composing 16 rows₀ rows i j k ti dj dk was c
+Inv-loop rows₀ i j k ti dj dk was members c₀ rows c = (c ≤ 16) × Composing 16 rows₀ rows i j k ti dj dk was c
 
 abbrev μ-loop : tie.MeasureT-loop
-μ-loop rows₀ i j k ti dj dk was reached c₀ rows c = 16 - c
+μ-loop rows₀ i j k ti dj dk was members c₀ rows c = 16 - c
 
-reaches-requires : tie.Need-reaches-requires Inv-loop μ-loop
-reaches-requires c κs = search needs
+made-requires : tie.Need-made-requires Inv-loop μ-loop
+made-requires c κs = search needs
 
 loop-holds : tie.Need-loop-holds Inv-loop μ-loop
 loop-holds c = (omega arith, filled-none 16 _ _ _ _)
 
-mul-compose-value : tie.Need-mul-compose-value Inv-loop μ-loop
-mul-compose-value c = search needs
+row-of-requires : tie.Need-row-of-requires Inv-loop μ-loop
+row-of-requires c κs = search needs
 
-array-read-compose-value : tie.Need-array-read-compose-value Inv-loop μ-loop
-array-read-compose-value c = search needs
-
-compose-value-requires : tie.Need-compose-value-requires Inv-loop μ-loop
-compose-value-requires c κs =
-    let at = c .before .before in
-    let r = at .before in (
-      search needs,
-      search needs,
-      search needs,
-      ap (λ (l : List ℕ). getD l (at .loop .c) 0) (r .reaches .ensures)
-          ∙ getD-tabulate 16 _ (at .loop .c) 0 (omega arith)
-          ∙ reach-same 16 _ _ _ _ _ _ _ _ _ _ (omega arith) (omega arith) (omega arith) (search needs) (search needs) (omega arith) (at .loop .inv .1),
-    )
+put-requires : tie.Need-put-requires Inv-loop μ-loop
+put-requires c κs = search needs
 
 add-c : tie.Need-add-c Inv-loop μ-loop
 add-c c = search needs
@@ -50,11 +33,12 @@ loop-less : tie.Need-loop-less Inv-loop μ-loop
 loop-less c = search needs
 
 loop-again : tie.Need-loop-again Inv-loop μ-loop
-loop-again c = (
-  omega arith,
-  composing-more 16 _ _ _ _ _ _ _ _ _ _ (omega arith) (omega arith) (omega arith) (search needs) (search needs) (omega arith)
-      (c .before .before .before .loop .inv .1) _ (omega arith) (c .compose-value .ensures),
-)
+loop-again c =
+    let at = c .before .before .before .before in (
+      omega arith,
+      filled-more 16 _ _ _ _ _ _ _ _ (omega arith) (omega arith) (omega arith) (omega arith) (at .loop .inv .1) (c .put .ensures)
+          (c .before .row-of .ensures ∙ at .before .made .ensures (at .loop .c) (omega arith)),
+    )
 
 returns : tie.Need-returns Inv-loop μ-loop
 returns c = rw (let e : c .before .loop .c ≡ 16 = omega arith in e) at (c .before .loop .inv .1)
@@ -65,11 +49,10 @@ compose-values-spec =
     (tie.spec
     Inv-loop
     μ-loop
-    reaches-requires
+    made-requires
     loop-holds
-    mul-compose-value
-    array-read-compose-value
-    compose-value-requires
+    row-of-requires
+    put-requires
     add-c
     loop-less
     loop-again

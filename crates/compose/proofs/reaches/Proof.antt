@@ -1,79 +1,81 @@
--- The loop's invariant: each value of `k` reaches what the first `b` values of `j` join to it. A turn joins the row of one more: `reach-joins`.
-use mathlib.Core.List.{List}
-use mathlib.Core.Path.{_≡_, sym, ap, _∙_}
-use Prim.Native.Nat.{ℕ, _*_, _/_, _^_, _-_, _≤_}
+-- The loop's invariant: each value of `k` reaches what the first `b` values of `j` join to it; `others` and `rest` are the rows of `k` and the list from
+-- the digit `b` on. A turn joins the row of one more value, or skips it.
+use mathlib.Core.Logic.{⊎-elim}
+use mathlib.Core.Path.{_≡_, refl, sym, ap, _∙_}
+use Prim.Native.Nat.{_+_, _-_, _≤_, _<_}
 use native.Mathlib.Omega.{arith}
-use lib.Bits.{bitAnd, bitOr}
-use lib.ListN.{getD}
-use mir.Syntax.{w16}
-use mir.Val.{Fits}
 use borrow.Author.Needs.{needs}
-use Rattle.bounded.specs.Table.{tabulate}
-use Rattle.bounded.proofs.Table.{is-table, tabulate-cong, getD-tabulate}
-use Rattle.rows.specs.Rows.{rowAt}
-use Rattle.compose.proofs.Composition.{chosen-fits, reachUpTo, reach-none, reach-all, joins, reach-joins}
+use Rattle.words.specs.Word.{has}
+use Rattle.compose.proofs.Composition.{Rest, rest-none, rest-more, rest-empty, rest-below, Lowered, lowered-none, lowered-more, Reached, reached-none, reached-skips, reached-joins, reached-all}
 use Rattle.compose.proofs.reaches.Statement.{statement}
 use Rattle.compose.proofs.reaches.Tie as tie
 
 abbrev Inv-loop : tie.InvT-loop
-Inv-loop rows i j k dj reached₀ b₀ reached b = (b ≤ 16) × (reached ≡ tabulate 16 (reachUpTo 16 rows i j k dj b))
+Inv-loop rows i j k dj others₀ reached₀ rest₀ b₀ others reached rest b =
+    (b ≤ 16) × (rest < 65536) × Rest dj b rest × Lowered others₀ b others × Reached rows i j k dj b reached
 
 abbrev μ-loop : tie.MeasureT-loop
-μ-loop rows i j k dj reached₀ b₀ reached b = 16 - b
+μ-loop rows i j k dj others₀ reached₀ rest₀ b₀ others reached rest b = 16 - b
+
+block-at-requires : tie.Need-block-at-requires Inv-loop μ-loop
+block-at-requires c κs = search needs
 
 loop-holds : tie.Need-loop-holds Inv-loop μ-loop
-unfolding tabulate
-loop-holds c =
-    let a = c .args in (
-      omega arith,
-      sym (tabulate-cong 16 (reachUpTo 16 (a .rows .now) (a .i) (a .j) (a .k) (a .dj) 0) (λ (_ : ℕ). 0)
-          (λ v l. reach-none 16 (a .rows .now) (a .i) (a .j) (a .k) (a .dj) v)),
-    )
+loop-holds c = (omega arith, c .before .fits .dj .fits, rest-none _, lowered-none _, reached-none _ _ _ _ _ _ refl refl refl refl)
+
+-- In the loop there are values left.
+below : (c : tie.In-loop Inv-loop μ-loop) → c .before .loop .b < 16
+below c =
+    let i = c .before .loop .inv in
+    rest-below 16 _ _ _ (c .before .before .before .fits .dj .fits) (i .1) (i .2) (c .loop-test .taken)
+
+member-requires : tie.Need-member-requires Inv-loop μ-loop
+member-requires c κs = search needs
 
 row-requires : tie.Need-row-requires Inv-loop μ-loop
-row-requires c κs = search needs
-
-cast-y : tie.Need-cast-y Inv-loop μ-loop
-cast-y c = search needs
-
-shr-y : tie.Need-shr-y Inv-loop μ-loop
-shr-y c = search needs
-
-mul-y : tie.Need-mul-y Inv-loop μ-loop
-mul-y c = search (chosen-fits, needs)
+row-requires c κs = let l = below (c .before .before) in search needs
 
 joined-requires : tie.Need-joined-requires Inv-loop μ-loop
 joined-requires c κs = search needs
+
+halved-requires : tie.Need-halved-requires Inv-loop μ-loop
+halved-requires c κs = search needs
+
+-- What is reached where the two ways meet.
+one-more : (c : tie.Joined1 Inv-loop μ-loop) →
+    let at = c .before .before .before in
+    let a = at .before .before .args in
+    Reached (a .rows .now) (a .i) (a .j) (a .k) (a .dj) (at .loop .b + 1) (c .if1 .reached)
+one-more c =
+    let m = c .before in
+    let at = m .before .before in
+    let i = at .loop .inv in
+    let a = at .before .before .args in
+    let e : 0 + at .loop .b ≡ at .loop .b = omega arith in
+    let d = sym (ap (has (a .dj)) e) ∙ sym (i .2 0) ∙ sym (m .member .ensures) in
+    ⊎-elim
+    (λ w. rw (w .3) (reached-joins _ _ _ _ _ _ _ _ _ _ _ (below (m .before)) (d ∙ w .0 .taken) (at .before .block-at .ensures .0) (i .3)
+    (w .1 .ensures) (w .2 .ensures) (i .4)))
+    (λ w. rw (w .1) (reached-skips _ _ _ _ _ _ _ (d ∙ w .0 .left) (i .4)))
+    (c .if1 .came)
 
 add-b : tie.Need-add-b Inv-loop μ-loop
 add-b c = search needs
 
 loop-less : tie.Need-loop-less Inv-loop μ-loop
-loop-less c = search needs
+loop-less c = let l = below (c .before .before .before) in search needs
 
 loop-again : tie.Need-loop-again Inv-loop μ-loop
 loop-again c =
-    let at = c .before .before .before in
-    let a = at .before .args in
-    let more = c .joined .result in
-    let b = at .loop .b in (
-      omega arith,
-      is-table 16 _ more 0 (search needs)
-          (λ v l. let e : getD more v 0 ≡ bitOr (reachUpTo 16 (a .rows .now) (a .i) (a .j) (a .k) (a .dj) (at .loop .b) v)
-          (joins 16 (a .rows .now) (a .i) (a .j) (a .k) (a .dj) (at .loop .b) v)
-          = ap (λ (r : List ℕ). getD r v 0) (c .joined .ensures) ∙ getD-tabulate 16 _ v 0 l
-          ∙ ap (λ (x : ℕ). bitOr (getD (at .loop .reached) v 0) (x * bitAnd (a .dj / 2 ^ b) 1 * bitAnd (rowAt 16 (a .rows .now) (a .k) (a .j) v / 2 ^ b) 1))
-          (c .before .row .ensures)
-          ∙ ap (λ (r : ℕ). bitOr r (joins 16 (a .rows .now) (a .i) (a .j) (a .k) (a .dj) (at .loop .b) v))
-          (ap (λ (r : List ℕ). getD r v 0) (at .loop .inv .1) ∙ getD-tabulate 16 _ v 0 l) in
-          let f : Fits w16 (getD more v 0) = search needs in
-          e ∙ reach-joins 16 (a .rows .now) (a .i) (a .j) (a .k) (a .dj) (at .loop .b) v (rw e at (f .fits))),
-    )
+    let at = c .before .before .before .before in
+    let i = at .loop .inv in
+    let l = below (c .before .before .before) in
+    (omega arith, omega (arith, i .1), rest-more _ _ _ (i .2), lowered-more _ _ _ _ (i .3) (c .halved .ensures), one-more (c .before))
 
 returns : tie.Need-returns Inv-loop μ-loop
 returns c =
-    let e : c .before .loop .b ≡ 16 = omega arith in
-    c .before .loop .inv .1 ∙ tabulate-cong 16 _ _ (λ v l. rw e (reach-all 16 _ _ _ _ _ v))
+    let i = c .before .loop .inv in
+    reached-all _ _ _ _ _ _ _ (i .0) (rest-empty _ _ (rw (c .loop-test .left) at (i .2))) (i .4)
 
 pub reaches-spec : {M : Type 1} → statement M
 reaches-spec =
@@ -81,12 +83,12 @@ reaches-spec =
     (tie.spec
     Inv-loop
     μ-loop
+    block-at-requires
     loop-holds
+    member-requires
     row-requires
-    cast-y
-    shr-y
-    mul-y
     joined-requires
+    halved-requires
     add-b
     loop-less
     loop-again

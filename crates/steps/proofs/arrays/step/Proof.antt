@@ -48,14 +48,11 @@ element-copy-out-thirds-of c = search needs
 thirds-of-requires : tie.Need-thirds-of-requires
 thirds-of-requires c κs = search needs
 
-mul-move-thirds : tie.Need-mul-move-thirds
-mul-move-thirds c = search needs
+leaders-after-requires : tie.Need-leaders-after-requires
+leaders-after-requires c κs = search needs
 
-element-copy-out-move-thirds : tie.Need-element-copy-out-move-thirds
-element-copy-out-move-thirds c = search needs
-
-move-thirds-requires : tie.Need-move-thirds-requires
-move-thirds-requires c κs = let (a, b, d, e, f) = apart (c .before .before) in (a, b, d, e, f, c .before .before .before .before .before .before .before .before .pre .3)
+stated-after-requires : tie.Need-stated-after-requires
+stated-after-requires c κs = apart (c .before)
 
 mul-trimmed : tie.Need-mul-trimmed
 mul-trimmed c = search needs
@@ -63,17 +60,24 @@ mul-trimmed c = search needs
 array-write-trimmed : tie.Need-array-write-trimmed
 array-write-trimmed c = search needs
 
-leaders-after-requires : tie.Need-leaders-after-requires
-leaders-after-requires c κs = search needs
+mul-move-thirds : tie.Need-mul-move-thirds
+mul-move-thirds c = search needs
 
-stated-after-requires : tie.Need-stated-after-requires
-stated-after-requires c κs = apart (c .before .before .before .before .before)
+element-copy-out-move-thirds : tie.Need-element-copy-out-move-thirds
+element-copy-out-move-thirds c = search needs
+
+move-thirds-requires : tie.Need-move-thirds-requires
+move-thirds-requires c κs =
+    let t = c .before .before .before .before .before in
+    let (a, b, d, e, f) = apart t in
+    (a, b, d, e, f, t .before .before .before .before .before .before .pre .3)
 
 returns : tie.Need-returns
 returns c =
-    let s = c .before .before .before .before .before .before in
-    stepped _ _ _ _ _ _ _ _ _ _ _ (s .before .before .supported .ensures) (s .thirds-of .ensures) (c .before .before .before .move-thirds .ensures)
-    (c .before .leaders-after .ensures) (c .stated-after .ensures)
+    let pairs = c .before .before .before .before in
+    let t = pairs .before .before in
+    stepped _ _ _ _ _ _ _ _ _ _ _ (t .before .before .supported .ensures) (t .thirds-of .ensures) (c .move-thirds .ensures)
+    (pairs .before .leaders-after .ensures) (pairs .stated-after .ensures)
 
 pub step-spec : {M : Type 1} → statement M
 step-spec =
@@ -87,11 +91,11 @@ step-spec =
     mul-thirds-of
     element-copy-out-thirds-of
     thirds-of-requires
+    leaders-after-requires
+    stated-after-requires
+    mul-trimmed
+    array-write-trimmed
     mul-move-thirds
     element-copy-out-move-thirds
     move-thirds-requires
-    mul-trimmed
-    array-write-trimmed
-    leaders-after-requires
-    stated-after-requires
     returns)

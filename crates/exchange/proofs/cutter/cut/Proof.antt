@@ -1,0 +1,18 @@
+use borrow.Author.Needs.{needs}
+use Rattle.state.specs.Cut.{cutTold}
+use Rattle.cutting.specs.Parts.{cutPartsTold}
+use Rattle.exchange.proofs.cutter.cut.Statement.{statement}
+use Rattle.exchange.proofs.cutter.cut.Tie as tie
+use Rattle.exchange.proofs.cutter.cut.Reads as reads
+use Rattle.exchange.proofs.cutter.cut.Lts as lts
+use Rattle.cutting.proofs.cut_parts.Reads as cut-parts-reads
+
+cut-parts-requires : tie.Need-cut-parts-requires
+cut-parts-requires c κs = search needs
+
+returns : tie.Need-returns
+unfolding cutTold cutPartsTold
+returns c = c .before .before .before .before .before .cut-parts .ensures
+
+pub cut-spec : {M : Type 1} → statement M
+cut-spec = tie.close (tie.spec cut-parts-requires returns)

@@ -1,0 +1,72 @@
+-- After i turns the first i are written.
+use mathlib.Core.Path.{_≡_}
+use Prim.Native.Nat.{_-_, _≤_}
+use native.Mathlib.Omega.{arith}
+use borrow.Author.Needs.{needs}
+use Rattle.buffers.specs.Wrote.{Wrote}
+use Rattle.buffers.proofs.Laws.{wrote-none}
+use Rattle.lines.specs.Parts.{optionLines}
+use Rattle.lines.proofs.Laws.{lines-room, lines-turn}
+use Rattle.lines.proofs.put_options.Statement.{statement}
+use Rattle.lines.proofs.put_options.Tie as tie
+
+abbrev Inv-loop : tie.InvT-loop
+Inv-loop buffer₀ at n leaders lists next₀ i₀ buffer next i = (i ≤ n) × Wrote buffer₀ buffer (optionLines leaders lists i) at next
+
+abbrev μ-loop : tie.MeasureT-loop
+μ-loop buffer₀ at n leaders lists next₀ i₀ buffer next i = n - i
+
+loop-holds : tie.Need-loop-holds Inv-loop μ-loop
+unfolding optionLines
+loop-holds c = (search needs, wrote-none _ _ (omega arith))
+
+element-copy-out-put-option : tie.Need-element-copy-out-put-option Inv-loop μ-loop
+element-copy-out-put-option c = search needs
+
+mul-put-option : tie.Need-mul-put-option Inv-loop μ-loop
+mul-put-option c = search needs
+
+element-copy-out-put-option-2 : tie.Need-element-copy-out-put-option-2 Inv-loop μ-loop
+element-copy-out-put-option-2 c = search needs
+
+put-option-requires : tie.Need-put-option-requires Inv-loop μ-loop
+put-option-requires c κs =
+    let l = c .before .before .before .before in
+    let s = l .before .before in
+    (omega arith, lines-room (s .args .leaders .now) (s .args .lists .now) (s .args .n) (l .loop .i) (omega arith) (s .pre .1) (l .loop .inv .1))
+
+add-i : tie.Need-add-i Inv-loop μ-loop
+add-i c = search needs
+
+loop-less : tie.Need-loop-less Inv-loop μ-loop
+loop-less c = search needs
+
+loop-again : tie.Need-loop-again Inv-loop μ-loop
+loop-again c =
+    let p = c .before .before in
+    let l = p .before .before .before .before .before in
+    let s = l .before .before in
+    (search needs, lines-turn (s .args .leaders .now) (s .args .lists .now) (l .loop .i) (l .loop .inv .1) (p .put-option .ensures))
+
+same-length : tie.Need-same-length Inv-loop μ-loop
+same-length c = search needs
+
+returns : tie.Need-returns Inv-loop μ-loop
+returns c = let e : c .before .loop .i ≡ c .before .before .before .args .n = omega arith in rw e at (c .before .loop .inv .1)
+
+pub put-options-spec : {M : Type 1} → statement M
+put-options-spec =
+    tie.close
+    (tie.spec
+    Inv-loop
+    μ-loop
+    loop-holds
+    element-copy-out-put-option
+    mul-put-option
+    element-copy-out-put-option-2
+    put-option-requires
+    add-i
+    loop-less
+    loop-again
+    same-length
+    returns)

@@ -1,0 +1,3 @@
+-- The lines of options and refusals in the text that sheetcut prints.
+pub mod Text
+pub mod Parts

@@ -1,0 +1,79 @@
+-- The six parts, one after the other.
+use borrow.Author.Needs.{needs}
+use native.Mathlib.Omega.{arith}
+use lib.ListN.{length-append}
+use Rattle.buffers.proofs.Laws.{wrote-then}
+use Rattle.lines.specs.Text.{ascii}
+use Rattle.report.specs.Parts.{cutLines}
+use Rattle.report.proofs.cut.put_cut.Statement.{statement}
+use Rattle.report.proofs.cut.put_cut.Tie as tie
+
+slice-aggregate-put-titled : tie.Need-slice-aggregate-put-titled
+slice-aggregate-put-titled c = search needs
+
+put-titled-requires : tie.Need-put-titled-requires
+unfolding cutLines ascii
+put-titled-requires c κs = omega (arith, simp length-append at (c .before .before .before .pre .1))
+
+slice-aggregate-put-text : tie.Need-slice-aggregate-put-text
+slice-aggregate-put-text c = search needs
+
+put-text-requires : tie.Need-put-text-requires
+unfolding cutLines ascii
+put-text-requires c κs = omega (arith, simp length-append at (c .before .before .before .before .before .before .before .before .pre .1))
+
+put-options-requires : tie.Need-put-options-requires
+unfolding cutLines ascii
+put-options-requires c κs = (search needs, omega (arith, simp length-append at (c .before .before .before .before .before .before .before .before .before .before .before .before .pre .1)))
+
+slice-aggregate-put-titled-2 : tie.Need-slice-aggregate-put-titled-2
+slice-aggregate-put-titled-2 c = search needs
+
+put-titled-requires-2 : tie.Need-put-titled-requires-2
+unfolding cutLines ascii
+put-titled-requires-2 c κs = omega (arith, simp length-append at (c .before .before .before .before .before .before .before .before .before .before .before .before .before .before .before .before .before .pre .1))
+
+slice-aggregate-put-text-2 : tie.Need-slice-aggregate-put-text-2
+slice-aggregate-put-text-2 c = search needs
+
+put-text-requires-2 : tie.Need-put-text-requires-2
+unfolding cutLines ascii
+put-text-requires-2 c κs = omega (arith, simp length-append at (c .before .before .before .before .before .before .before .before .before .before .before .before .before .before .before .before .before .before .before .before .before .before .pre .1))
+
+put-verdict-requires : tie.Need-put-verdict-requires
+unfolding cutLines ascii
+put-verdict-requires c κs = (search needs, omega (arith, simp length-append at (c .before .before .before .before .before .before .before .before .before .before .before .before .before .before .before .before .before .before .before .before .before .before .before .before .before .before .pre .1)))
+
+same-length : tie.Need-same-length
+same-length c = search needs
+
+returns : tie.Need-returns
+unfolding cutLines ascii
+returns c =
+    let v = c .before .before in
+    let e = v .before .before .before .before in
+    let s = e .before .before .before .before .before in
+    let l = s .before .before .before .before .before in
+    let b = l .before .before .before .before in
+    let n = b .before .before .before .before .before in
+    wrote-then (n .put-titled .ensures)
+    (wrote-then (b .put-text .ensures)
+    (wrote-then (l .put-options .ensures)
+    (wrote-then (s .put-titled2 .ensures) (wrote-then (e .put-text2 .ensures) (v .put-verdict .ensures)))))
+
+pub put-cut-spec : {M : Type 1} → statement M
+put-cut-spec =
+    tie.close
+    (tie.spec
+    slice-aggregate-put-titled
+    put-titled-requires
+    slice-aggregate-put-text
+    put-text-requires
+    put-options-requires
+    slice-aggregate-put-titled-2
+    put-titled-requires-2
+    slice-aggregate-put-text-2
+    put-text-requires-2
+    put-verdict-requires
+    same-length
+    returns)

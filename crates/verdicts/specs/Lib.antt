@@ -1,0 +1,3 @@
+-- The lines of a verdict in the text that sheetcut prints.
+pub mod Text
+pub mod Parts
