@@ -6,12 +6,6 @@ use Rattle.answers.proofs.read_place.Tie as tie
 use Rattle.answers.proofs.read_place.Reads as reads
 use Rattle.answers.proofs.read_place.Lts as lts
 
-enum-told : tie.Need-enum-told
-enum-told c = search needs
-
-enum-known-outcome : tie.Need-enum-known-outcome
-enum-known-outcome c = search needs
-
 returns : tie.Need-returns
 unfolding readPlace
 returns c = sym (ap readPlace (c .enum-told .given .1))
@@ -21,4 +15,4 @@ unfolding readPlace
 returns-2 c = sym (ap readPlace (c .before .outcome .given .1))
 
 pub read-place-spec : {M : Type 1} → statement M
-read-place-spec = tie.close (tie.spec enum-told enum-known-outcome returns returns-2)
+read-place-spec = tie.close (tie.spec (λ c. search needs) (λ c. search needs) returns returns-2)

@@ -9,18 +9,6 @@ use Rattle.answers.proofs.test_number.Reads as reads
 use Rattle.answers.proofs.test_number.Lts as lts
 use Rattle.cause.proofs.number.Reads as number-reads
 
-enum-told : tie.Need-enum-told
-enum-told c = search needs
-
-enum-told-2 : tie.Need-enum-told-2
-enum-told-2 c = search needs
-
-enum-known-answer : tie.Need-enum-known-answer
-enum-known-answer c = search needs
-
-number-requires : tie.Need-number-requires
-number-requires c κs = search needs
-
 returns : tie.Need-returns
 unfolding testTold testNumber
 returns c = sym (ap (λ (x : TestAnswer). testNumber (testTold x)) (c .enum-told .given .1))
@@ -36,4 +24,4 @@ returns-3 c = c .number .ensures ∙ sym (ap (λ (x : TestAnswer). testNumber (t
 pub test-number-spec : {M : Type 1} → statement M
 test-number-spec =
     tie.close
-    (tie.spec enum-told enum-told-2 enum-known-answer number-requires returns returns-2 returns-3)
+    (tie.spec (λ c. search needs) (λ c. search needs) (λ c. search needs) (λ c κs. search needs) returns returns-2 returns-3)

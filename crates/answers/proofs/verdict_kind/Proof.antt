@@ -8,18 +8,6 @@ use Rattle.answers.proofs.verdict_kind.Tie as tie
 use Rattle.answers.proofs.verdict_kind.Reads as reads
 use Rattle.answers.proofs.verdict_kind.Lts as lts
 
-enum-told : tie.Need-enum-told
-enum-told c = search needs
-
-enum-told-2 : tie.Need-enum-told-2
-enum-told-2 c = search needs
-
-enum-told-3 : tie.Need-enum-told-3
-enum-told-3 c = search needs
-
-enum-told-4 : tie.Need-enum-told-4
-enum-told-4 c = search needs
-
 returns : tie.Need-returns
 unfolding verdictTold verdictKind kindOf
 returns c = λ build. sym (ap (λ (x : Verdict). verdictKind (verdictTold x build)) (c .enum-told .given .1))
@@ -39,4 +27,4 @@ returns-4 c = λ build. sym (ap (λ (x : Verdict). verdictKind (verdictTold x bu
 pub verdict-kind-spec : {M : Type 1} → statement M
 verdict-kind-spec =
     tie.close
-    (tie.spec enum-told enum-told-2 enum-told-3 enum-told-4 returns returns-2 returns-3 returns-4)
+    (tie.spec (λ c. search needs) (λ c. search needs) (λ c. search needs) (λ c. search needs) returns returns-2 returns-3 returns-4)

@@ -9,21 +9,6 @@ use Rattle.answers.proofs.verdict_number.Reads as reads
 use Rattle.answers.proofs.verdict_number.Lts as lts
 use Rattle.cause.proofs.number.Reads as number-reads
 
-enum-told : tie.Need-enum-told
-enum-told c = search needs
-
-enum-told-2 : tie.Need-enum-told-2
-enum-told-2 c = search needs
-
-enum-told-3 : tie.Need-enum-told-3
-enum-told-3 c = search needs
-
-enum-known-verdict : tie.Need-enum-known-verdict
-enum-known-verdict c = search needs
-
-number-requires : tie.Need-number-requires
-number-requires c κs = search needs
-
 returns : tie.Need-returns
 unfolding verdictTold verdictNumber kindOf
 returns c = λ build. sym (ap (λ (x : Verdict). verdictNumber (verdictTold x build)) (c .enum-told .given .1))
@@ -44,11 +29,11 @@ pub verdict-number-spec : {M : Type 1} → statement M
 verdict-number-spec =
     tie.close
     (tie.spec
-    enum-told
-    enum-told-2
-    enum-told-3
-    enum-known-verdict
-    number-requires
+    (λ c. search needs)
+    (λ c. search needs)
+    (λ c. search needs)
+    (λ c. search needs)
+    (λ c κs. search needs)
     returns
     returns-2
     returns-3

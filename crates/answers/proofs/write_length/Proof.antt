@@ -7,12 +7,6 @@ use Rattle.answers.proofs.write_length.Tie as tie
 use Rattle.answers.proofs.write_length.Reads as reads
 use Rattle.answers.proofs.write_length.Lts as lts
 
-enum-known-answer : tie.Need-enum-known-answer
-enum-known-answer c = search needs
-
-enum-told : tie.Need-enum-told
-enum-told c = search needs
-
 returns : tie.Need-returns
 unfolding writeTold
 returns c = sym (ap (λ (x : WriteAnswer). writeTold x .length) (c .before .answer .given .1))
@@ -22,4 +16,4 @@ unfolding writeTold
 returns-2 c = sym (ap (λ (x : WriteAnswer). writeTold x .length) (c .enum-told .given .1))
 
 pub write-length-spec : {M : Type 1} → statement M
-write-length-spec = tie.close (tie.spec enum-known-answer enum-told returns returns-2)
+write-length-spec = tie.close (tie.spec (λ c. search needs) (λ c. search needs) returns returns-2)

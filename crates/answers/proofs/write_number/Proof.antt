@@ -8,15 +8,6 @@ use Rattle.answers.proofs.write_number.Reads as reads
 use Rattle.answers.proofs.write_number.Lts as lts
 use Rattle.cause.proofs.number.Reads as number-reads
 
-enum-told : tie.Need-enum-told
-enum-told c = search needs
-
-enum-known-answer : tie.Need-enum-known-answer
-enum-known-answer c = search needs
-
-number-requires : tie.Need-number-requires
-number-requires c κs = search needs
-
 returns : tie.Need-returns
 unfolding writeTold
 returns c = sym (ap (λ (x : WriteAnswer). writeTold x .number) (c .enum-told .given .1))
@@ -27,4 +18,4 @@ returns-2 c = c .number .ensures ∙ sym (ap (λ (x : WriteAnswer). writeTold x 
 
 pub write-number-spec : {M : Type 1} → statement M
 write-number-spec =
-    tie.close (tie.spec enum-told enum-known-answer number-requires returns returns-2)
+    tie.close (tie.spec (λ c. search needs) (λ c. search needs) (λ c κs. search needs) returns returns-2)

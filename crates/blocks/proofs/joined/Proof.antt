@@ -4,21 +4,6 @@ use Rattle.blocks.proofs.Joins.{joined-is}
 use Rattle.blocks.proofs.joined.Statement.{statement}
 use Rattle.blocks.proofs.joined.Tie as tie
 
-joined-four-requires : tie.Need-joined-four-requires
-joined-four-requires c κs = search needs
-
-joined-four-requires-2 : tie.Need-joined-four-requires-2
-joined-four-requires-2 c κs = search needs
-
-joined-four-requires-3 : tie.Need-joined-four-requires-3
-joined-four-requires-3 c κs = search needs
-
-joined-four-requires-4 : tie.Need-joined-four-requires-4
-joined-four-requires-4 c κs = search needs
-
-repeated-requires : tie.Need-repeated-requires
-repeated-requires c κs = search needs
-
 returns : tie.Need-returns
 returns c =
     let s = c .before .before .before .before in
@@ -28,4 +13,4 @@ returns c =
 pub joined-spec : {M : Type 1} → statement M
 joined-spec =
     tie.close
-    (tie.spec repeated-requires joined-four-requires joined-four-requires-2 joined-four-requires-3 joined-four-requires-4 returns)
+    (tie.spec (λ c κs. search needs) (λ c κs. search needs) (λ c κs. search needs) (λ c κs. search needs) (λ c κs. search needs) returns)

@@ -8,18 +8,6 @@ use Rattle.blocks.proofs.Blocks.{row-of}
 use Rattle.blocks.proofs.row_of.Statement.{statement}
 use Rattle.blocks.proofs.row_of.Tie as tie
 
-word-of-requires : tie.Need-word-of-requires
-word-of-requires c κs = search needs
-
-mul-narrow : tie.Need-mul-narrow
-mul-narrow c = search needs
-
-shr-narrow : tie.Need-shr-narrow
-shr-narrow c = search needs
-
-narrow-requires : tie.Need-narrow-requires
-narrow-requires c κs = search needs
-
 returns : tie.Need-returns
 returns c =
     let a = c .before .before .args in
@@ -28,4 +16,4 @@ returns c =
     ∙ ap (rowOf (a .x)) e
 
 pub row-of-spec : {M : Type 1} → statement M
-row-of-spec = tie.close (tie.spec word-of-requires mul-narrow shr-narrow narrow-requires returns)
+row-of-spec = tie.close (tie.spec (λ c κs. search needs) (λ c. search needs) (λ c. search needs) (λ c κs. search needs) returns)

@@ -4,14 +4,8 @@ use borrow.Author.Needs.{needs}
 use Rattle.blocks.proofs.swapped.Statement.{statement}
 use Rattle.blocks.proofs.swapped.Tie as tie
 
-shr-t : tie.Need-shr-t
-shr-t c = search needs
-
-shl-result : tie.Need-shl-result
-shl-result c = search needs
-
 returns : tie.Need-returns
 returns c = has-swapped (c .args .x) (c .args .shift) (c .args .mask) (c .pre .1)
 
 pub swapped-spec : {M : Type 1} → statement M
-swapped-spec = tie.close (tie.spec shr-t shl-result returns)
+swapped-spec = tie.close (tie.spec (λ c. search needs) (λ c. search needs) returns)

@@ -12,11 +12,8 @@ put-text-requires c κs = omega (arith, simp length-append at (c .before .before
 put-decimal-requires : tie.Need-put-decimal-requires
 put-decimal-requires c κs = omega (arith, simp length-append at (c .before .before .before .before .before .before .before .pre))
 
-same-length : tie.Need-same-length
-same-length c = search needs
-
 returns : tie.Need-returns
 returns c = wrote-then (c .before .before .before .before .before .before .put-text .ensures) (c .before .before .put-decimal .ensures)
 
 pub put-titled-spec : {M : Type 1} → statement M
-put-titled-spec = tie.close (tie.spec put-text-requires put-decimal-requires same-length returns)
+put-titled-spec = tie.close (tie.spec put-text-requires put-decimal-requires (λ c. search needs) returns)

@@ -11,18 +11,6 @@ use Rattle.answers.proofs.read_place.Reads as read-place-reads
 use Rattle.answers.proofs.verdict_kind.Reads as verdict-kind-reads
 use Rattle.cutting.proofs.cut_parts.Reads as cut-parts-reads
 
-cut-parts-requires : tie.Need-cut-parts-requires
-cut-parts-requires c κs = search needs
-
-read-number-requires : tie.Need-read-number-requires
-read-number-requires c κs = search needs
-
-read-place-requires : tie.Need-read-place-requires
-read-place-requires c κs = search needs
-
-verdict-kind-requires : tie.Need-verdict-kind-requires
-verdict-kind-requires c κs = search needs
-
 returns : tie.Need-returns
 unfolding cutPartsTold
 returns c =
@@ -34,8 +22,8 @@ pub sheet-cut-spec : {M : Type 1} → statement M
 sheet-cut-spec =
     tie.close
     (tie.spec
-    cut-parts-requires
-    read-number-requires
-    read-place-requires
-    verdict-kind-requires
+    (λ c κs. search needs)
+    (λ c κs. search needs)
+    (λ c κs. search needs)
+    (λ c κs. search needs)
     returns)

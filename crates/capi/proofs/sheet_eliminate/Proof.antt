@@ -5,15 +5,6 @@ use borrow.Author.Needs.{needs}
 use Rattle.capi.proofs.sheet_eliminate.Statement.{statement}
 use Rattle.capi.proofs.sheet_eliminate.Tie as tie
 
-whole-requires : tie.Need-whole-requires
-whole-requires c κs = search needs
-
-eliminate-parts-requires : tie.Need-eliminate-parts-requires
-eliminate-parts-requires c κs = search needs
-
-outcome-number-requires : tie.Need-outcome-number-requires
-outcome-number-requires c κs = search needs
-
 returns : tie.Need-returns
 returns c =
     let d = c .before .before .before .before in
@@ -21,4 +12,4 @@ returns c =
 
 pub sheet-eliminate-spec : {M : Type 1} → statement M
 sheet-eliminate-spec =
-    tie.close (tie.spec whole-requires eliminate-parts-requires outcome-number-requires returns)
+    tie.close (tie.spec (λ c κs. search needs) (λ c κs. search needs) (λ c κs. search needs) returns)

@@ -9,15 +9,6 @@ use Rattle.answers.proofs.read_number.Reads as read-number-reads
 use Rattle.answers.proofs.read_place.Reads as read-place-reads
 use Rattle.cutting.proofs.read_parts.Reads as read-parts-reads
 
-read-parts-requires : tie.Need-read-parts-requires
-read-parts-requires c κs = search needs
-
-read-number-requires : tie.Need-read-number-requires
-read-number-requires c κs = search needs
-
-read-place-requires : tie.Need-read-place-requires
-read-place-requires c κs = search needs
-
 returns : tie.Need-returns
 unfolding readPartsTold
 returns c =
@@ -26,4 +17,4 @@ returns c =
 
 pub sheet-read-spec : {M : Type 1} → statement M
 sheet-read-spec =
-    tie.close (tie.spec read-parts-requires read-number-requires read-place-requires returns)
+    tie.close (tie.spec (λ c κs. search needs) (λ c κs. search needs) (λ c κs. search needs) returns)

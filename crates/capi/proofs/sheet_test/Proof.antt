@@ -8,18 +8,9 @@ use Rattle.answers.proofs.test_agrees.Reads as test-agrees-reads
 use Rattle.answers.proofs.test_number.Reads as test-number-reads
 use Rattle.sheet.proofs.test.Reads as test-reads
 
-test-requires : tie.Need-test-requires
-test-requires c κs = search needs
-
-test-number-requires : tie.Need-test-number-requires
-test-number-requires c κs = search needs
-
-test-agrees-requires : tie.Need-test-agrees-requires
-test-agrees-requires c κs = search needs
-
 returns : tie.Need-returns
 returns c = tested-out _ _ _ _ (c .before .before .test .ensures) (c .before .test-number .ensures) (c .test-agrees .ensures)
 
 pub sheet-test-spec : {M : Type 1} → statement M
 sheet-test-spec =
-    tie.close (tie.spec test-requires test-number-requires test-agrees-requires returns)
+    tie.close (tie.spec (λ c κs. search needs) (λ c κs. search needs) (λ c κs. search needs) returns)

@@ -8,18 +8,9 @@ use Rattle.answers.proofs.verdict_kind.Reads as verdict-kind-reads
 use Rattle.answers.proofs.verdict_number.Reads as verdict-number-reads
 use Rattle.sheet.proofs.verdict.Reads as verdict-reads
 
-verdict-requires : tie.Need-verdict-requires
-verdict-requires c κs = search needs
-
-verdict-number-requires : tie.Need-verdict-number-requires
-verdict-number-requires c κs = search needs
-
-verdict-kind-requires : tie.Need-verdict-kind-requires
-verdict-kind-requires c κs = search needs
-
 returns : tie.Need-returns
 returns c = verdict-out _ _ _ _ _ (c .before .before .before .verdict .ensures) (c .before .verdict-number .ensures _) (c .verdict-kind .ensures _)
 
 pub sheet-verdict-spec : {M : Type 1} → statement M
 sheet-verdict-spec =
-    tie.close (tie.spec verdict-requires verdict-number-requires verdict-kind-requires returns)
+    tie.close (tie.spec (λ c κs. search needs) (λ c κs. search needs) (λ c κs. search needs) returns)

@@ -5,15 +5,9 @@ use Rattle.compose.proofs.Composition.{composed-both}
 use Rattle.compose.proofs.compose.Statement.{statement}
 use Rattle.compose.proofs.compose.Tie as tie
 
-compose-values-requires : tie.Need-compose-values-requires
-compose-values-requires c κs = search needs
-
-mirror-requires : tie.Need-mirror-requires
-mirror-requires c κs = search needs
-
 returns : tie.Need-returns
 returns c =
     composed-both 16 _ _ _ _ _ _ _ _ _ _ (omega arith) (omega arith) (search needs) (c .before .before .compose-values .ensures) (c .mirror .ensures)
 
 pub compose-spec : {M : Type 1} → statement M
-compose-spec = tie.close (tie.spec compose-values-requires mirror-requires returns)
+compose-spec = tie.close (tie.spec (λ c κs. search needs) (λ c κs. search needs) returns)

@@ -14,23 +14,8 @@ Inv-loop rows₀ i j k ti dj dk was members c₀ rows c = (c ≤ 16) × Composin
 abbrev μ-loop : tie.MeasureT-loop
 μ-loop rows₀ i j k ti dj dk was members c₀ rows c = 16 - c
 
-made-requires : tie.Need-made-requires Inv-loop μ-loop
-made-requires c κs = search needs
-
 loop-holds : tie.Need-loop-holds Inv-loop μ-loop
 loop-holds c = (omega arith, filled-none 16 _ _ _ _)
-
-row-of-requires : tie.Need-row-of-requires Inv-loop μ-loop
-row-of-requires c κs = search needs
-
-put-requires : tie.Need-put-requires Inv-loop μ-loop
-put-requires c κs = search needs
-
-add-c : tie.Need-add-c Inv-loop μ-loop
-add-c c = search needs
-
-loop-less : tie.Need-loop-less Inv-loop μ-loop
-loop-less c = search needs
 
 loop-again : tie.Need-loop-again Inv-loop μ-loop
 loop-again c =
@@ -49,11 +34,11 @@ compose-values-spec =
     (tie.spec
     Inv-loop
     μ-loop
-    made-requires
+    (λ c κs. search needs)
     loop-holds
-    row-of-requires
-    put-requires
-    add-c
-    loop-less
+    (λ c κs. search needs)
+    (λ c κs. search needs)
+    (λ c. search needs)
+    (λ c. search needs)
     loop-again
     returns)

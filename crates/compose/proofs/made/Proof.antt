@@ -10,24 +10,6 @@ use Rattle.compose.proofs.Composition.{made-free, made-stated}
 use Rattle.compose.proofs.made.Statement.{statement}
 use Rattle.compose.proofs.made.Tie as tie
 
-reaches-requires : tie.Need-reaches-requires
-reaches-requires c κs = search needs
-
-all-rows-requires : tie.Need-all-rows-requires
-all-rows-requires c κs = search needs
-
-common-requires : tie.Need-common-requires
-common-requires c κs = search needs
-
-all-rows-requires-2 : tie.Need-all-rows-requires-2
-all-rows-requires-2 c κs = search needs
-
-transposed-requires : tie.Need-transposed-requires
-transposed-requires c κs = search needs
-
-common-requires-2 : tie.Need-common-requires-2
-common-requires-2 c κs = search needs
-
 columns : (c : tie.After-transposed) → (v a : ℕ) → v < 16 → a < 16 → hasIn (c .transposed .result) v a ≡ has (c .before .before .before .before .before .args .dk) v
 columns c v a l m = c .transposed .ensures v a l m ∙ c .before .all-rows2 .ensures a v m l
 
@@ -37,12 +19,6 @@ returns c =
     let w : e .before .before .before .before .before .before .args .was ≡ false = not-true _ (c .if1 .taken) in
     rw w
     (made-free _ _ _ _ _ _ _ _ _ _ _ _ (e .before .before .before .before .before .reaches .ensures) (e .before .before .before .before .all-rows .ensures) (e .before .before .before .common .ensures) (columns (e .before)) (e .common2 .ensures))
-
-block-at-requires : tie.Need-block-at-requires
-block-at-requires c κs = search needs
-
-common-requires-3 : tie.Need-common-requires-3
-common-requires-3 c κs = search needs
 
 returns-2 : tie.Need-returns-2
 returns-2 c =
@@ -57,13 +33,13 @@ pub made-spec : {M : Type 1} → statement M
 made-spec =
     tie.close
     (tie.spec
-    reaches-requires
-    all-rows-requires
-    common-requires
-    all-rows-requires-2
-    transposed-requires
-    common-requires-2
+    (λ c κs. search needs)
+    (λ c κs. search needs)
+    (λ c κs. search needs)
+    (λ c κs. search needs)
+    (λ c κs. search needs)
+    (λ c κs. search needs)
     returns
-    block-at-requires
-    common-requires-3
+    (λ c κs. search needs)
+    (λ c κs. search needs)
     returns-2)

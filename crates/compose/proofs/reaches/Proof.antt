@@ -17,9 +17,6 @@ Inv-loop rows i j k dj others₀ reached₀ rest₀ b₀ others reached rest b =
 abbrev μ-loop : tie.MeasureT-loop
 μ-loop rows i j k dj others₀ reached₀ rest₀ b₀ others reached rest b = 16 - b
 
-block-at-requires : tie.Need-block-at-requires Inv-loop μ-loop
-block-at-requires c κs = search needs
-
 loop-holds : tie.Need-loop-holds Inv-loop μ-loop
 loop-holds c = (omega arith, c .before .fits .dj .fits, rest-none _, lowered-none _, reached-none _ _ _ _ _ _ refl refl refl refl)
 
@@ -29,17 +26,8 @@ below c =
     let i = c .before .loop .inv in
     rest-below 16 _ _ _ (c .before .before .before .fits .dj .fits) (i .1) (i .2) (c .loop-test .taken)
 
-member-requires : tie.Need-member-requires Inv-loop μ-loop
-member-requires c κs = search needs
-
 row-requires : tie.Need-row-requires Inv-loop μ-loop
 row-requires c κs = let l = below (c .before .before) in search needs
-
-joined-requires : tie.Need-joined-requires Inv-loop μ-loop
-joined-requires c κs = search needs
-
-halved-requires : tie.Need-halved-requires Inv-loop μ-loop
-halved-requires c κs = search needs
 
 -- What is reached where the two ways meet.
 one-more : (c : tie.Joined1 Inv-loop μ-loop) →
@@ -58,9 +46,6 @@ one-more c =
     (w .1 .ensures) (w .2 .ensures) (i .4)))
     (λ w. rw (w .1) (reached-skips _ _ _ _ _ _ _ (d ∙ w .0 .left) (i .4)))
     (c .if1 .came)
-
-add-b : tie.Need-add-b Inv-loop μ-loop
-add-b c = search needs
 
 loop-less : tie.Need-loop-less Inv-loop μ-loop
 loop-less c = let l = below (c .before .before .before) in search needs
@@ -83,13 +68,13 @@ reaches-spec =
     (tie.spec
     Inv-loop
     μ-loop
-    block-at-requires
+    (λ c κs. search needs)
     loop-holds
-    member-requires
+    (λ c κs. search needs)
     row-requires
-    joined-requires
-    halved-requires
-    add-b
+    (λ c κs. search needs)
+    (λ c κs. search needs)
+    (λ c. search needs)
     loop-less
     loop-again
     returns)

@@ -24,36 +24,12 @@ abbrev μ-loop : tie.MeasureT-loop
 loop-holds : tie.Need-loop-holds Inv-loop μ-loop
 loop-holds c = (omega arith, sym (word-zero _))
 
-row-requires : tie.Need-row-requires Inv-loop μ-loop
-row-requires c κs = search needs
-
-both-requires : tie.Need-both-requires Inv-loop μ-loop
-both-requires c κs = search needs
-
-cast-members : tie.Need-cast-members Inv-loop μ-loop
-cast-members c = search needs
-
-cast-members-2 : tie.Need-cast-members-2 Inv-loop μ-loop
-cast-members-2 c = search needs
-
-shl-members : tie.Need-shl-members Inv-loop μ-loop
-shl-members c = search needs
-
-add-a : tie.Need-add-a Inv-loop μ-loop
-add-a c = search needs
-
-loop-less : tie.Need-loop-less Inv-loop μ-loop
-loop-less c = search needs
-
 loop-again : tie.Need-loop-again Inv-loop μ-loop
 loop-again c = (
   omega arith,
   digit-joins 65536 _ _ _ _ (pow-mono {j = 16} (omega arith)) (c .before .before .before .loop .inv .1)
       (partner-found 16 _ _ _ _ _ _ _ (c .before .row .ensures) (c .both .ensures)),
 )
-
-both-requires-2 : tie.Need-both-requires-2 Inv-loop μ-loop
-both-requires-2 c κs = search needs
 
 returns : tie.Need-returns Inv-loop μ-loop
 returns c = supported-cut 16 _ _ _ _ _ _ _
@@ -67,13 +43,13 @@ supported-spec =
     Inv-loop
     μ-loop
     loop-holds
-    row-requires
-    both-requires
-    cast-members
-    cast-members-2
-    shl-members
-    add-a
-    loop-less
+    (λ c κs. search needs)
+    (λ c κs. search needs)
+    (λ c. search needs)
+    (λ c. search needs)
+    (λ c. search needs)
+    (λ c. search needs)
+    (λ c. search needs)
     loop-again
-    both-requires-2
+    (λ c κs. search needs)
     returns)

@@ -9,15 +9,9 @@ use Rattle.lines.specs.Parts.{liveLine}
 use Rattle.lines.proofs.put_live.Statement.{statement}
 use Rattle.lines.proofs.put_live.Tie as tie
 
-slice-aggregate-put-titled : tie.Need-slice-aggregate-put-titled
-slice-aggregate-put-titled c = search needs
-
 put-titled-requires : tie.Need-put-titled-requires
 unfolding liveLine ascii
 put-titled-requires c κs = omega (arith, simp length-append at (c .before .before .before .pre))
-
-slice-aggregate-put-text : tie.Need-slice-aggregate-put-text
-slice-aggregate-put-text c = search needs
 
 put-text-requires : tie.Need-put-text-requires
 unfolding liveLine ascii
@@ -27,15 +21,9 @@ put-hex4-requires : tie.Need-put-hex4-requires
 unfolding liveLine ascii hex4
 put-hex4-requires c κs = omega (arith, simp length-append at (c .before .before .before .before .before .before .before .before .before .before .before .before .pre))
 
-slice-aggregate-put-text-2 : tie.Need-slice-aggregate-put-text-2
-slice-aggregate-put-text-2 c = search needs
-
 put-text-requires-2 : tie.Need-put-text-requires-2
 unfolding liveLine ascii
 put-text-requires-2 c κs = omega (arith, simp length-append at (c .before .before .before .before .before .before .before .before .before .before .before .before .before .before .before .before .before .pre))
-
-same-length : tie.Need-same-length
-same-length c = search needs
 
 returns : tie.Need-returns
 unfolding liveLine ascii
@@ -50,12 +38,12 @@ pub put-live-spec : {M : Type 1} → statement M
 put-live-spec =
     tie.close
     (tie.spec
-    slice-aggregate-put-titled
+    (λ c. search needs)
     put-titled-requires
-    slice-aggregate-put-text
+    (λ c. search needs)
     put-text-requires
     put-hex4-requires
-    slice-aggregate-put-text-2
+    (λ c. search needs)
     put-text-requires-2
-    same-length
+    (λ c. search needs)
     returns)

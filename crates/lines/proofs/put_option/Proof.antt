@@ -5,30 +5,15 @@ use Rattle.lines.proofs.Laws.{option-live, option-follows}
 use Rattle.lines.proofs.put_option.Statement.{statement}
 use Rattle.lines.proofs.put_option.Tie as tie
 
-add-number : tie.Need-add-number
-add-number c = search needs
-
 put-live-requires : tie.Need-put-live-requires
 put-live-requires c κs = let s = c .before .before .before in rw (option-live _ _ (s .args .list) (c .before .if1 .taken)) at (s .pre .1)
-
-same-length : tie.Need-same-length
-same-length c = search needs
 
 returns : tie.Need-returns
 returns c = rw (option-live _ _ _ (c .before .before .before .before .if1 .taken)) (c .before .before .put-live .ensures)
 
-slice-aggregate-put-pair : tie.Need-slice-aggregate-put-pair
-slice-aggregate-put-pair c = search needs
-
-slice-aggregate-put-pair-2 : tie.Need-slice-aggregate-put-pair-2
-slice-aggregate-put-pair-2 c = search needs
-
 put-pair-requires : tie.Need-put-pair-requires
 unfolding ascii
 put-pair-requires c κs = let s = c .before .before .before .before .before in rw (option-follows _ _ (s .args .list) (c .before .before .before .if1 .left)) at (s .pre .1)
-
-same-length-2 : tie.Need-same-length-2
-same-length-2 c = search needs
 
 returns-2 : tie.Need-returns-2
 unfolding ascii
@@ -38,12 +23,12 @@ pub put-option-spec : {M : Type 1} → statement M
 put-option-spec =
     tie.close
     (tie.spec
-    add-number
+    (λ c. search needs)
     put-live-requires
-    same-length
+    (λ c. search needs)
     returns
-    slice-aggregate-put-pair
-    slice-aggregate-put-pair-2
+    (λ c. search needs)
+    (λ c. search needs)
     put-pair-requires
-    same-length-2
+    (λ c. search needs)
     returns-2)

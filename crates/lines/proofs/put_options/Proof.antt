@@ -20,26 +20,11 @@ loop-holds : tie.Need-loop-holds Inv-loop μ-loop
 unfolding optionLines
 loop-holds c = (search needs, wrote-none _ _ (omega arith))
 
-element-copy-out-put-option : tie.Need-element-copy-out-put-option Inv-loop μ-loop
-element-copy-out-put-option c = search needs
-
-mul-put-option : tie.Need-mul-put-option Inv-loop μ-loop
-mul-put-option c = search needs
-
-element-copy-out-put-option-2 : tie.Need-element-copy-out-put-option-2 Inv-loop μ-loop
-element-copy-out-put-option-2 c = search needs
-
 put-option-requires : tie.Need-put-option-requires Inv-loop μ-loop
 put-option-requires c κs =
     let l = c .before .before .before .before in
     let s = l .before .before in
     (omega arith, lines-room (s .args .leaders .now) (s .args .lists .now) (s .args .n) (l .loop .i) (omega arith) (s .pre .1) (l .loop .inv .1))
-
-add-i : tie.Need-add-i Inv-loop μ-loop
-add-i c = search needs
-
-loop-less : tie.Need-loop-less Inv-loop μ-loop
-loop-less c = search needs
 
 loop-again : tie.Need-loop-again Inv-loop μ-loop
 loop-again c =
@@ -47,9 +32,6 @@ loop-again c =
     let l = p .before .before .before .before .before in
     let s = l .before .before in
     (search needs, lines-turn (s .args .leaders .now) (s .args .lists .now) (l .loop .i) (l .loop .inv .1) (p .put-option .ensures))
-
-same-length : tie.Need-same-length Inv-loop μ-loop
-same-length c = search needs
 
 returns : tie.Need-returns Inv-loop μ-loop
 returns c = let e : c .before .loop .i ≡ c .before .before .before .args .n = omega arith in rw e at (c .before .loop .inv .1)
@@ -61,12 +43,12 @@ put-options-spec =
     Inv-loop
     μ-loop
     loop-holds
-    element-copy-out-put-option
-    mul-put-option
-    element-copy-out-put-option-2
+    (λ c. search needs)
+    (λ c. search needs)
+    (λ c. search needs)
     put-option-requires
-    add-i
-    loop-less
+    (λ c. search needs)
+    (λ c. search needs)
     loop-again
-    same-length
+    (λ c. search needs)
     returns)

@@ -18,9 +18,6 @@ put-titled-requires-2 c κs =
     let f = c .before .before .before in
     simp length-append (omega (arith, simp length-append at (f .before .before .before .before .before .pre), simp length-append at (f .put-titled .ensures .ends)))
 
-slice-aggregate-put-text : tie.Need-slice-aggregate-put-text
-slice-aggregate-put-text c = search needs
-
 put-text-requires : tie.Need-put-text-requires
 unfolding pairLine ascii
 put-text-requires c κs =
@@ -28,9 +25,6 @@ put-text-requires c κs =
     let f = s .before .before .before .before in
     omega
     (arith, simp length-append at (f .before .before .before .before .before .pre), simp length-append at (f .put-titled .ensures .ends), simp length-append at (s .put-titled2 .ensures .ends))
-
-same-length : tie.Need-same-length
-same-length c = search needs
 
 returns : tie.Need-returns
 unfolding ascii
@@ -46,7 +40,7 @@ put-pair-spec =
     (tie.spec
     put-titled-requires
     put-titled-requires-2
-    slice-aggregate-put-text
+    (λ c. search needs)
     put-text-requires
-    same-length
+    (λ c. search needs)
     returns)

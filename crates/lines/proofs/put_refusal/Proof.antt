@@ -5,18 +5,9 @@ use Rattle.lines.specs.Parts.{pairLine}
 use Rattle.lines.proofs.put_refusal.Statement.{statement}
 use Rattle.lines.proofs.put_refusal.Tie as tie
 
-slice-aggregate-put-pair : tie.Need-slice-aggregate-put-pair
-slice-aggregate-put-pair c = search needs
-
-slice-aggregate-put-pair-2 : tie.Need-slice-aggregate-put-pair-2
-slice-aggregate-put-pair-2 c = search needs
-
 put-pair-requires : tie.Need-put-pair-requires
 unfolding refusedText pairLine ascii
 put-pair-requires c κs = c .before .before .before .before .pre
-
-same-length : tie.Need-same-length
-same-length c = search needs
 
 returns : tie.Need-returns
 unfolding refusedText pairLine ascii
@@ -26,8 +17,8 @@ pub put-refusal-spec : {M : Type 1} → statement M
 put-refusal-spec =
     tie.close
     (tie.spec
-    slice-aggregate-put-pair
-    slice-aggregate-put-pair-2
+    (λ c. search needs)
+    (λ c. search needs)
     put-pair-requires
-    same-length
+    (λ c. search needs)
     returns)

@@ -5,9 +5,6 @@ use Rattle.rows.proofs.Sides.{block-is, block-lt}
 use Rattle.rows.proofs.block_at.Statement.{statement}
 use Rattle.rows.proofs.block_at.Tie as tie
 
-place-requires : tie.Need-place-requires
-place-requires c κs = search needs
-
 sixteen-requires : tie.Need-sixteen-requires
 unfolding place
 sixteen-requires c κs = search needs
@@ -20,4 +17,4 @@ returns c =
     (block-is (args .rows .now) (args .i) (args .j) _ _ e (x .ensures .0), block-lt (args .rows .now) (args .i) (args .j) _ e (x .ensures .1))
 
 pub block-at-spec : {M : Type 1} → statement M
-block-at-spec = tie.close (tie.spec place-requires sixteen-requires returns)
+block-at-spec = tie.close (tie.spec (λ c κs. search needs) sixteen-requires returns)

@@ -7,9 +7,6 @@ use Rattle.rows.specs.Rows.{place}
 use Rattle.rows.proofs.put.Statement.{statement}
 use Rattle.rows.proofs.put.Tie as tie
 
-place-requires : tie.Need-place-requires
-place-requires c κs = search needs
-
 mul-rows : tie.Need-mul-rows
 unfolding place
 mul-rows c = search needs
@@ -22,4 +19,4 @@ returns : tie.Need-returns
 returns c = ap (λ (k : ℕ). set (c .before .args .rows .now) k (c .before .args .x)) (c .place .ensures)
 
 pub put-spec : {M : Type 1} → statement M
-put-spec = tie.close (tie.spec place-requires mul-rows element-write-rows returns)
+put-spec = tie.close (tie.spec (λ c κs. search needs) mul-rows element-write-rows returns)

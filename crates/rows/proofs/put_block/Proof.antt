@@ -8,9 +8,6 @@ use Rattle.rows.proofs.Sides.{block-put}
 use Rattle.rows.proofs.put_block.Statement.{statement}
 use Rattle.rows.proofs.put_block.Tie as tie
 
-place-requires : tie.Need-place-requires
-place-requires c κs = search needs
-
 put-sixteen-requires : tie.Need-put-sixteen-requires
 unfolding place
 put-sixteen-requires c κs = search needs
@@ -23,4 +20,4 @@ returns c =
     (c .put-sixteen .ensures ∙ ap (λ (k : ℕ). putSixteen (a .rows .now) k (a .x)) (c .before .place .ensures))
 
 pub put-block-spec : {M : Type 1} → statement M
-put-block-spec = tie.close (tie.spec place-requires put-sixteen-requires returns)
+put-block-spec = tie.close (tie.spec (λ c κs. search needs) put-sixteen-requires returns)

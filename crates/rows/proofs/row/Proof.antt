@@ -7,9 +7,6 @@ use Rattle.rows.specs.Rows.{place, rowAt}
 use Rattle.rows.proofs.row.Statement.{statement}
 use Rattle.rows.proofs.row.Tie as tie
 
-place-requires : tie.Need-place-requires
-place-requires c κs = search needs
-
 mul-result : tie.Need-mul-result
 unfolding place
 mul-result c = search needs
@@ -23,4 +20,4 @@ unfolding rowAt
 returns c = ap (λ (k : ℕ). getD (c .before .before .args .rows .now) k 0) (c .before .place .ensures)
 
 pub row-spec : {M : Type 1} → statement M
-row-spec = tie.close (tie.spec place-requires mul-result element-copy-out-result returns)
+row-spec = tie.close (tie.spec (λ c κs. search needs) mul-result element-copy-out-result returns)

@@ -30,15 +30,6 @@ returns-5 : tie.Need-returns-5
 unfolding sizeless judgedNumber
 returns-5 c = sym (same-variable _ _ _ (named (c .before)) (c .if5 .taken))
 
-sub-judge-pair : tie.Need-sub-judge-pair
-sub-judge-pair c = search needs
-
-sub-judge-pair-2 : tie.Need-sub-judge-pair-2
-sub-judge-pair-2 c = search needs
-
-judge-pair-requires : tie.Need-judge-pair-requires
-judge-pair-requires c κs = search needs
-
 returns-6 : tie.Need-returns-6
 unfolding sizeless
 returns-6 c =
@@ -46,4 +37,4 @@ returns-6 c =
     c .judge-pair .ensures _ ∙ pair-decides _ _ _ (named (e .before)) (e .if5 .left)
 
 pub judge-spec : {M : Type 1} → statement M
-judge-spec = tie.close (tie.spec returns returns-2 returns-3 returns-4 returns-5 sub-judge-pair sub-judge-pair-2 judge-pair-requires returns-6)
+judge-spec = tie.close (tie.spec returns returns-2 returns-3 returns-4 returns-5 (λ c. search needs) (λ c. search needs) (λ c κs. search needs) returns-6)

@@ -8,28 +8,13 @@ use Rattle.search.proofs.Judging.{leader-led, follower-led, not-stated,
 use Rattle.search.proofs.judge_pair.Statement.{statement}
 use Rattle.search.proofs.judge_pair.Tie as tie
 
-element-copy-out-if1 : tie.Need-element-copy-out-if1
-element-copy-out-if1 c = search needs
-
 returns : tie.Need-returns
 unfolding sizeless judgedNumber free
 returns c n = sym (leader-led _ _ _ (ne-eqb _ _ (c .if1 .taken)))
 
-element-copy-out-if2 : tie.Need-element-copy-out-if2
-element-copy-out-if2 c = search needs
-
 returns-2 : tie.Need-returns-2
 unfolding sizeless judgedNumber free
 returns-2 c n = sym (follower-led _ _ _ (ne-eqb _ _ (c .if2 .taken)))
-
-mul-member : tie.Need-mul-member
-mul-member c = search needs
-
-element-copy-out-member : tie.Need-element-copy-out-member
-element-copy-out-member c = search needs
-
-member-requires : tie.Need-member-requires
-member-requires c κs = search needs
 
 returns-3 : tie.Need-returns-3
 unfolding sizeless judgedNumber free
@@ -37,21 +22,6 @@ returns-3 c n =
     let e = c .before .before .before in
     sym (not-stated _ _ _ (eq-eqb _ _ (e .before .before .if1 .left)) (eq-eqb _ _ (e .if2 .left))
     (sym (c .before .member .ensures) ∙ not-true _ (c .if3 .taken)))
-
-mul-partners-within : tie.Need-mul-partners-within
-mul-partners-within c = search needs
-
-element-copy-out-partners-within : tie.Need-element-copy-out-partners-within
-element-copy-out-partners-within c = search needs
-
-mul-partners-within-2 : tie.Need-mul-partners-within-2
-mul-partners-within-2 c = search needs
-
-element-copy-out-partners-within-2 : tie.Need-element-copy-out-partners-within-2
-element-copy-out-partners-within-2 c = search needs
-
-partners-within-requires : tie.Need-partners-within-requires
-partners-within-requires c κs = search needs
 
 returns-4 : tie.Need-returns-4
 unfolding sizeless judgedNumber free
@@ -81,18 +51,18 @@ pub judge-pair-spec : {M : Type 1} → statement M
 judge-pair-spec =
     tie.close
     (tie.spec
-    element-copy-out-if1
+    (λ c. search needs)
     returns
-    element-copy-out-if2
+    (λ c. search needs)
     returns-2
-    mul-member
-    element-copy-out-member
-    member-requires
+    (λ c. search needs)
+    (λ c. search needs)
+    (λ c κs. search needs)
     returns-3
-    mul-partners-within
-    element-copy-out-partners-within
-    mul-partners-within-2
-    element-copy-out-partners-within-2
-    partners-within-requires
+    (λ c. search needs)
+    (λ c. search needs)
+    (λ c. search needs)
+    (λ c. search needs)
+    (λ c κs. search needs)
     returns-4
     returns-5)

@@ -32,15 +32,6 @@ abbrev μ-search : tie.MeasureT-search
 search-holds : tie.Need-search-holds Inv-loop μ-loop Inv-search μ-search
 search-holds c = (omega arith, refl, λ x l. absurd (let b : ⊥ = omega arith in b))
 
-element-copy-out-if1 : tie.Need-element-copy-out-if1 Inv-loop μ-loop Inv-search μ-search
-element-copy-out-if1 c = search needs
-
-add-i : tie.Need-add-i Inv-loop μ-loop Inv-search μ-search
-add-i c = search needs
-
-search-less : tie.Need-search-less Inv-loop μ-loop Inv-search μ-search
-search-less c = search needs
-
 search-again : tie.Need-search-again Inv-loop μ-loop Inv-search μ-search
 unfolding sizeless
 search-again c =
@@ -50,27 +41,6 @@ search-again c =
 loop-holds : tie.Need-loop-holds Inv-loop μ-loop Inv-search μ-search
 loop-holds c = (omega arith, c .before .before .before .search .inv .1, λ x l. absurd (let b : ⊥ = omega arith in b))
 
-add-judge : tie.Need-add-judge Inv-loop μ-loop Inv-search μ-search
-add-judge c = search needs
-
-add-judge-2 : tie.Need-add-judge-2 Inv-loop μ-loop Inv-search μ-search
-add-judge-2 c = search needs
-
-judge-requires : tie.Need-judge-requires Inv-loop μ-loop Inv-search μ-search
-judge-requires c κs = search needs
-
-enum-told : tie.Need-enum-told Inv-loop μ-loop Inv-search μ-search
-enum-told c = search needs
-
-enum-told-2 : tie.Need-enum-told-2 Inv-loop μ-loop Inv-search μ-search
-enum-told-2 c = search needs
-
-add-j : tie.Need-add-j Inv-loop μ-loop Inv-search μ-search
-add-j c = search needs
-
-loop-less : tie.Need-loop-less Inv-loop μ-loop Inv-search μ-search
-loop-less c = search needs
-
 loop-again : tie.Need-loop-again Inv-loop μ-loop Inv-search μ-search
 loop-again c =
     let l = c .before .before .before .before .loop in (
@@ -79,12 +49,6 @@ loop-again c =
       below-more _ _ (l .inv .2)
           (judged-refused _ _ _ _ (ap judgedNumber (sym (c .enum-told2 .given .1)) ∙ c .before .before .judge .ensures)),
     )
-
-add-i-2 : tie.Need-add-i-2 Inv-loop μ-loop Inv-search μ-search
-add-i-2 c = search needs
-
-search-less-2 : tie.Need-search-less-2 Inv-loop μ-loop Inv-search μ-search
-search-less-2 c = search needs
 
 search-again-2 : tie.Need-search-again-2 Inv-loop μ-loop Inv-search μ-search
 unfolding sizeless
@@ -114,21 +78,21 @@ next-pair-spec =
     Inv-search
     μ-search
     search-holds
-    element-copy-out-if1
-    add-i
-    search-less
+    (λ c. search needs)
+    (λ c. search needs)
+    (λ c. search needs)
     search-again
     loop-holds
-    add-judge
-    add-judge-2
-    judge-requires
-    enum-told
-    enum-told-2
-    add-j
-    loop-less
+    (λ c. search needs)
+    (λ c. search needs)
+    (λ c κs. search needs)
+    (λ c. search needs)
+    (λ c. search needs)
+    (λ c. search needs)
+    (λ c. search needs)
     loop-again
-    add-i-2
-    search-less-2
+    (λ c. search needs)
+    (λ c. search needs)
     search-again-2
     returns
     returns-2)

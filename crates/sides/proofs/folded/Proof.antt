@@ -4,11 +4,8 @@ use Rattle.sides.proofs.Storing.{fold-has}
 use Rattle.sides.proofs.folded.Statement.{statement}
 use Rattle.sides.proofs.folded.Tie as tie
 
-cast-result : tie.Need-cast-result
-cast-result c = search needs
-
 returns : tie.Need-returns
 returns c = fold-has _
 
 pub folded-spec : {M : Type 1} → statement M
-folded-spec = tie.close (tie.spec cast-result returns)
+folded-spec = tie.close (tie.spec (λ c. search needs) returns)

@@ -6,23 +6,11 @@ use Rattle.sides.proofs.Storing.{kept-all, kept-none, kept-some}
 use Rattle.sides.proofs.kept.Statement.{statement}
 use Rattle.sides.proofs.kept.Tie as tie
 
-add-if1 : tie.Need-add-if1
-add-if1 c = search needs
-
 returns : tie.Need-returns
 returns c = λ q v l m. kept-all _ _ _ q v l m (omega arith)
 
 returns-2 : tie.Need-returns-2
 returns-2 c = λ q v l m. kept-none _ _ _ q v l m (omega arith)
-
-sub-result : tie.Need-sub-result
-sub-result c = search needs
-
-mul-result : tie.Need-mul-result
-mul-result c = search needs
-
-shl-result : tie.Need-shl-result
-shl-result c = search needs
 
 sub-result-2 : tie.Need-sub-result-2
 sub-result-2 c = shl-pos 48 1 _ _ (omega arith) (omega arith) (omega arith)
@@ -33,4 +21,4 @@ returns-3 c = λ q v l m. kept-some _ _ _ q v l m (omega arith) (omega arith)
 pub kept-spec : {M : Type 1} → statement M
 kept-spec =
     tie.close
-    (tie.spec add-if1 returns returns-2 sub-result mul-result shl-result sub-result-2 returns-3)
+    (tie.spec (λ c. search needs) returns returns-2 (λ c. search needs) (λ c. search needs) (λ c. search needs) sub-result-2 returns-3)

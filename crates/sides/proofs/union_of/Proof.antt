@@ -4,11 +4,8 @@ use Rattle.sides.proofs.Storing.{union-has}
 use Rattle.sides.proofs.union_of.Statement.{statement}
 use Rattle.sides.proofs.union_of.Tie as tie
 
-folded-requires : tie.Need-folded-requires
-folded-requires c κs = search needs
-
 returns : tie.Need-returns
 returns c = union-has _ _ (c .folded .ensures)
 
 pub union-of-spec : {M : Type 1} → statement M
-union-of-spec = tie.close (tie.spec folded-requires returns)
+union-of-spec = tie.close (tie.spec (λ c κs. search needs) returns)

@@ -16,15 +16,6 @@ abbrev μ-loop : tie.MeasureT-loop
 loop-holds : tie.Need-loop-holds Inv-loop μ-loop
 loop-holds c = search (rows-none, needs)
 
-row-field-requires : tie.Need-row-field-requires Inv-loop μ-loop
-row-field-requires c κs = search needs
-
-enum-known-row : tie.Need-enum-known-row Inv-loop μ-loop
-enum-known-row c = search needs
-
-enum-told : tie.Need-enum-told Inv-loop μ-loop
-enum-told c = search needs
-
 returns : tie.Need-returns Inv-loop μ-loop
 returns c =
     rw (c .enum-told .given .1)
@@ -34,15 +25,6 @@ returns c =
 cast-put : tie.Need-cast-put Inv-loop μ-loop
 cast-put c =
     row-fits _ _ _ _ _ (omega arith) (read-got _ _ _ _ (c .before .before .before .before .row-field .ensures) (c .before .before .row .given .1))
-
-put-requires : tie.Need-put-requires Inv-loop μ-loop
-put-requires c κs = search needs
-
-add-a : tie.Need-add-a Inv-loop μ-loop
-add-a c = search needs
-
-loop-less : tie.Need-loop-less Inv-loop μ-loop
-loop-less c = search needs
 
 loop-again : tie.Need-loop-again Inv-loop μ-loop
 loop-again c =
@@ -61,13 +43,13 @@ walk-rows-spec =
     Inv-loop
     μ-loop
     loop-holds
-    row-field-requires
-    enum-known-row
-    enum-told
+    (λ c κs. search needs)
+    (λ c. search needs)
+    (λ c. search needs)
     returns
     cast-put
-    put-requires
-    add-a
-    loop-less
+    (λ c κs. search needs)
+    (λ c. search needs)
+    (λ c. search needs)
     loop-again
     returns-2)

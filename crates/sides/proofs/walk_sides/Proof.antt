@@ -5,15 +5,6 @@ use Rattle.sides.proofs.Storing.{sides-refused, sides-walked}
 use Rattle.sides.proofs.walk_sides.Statement.{statement}
 use Rattle.sides.proofs.walk_sides.Tie as tie
 
-walk-rows-requires : tie.Need-walk-rows-requires
-walk-rows-requires c κs = search needs
-
-enum-known-body : tie.Need-enum-known-body
-enum-known-body c = search needs
-
-enum-told : tie.Need-enum-told
-enum-told c = search needs
-
 returns : tie.Need-returns
 returns c =
     rw (c .enum-told .given .1) (sides-refused _ _ _ _ _ _ _ _ _ (c .before .before .walk-rows .ensures) _ _ (c .enum-told .given .1))
@@ -30,4 +21,4 @@ returns-2 c =
 pub walk-sides-spec : {M : Type 1} → statement M
 walk-sides-spec =
     tie.close
-    (tie.spec walk-rows-requires enum-known-body enum-told returns mirror-requires returns-2)
+    (tie.spec (λ c κs. search needs) (λ c. search needs) (λ c. search needs) returns mirror-requires returns-2)

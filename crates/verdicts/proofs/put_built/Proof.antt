@@ -8,9 +8,6 @@ use Rattle.verdicts.specs.Parts.{builtText}
 use Rattle.verdicts.proofs.put_built.Statement.{statement}
 use Rattle.verdicts.proofs.put_built.Tie as tie
 
-slice-aggregate-put-text : tie.Need-slice-aggregate-put-text
-slice-aggregate-put-text c = search needs
-
 put-text-requires : tie.Need-put-text-requires
 unfolding builtText ascii
 put-text-requires c κs = omega (arith, simp length-append at (c .before .before .before .pre .1))
@@ -19,15 +16,9 @@ put-values-requires : tie.Need-put-values-requires
 unfolding builtText ascii
 put-values-requires c κs = omega (arith, simp length-append at (c .before .before .before .before .before .before .before .pre .1))
 
-slice-aggregate-put-text-2 : tie.Need-slice-aggregate-put-text-2
-slice-aggregate-put-text-2 c = search needs
-
 put-text-requires-2 : tie.Need-put-text-requires-2
 unfolding builtText ascii
 put-text-requires-2 c κs = omega (arith, simp length-append at (c .before .before .before .before .before .before .before .before .before .before .before .before .pre .1))
-
-same-length : tie.Need-same-length
-same-length c = search needs
 
 returns : tie.Need-returns
 unfolding builtText ascii
@@ -41,10 +32,10 @@ pub put-built-spec : {M : Type 1} → statement M
 put-built-spec =
     tie.close
     (tie.spec
-    slice-aggregate-put-text
+    (λ c. search needs)
     put-text-requires
     put-values-requires
-    slice-aggregate-put-text-2
+    (λ c. search needs)
     put-text-requires-2
-    same-length
+    (λ c. search needs)
     returns)

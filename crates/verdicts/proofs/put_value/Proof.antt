@@ -5,15 +5,9 @@ use Rattle.verdicts.specs.Parts.{valueText}
 use Rattle.verdicts.proofs.put_value.Statement.{statement}
 use Rattle.verdicts.proofs.put_value.Tie as tie
 
-slice-aggregate-put-titled : tie.Need-slice-aggregate-put-titled
-slice-aggregate-put-titled c = search needs
-
 put-titled-requires : tie.Need-put-titled-requires
 unfolding valueText ascii
 put-titled-requires c κs = search needs
-
-same-length : tie.Need-same-length
-same-length c = search needs
 
 returns : tie.Need-returns
 unfolding valueText ascii
@@ -21,4 +15,4 @@ returns c = c .before .before .put-titled .ensures
 
 pub put-value-spec : {M : Type 1} → statement M
 put-value-spec =
-    tie.close (tie.spec slice-aggregate-put-titled put-titled-requires same-length returns)
+    tie.close (tie.spec (λ c. search needs) put-titled-requires (λ c. search needs) returns)

@@ -20,20 +20,11 @@ loop-holds : tie.Need-loop-holds Inv-loop μ-loop
 unfolding valueTexts
 loop-holds c = (search needs, wrote-none _ _ (omega arith))
 
-element-copy-out-put-value : tie.Need-element-copy-out-put-value Inv-loop μ-loop
-element-copy-out-put-value c = search needs
-
 put-value-requires : tie.Need-put-value-requires Inv-loop μ-loop
 put-value-requires c κs =
     let l = c .before .before .before in
     let s = l .before .before in
     values-room (s .args .solution .now) (s .args .n) (l .loop .i) (omega arith) (s .pre .1) (l .loop .inv .1)
-
-add-i : tie.Need-add-i Inv-loop μ-loop
-add-i c = search needs
-
-loop-less : tie.Need-loop-less Inv-loop μ-loop
-loop-less c = search needs
 
 loop-again : tie.Need-loop-again Inv-loop μ-loop
 loop-again c =
@@ -41,9 +32,6 @@ loop-again c =
     let l = p .before .before .before .before in
     let s = l .before .before in
     (search needs, values-turn (s .args .solution .now) (l .loop .i) (l .loop .inv .1) (p .put-value .ensures))
-
-same-length : tie.Need-same-length Inv-loop μ-loop
-same-length c = search needs
 
 returns : tie.Need-returns Inv-loop μ-loop
 returns c = let e : c .before .loop .i ≡ c .before .before .before .args .n = omega arith in rw e at (c .before .loop .inv .1)
@@ -55,10 +43,10 @@ put-values-spec =
     Inv-loop
     μ-loop
     loop-holds
-    element-copy-out-put-value
+    (λ c. search needs)
     put-value-requires
-    add-i
-    loop-less
+    (λ c. search needs)
+    (λ c. search needs)
     loop-again
-    same-length
+    (λ c. search needs)
     returns)

@@ -27,12 +27,6 @@ value-completed-requires c κs = (
 slice-write-values : tie.Need-slice-write-values Inv-loop μ-loop
 slice-write-values c = omega (arith, c .before .before .before .before .before .pre .led-length, c .before .before .before .loop .inv .1 .same-length)
 
-add-i : tie.Need-add-i Inv-loop μ-loop
-add-i c = search needs
-
-loop-less : tie.Need-loop-less Inv-loop μ-loop
-loop-less c = search needs
-
 loop-again : tie.Need-loop-again Inv-loop μ-loop
 loop-again c = (
   omega arith,
@@ -54,8 +48,8 @@ complete-values-spec =
     loop-holds
     value-completed-requires
     slice-write-values
-    add-i
-    loop-less
+    (λ c. search needs)
+    (λ c. search needs)
     loop-again
     same-length
     returns)

@@ -20,24 +20,6 @@ loop-holds : tie.Need-loop-holds Inv-loop μ-loop
 unfolding every
 loop-holds c = (omega arith, refl)
 
-element-copy-out-domain-open : tie.Need-element-copy-out-domain-open Inv-loop μ-loop
-element-copy-out-domain-open c = search needs
-
-mul-domain-open : tie.Need-mul-domain-open Inv-loop μ-loop
-mul-domain-open c = search needs
-
-element-copy-out-domain-open-2 : tie.Need-element-copy-out-domain-open-2 Inv-loop μ-loop
-element-copy-out-domain-open-2 c = search needs
-
-domain-open-requires : tie.Need-domain-open-requires Inv-loop μ-loop
-domain-open-requires c κs = search needs
-
-add-i : tie.Need-add-i Inv-loop μ-loop
-add-i c = search needs
-
-loop-less : tie.Need-loop-less Inv-loop μ-loop
-loop-less c = search needs
-
 loop-again : tie.Need-loop-again Inv-loop μ-loop
 loop-again c = (omega arith, test-joins _ _ _ _ (c .before .before .before .before .loop .inv .1) (c .domain-open .ensures))
 
@@ -52,11 +34,11 @@ domains-open-spec =
     Inv-loop
     μ-loop
     loop-holds
-    element-copy-out-domain-open
-    mul-domain-open
-    element-copy-out-domain-open-2
-    domain-open-requires
-    add-i
-    loop-less
+    (λ c. search needs)
+    (λ c. search needs)
+    (λ c. search needs)
+    (λ c κs. search needs)
+    (λ c. search needs)
+    (λ c. search needs)
     loop-again
     returns)

@@ -20,26 +20,8 @@ loop-holds : tie.Need-loop-holds Inv-loop μ-loop
 unfolding every
 loop-holds c = (omega arith, refl)
 
-element-copy-out-fresh-value : tie.Need-element-copy-out-fresh-value Inv-loop μ-loop
-element-copy-out-fresh-value c = search needs
-
-mul-fresh-value : tie.Need-mul-fresh-value Inv-loop μ-loop
-mul-fresh-value c = search needs
-
-element-copy-out-fresh-value-2 : tie.Need-element-copy-out-fresh-value-2 Inv-loop μ-loop
-element-copy-out-fresh-value-2 c = search needs
-
-element-copy-out-fresh-value-3 : tie.Need-element-copy-out-fresh-value-3 Inv-loop μ-loop
-element-copy-out-fresh-value-3 c = search needs
-
 fresh-value-requires : tie.Need-fresh-value-requires Inv-loop μ-loop
 fresh-value-requires c κs = c .before .before .before .before .before .pre .1 _
-
-add-i : tie.Need-add-i Inv-loop μ-loop
-add-i c = search needs
-
-loop-less : tie.Need-loop-less Inv-loop μ-loop
-loop-less c = search needs
 
 loop-again : tie.Need-loop-again Inv-loop μ-loop
 loop-again c = (omega arith, test-joins _ _ _ _ (c .before .before .before .before .before .loop .inv .1) (c .fresh-value .ensures))
@@ -55,12 +37,12 @@ fresh-parts-spec =
     Inv-loop
     μ-loop
     loop-holds
-    element-copy-out-fresh-value
-    mul-fresh-value
-    element-copy-out-fresh-value-2
-    element-copy-out-fresh-value-3
+    (λ c. search needs)
+    (λ c. search needs)
+    (λ c. search needs)
+    (λ c. search needs)
     fresh-value-requires
-    add-i
-    loop-less
+    (λ c. search needs)
+    (λ c. search needs)
     loop-again
     returns)

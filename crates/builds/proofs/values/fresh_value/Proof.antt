@@ -11,16 +11,10 @@ use Rattle.builds.proofs.values.fresh_value.Tie as tie
 returns : tie.Need-returns
 returns c = fresh-led _ _ _ (c .if1 .taken)
 
-wide-requires : tie.Need-wide-requires
-wide-requires c κs = search needs
-
-full-requires : tie.Need-full-requires
-full-requires c κs = search needs
-
 returns-2 : tie.Need-returns-2
 returns-2 c =
     fresh-live _ _ _ _ (c .before .before .if1 .left)
     (c .full .ensures ∙ ap (λ (k : ℕ). word 16 (λ (v : ℕ). ltb v k)) (c .before .wide .ensures))
 
 pub fresh-value-spec : {M : Type 1} → statement M
-fresh-value-spec = tie.close (tie.spec returns wide-requires full-requires returns-2)
+fresh-value-spec = tie.close (tie.spec returns (λ c κs. search needs) (λ c κs. search needs) returns-2)

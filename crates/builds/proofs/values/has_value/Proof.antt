@@ -9,14 +9,8 @@ use Rattle.builds.proofs.values.has_value.Tie as tie
 returns : tie.Need-returns
 returns c = sym (has-past 16 _ _ (c .before .fits .members .fits) (c .if1 .taken))
 
-wide-requires : tie.Need-wide-requires
-wide-requires c κs = search needs
-
-member-requires : tie.Need-member-requires
-member-requires c κs = search needs
-
 returns-2 : tie.Need-returns-2
 returns-2 c = c .member .ensures ∙ ap (has _) (c .before .wide .ensures)
 
 pub has-value-spec : {M : Type 1} → statement M
-has-value-spec = tie.close (tie.spec returns wide-requires member-requires returns-2)
+has-value-spec = tie.close (tie.spec returns (λ c κs. search needs) (λ c κs. search needs) returns-2)

@@ -22,20 +22,8 @@ loop-holds : tie.Need-loop-holds Inv-loop μ-loop
 unfolding count sum
 loop-holds c = (omega arith, refl)
 
-element-copy-out-live-one : tie.Need-element-copy-out-live-one Inv-loop μ-loop
-element-copy-out-live-one c = search needs
-
-live-one-requires : tie.Need-live-one-requires Inv-loop μ-loop
-live-one-requires c κs = search needs
-
 add-live : tie.Need-add-live Inv-loop μ-loop
 add-live c = omega (arith, count-fits _ _ _ _ (c .before .before .before .loop .inv .1) (c .live-one .ensures))
-
-add-i : tie.Need-add-i Inv-loop μ-loop
-add-i c = search needs
-
-loop-less : tie.Need-loop-less Inv-loop μ-loop
-loop-less c = search needs
 
 loop-again : tie.Need-loop-again Inv-loop μ-loop
 loop-again c = (omega arith, count-joins _ _ _ _ (c .before .before .before .loop .inv .1) (c .live-one .ensures))
@@ -51,10 +39,10 @@ live-count-spec =
     Inv-loop
     μ-loop
     loop-holds
-    element-copy-out-live-one
-    live-one-requires
+    (λ c. search needs)
+    (λ c κs. search needs)
     add-live
-    add-i
-    loop-less
+    (λ c. search needs)
+    (λ c. search needs)
     loop-again
     returns)

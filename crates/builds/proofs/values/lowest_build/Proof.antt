@@ -3,12 +3,6 @@ use borrow.Author.Needs.{needs}
 use Rattle.builds.proofs.values.lowest_build.Statement.{statement}
 use Rattle.builds.proofs.values.lowest_build.Tie as tie
 
-lowest-values-requires : tie.Need-lowest-values-requires
-lowest-values-requires c κs = search needs
-
-slice-aggregate-complete-values : tie.Need-slice-aggregate-complete-values
-slice-aggregate-complete-values c = search needs
-
 complete-values-requires : tie.Need-complete-values-requires
 complete-values-requires c κs = rw (c .before .lowest-values .ensures) (c .before .before .pre)
 
@@ -19,7 +13,7 @@ pub lowest-build-spec : {M : Type 1} → statement M
 lowest-build-spec =
     tie.close
     (tie.spec
-    lowest-values-requires
-    slice-aggregate-complete-values
+    (λ c κs. search needs)
+    (λ c. search needs)
     complete-values-requires
     returns)

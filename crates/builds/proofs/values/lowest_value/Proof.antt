@@ -6,14 +6,8 @@ use borrow.Author.Needs.{needs}
 use Rattle.builds.proofs.values.lowest_value.Statement.{statement}
 use Rattle.builds.proofs.values.lowest_value.Tie as tie
 
-lowest-requires : tie.Need-lowest-requires
-lowest-requires c κs = search needs
-
 cast-result : tie.Need-cast-result
 cast-result c = omega (arith, c .lowest .ensures, first-le 16 (has (c .before .args .domain)))
 
-returns : tie.Need-returns
-returns c = search needs
-
 pub lowest-value-spec : {M : Type 1} → statement M
-lowest-value-spec = tie.close (tie.spec lowest-requires cast-result returns)
+lowest-value-spec = tie.close (tie.spec (λ c κs. search needs) cast-result (λ c. search needs))

@@ -18,24 +18,6 @@ abbrev μ-loop : tie.MeasureT-loop
 loop-holds : tie.Need-loop-holds Inv-loop μ-loop
 loop-holds c = (omega arith, lowest-none _)
 
-mul-lowest-value : tie.Need-mul-lowest-value Inv-loop μ-loop
-mul-lowest-value c = search needs
-
-element-copy-out-lowest-value : tie.Need-element-copy-out-lowest-value Inv-loop μ-loop
-element-copy-out-lowest-value c = search needs
-
-lowest-value-requires : tie.Need-lowest-value-requires Inv-loop μ-loop
-lowest-value-requires c κs = search needs
-
-array-write-values : tie.Need-array-write-values Inv-loop μ-loop
-array-write-values c = search needs
-
-add-i : tie.Need-add-i Inv-loop μ-loop
-add-i c = search needs
-
-loop-less : tie.Need-loop-less Inv-loop μ-loop
-loop-less c = search needs
-
 loop-again : tie.Need-loop-again Inv-loop μ-loop
 loop-again c = (omega arith, lowest-more _ _ _ _ (omega arith) (c .before .before .before .loop .inv .1) (c .lowest-value .ensures))
 
@@ -49,11 +31,11 @@ lowest-values-spec =
     Inv-loop
     μ-loop
     loop-holds
-    mul-lowest-value
-    element-copy-out-lowest-value
-    lowest-value-requires
-    array-write-values
-    add-i
-    loop-less
+    (λ c. search needs)
+    (λ c. search needs)
+    (λ c κs. search needs)
+    (λ c. search needs)
+    (λ c. search needs)
+    (λ c. search needs)
     loop-again
     returns)

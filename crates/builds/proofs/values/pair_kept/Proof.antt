@@ -21,15 +21,6 @@ returns-3 c = pair-not-stated _ _ _ _ _ _ _ _ (c .before .before .if1 .left) (c 
 returns-4 : tie.Need-returns-4
 returns-4 c = pair-past _ _ _ _ _ _ _ _ (c .before .before .before .if1 .left) (c .before .before .if2 .left) (not-false _ (c .before .if3 .left)) (c .if4 .taken)
 
-wide-requires : tie.Need-wide-requires
-wide-requires c κs = search needs
-
-row-requires : tie.Need-row-requires
-row-requires c κs = search needs
-
-has-value-requires : tie.Need-has-value-requires
-has-value-requires c κs = search needs
-
 returns-5 : tie.Need-returns-5
 returns-5 c = c .has-value .ensures
     ∙ ap (λ (x : ℕ). has x (c .before .before .before .before .before .before .before .args .b)) (c .before .row .ensures ∙ ap (rowAt 16 _ _ _) (c .before .before .wide .ensures))
@@ -43,7 +34,7 @@ pair-kept-spec =
     returns-2
     returns-3
     returns-4
-    wide-requires
-    row-requires
-    has-value-requires
+    (λ c κs. search needs)
+    (λ c κs. search needs)
+    (λ c κs. search needs)
     returns-5)

@@ -20,21 +20,6 @@ loop-holds : tie.Need-loop-holds Inv-loop μ-loop
 unfolding every
 loop-holds c = (omega arith, refl)
 
-mul-side-kept : tie.Need-mul-side-kept Inv-loop μ-loop
-mul-side-kept c = search needs
-
-element-copy-out-side-kept : tie.Need-element-copy-out-side-kept Inv-loop μ-loop
-element-copy-out-side-kept c = search needs
-
-side-kept-requires : tie.Need-side-kept-requires Inv-loop μ-loop
-side-kept-requires c κs = search needs
-
-add-i : tie.Need-add-i Inv-loop μ-loop
-add-i c = search needs
-
-loop-less : tie.Need-loop-less Inv-loop μ-loop
-loop-less c = search needs
-
 loop-again : tie.Need-loop-again Inv-loop μ-loop
 loop-again c = (omega arith, test-joins _ _ _ _ (c .before .before .before .loop .inv .1) (c .side-kept .ensures))
 
@@ -49,10 +34,10 @@ pairs-kept-spec =
     Inv-loop
     μ-loop
     loop-holds
-    mul-side-kept
-    element-copy-out-side-kept
-    side-kept-requires
-    add-i
-    loop-less
+    (λ c. search needs)
+    (λ c. search needs)
+    (λ c κs. search needs)
+    (λ c. search needs)
+    (λ c. search needs)
     loop-again
     returns)

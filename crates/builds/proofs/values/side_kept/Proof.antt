@@ -22,30 +22,6 @@ loop-holds : tie.Need-loop-holds Inv-loop μ-loop
 unfolding every
 loop-holds c = (omega arith, refl)
 
-element-copy-out-pair-kept : tie.Need-element-copy-out-pair-kept Inv-loop μ-loop
-element-copy-out-pair-kept c = search needs
-
-element-copy-out-pair-kept-2 : tie.Need-element-copy-out-pair-kept-2 Inv-loop μ-loop
-element-copy-out-pair-kept-2 c = search needs
-
-member-requires : tie.Need-member-requires Inv-loop μ-loop
-member-requires c κs = search needs
-
-shared-slice-read-pair-kept : tie.Need-shared-slice-read-pair-kept Inv-loop μ-loop
-shared-slice-read-pair-kept c = search needs
-
-shared-slice-read-pair-kept-2 : tie.Need-shared-slice-read-pair-kept-2 Inv-loop μ-loop
-shared-slice-read-pair-kept-2 c = search needs
-
-pair-kept-requires : tie.Need-pair-kept-requires Inv-loop μ-loop
-pair-kept-requires c κs = search needs
-
-add-j : tie.Need-add-j Inv-loop μ-loop
-add-j c = search needs
-
-loop-less : tie.Need-loop-less Inv-loop μ-loop
-loop-less c = search needs
-
 loop-again : tie.Need-loop-again Inv-loop μ-loop
 loop-again c = (omega arith, test-joins _ _ _ _ (c .before .before .before .before .before .before .before .loop .inv .1) (pair-same _ _ _ _ _ _ _ _ _ _ (c .pair-kept .ensures) (c .before .before .before .member .ensures)))
 
@@ -60,13 +36,13 @@ side-kept-spec =
     Inv-loop
     μ-loop
     loop-holds
-    element-copy-out-pair-kept
-    element-copy-out-pair-kept-2
-    member-requires
-    shared-slice-read-pair-kept
-    shared-slice-read-pair-kept-2
-    pair-kept-requires
-    add-j
-    loop-less
+    (λ c. search needs)
+    (λ c. search needs)
+    (λ c κs. search needs)
+    (λ c. search needs)
+    (λ c. search needs)
+    (λ c κs. search needs)
+    (λ c. search needs)
+    (λ c. search needs)
     loop-again
     returns)

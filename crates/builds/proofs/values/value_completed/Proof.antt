@@ -15,32 +15,11 @@ led : (c : tie.After-wide)
     × (getD (c .before .before .before .before .args .values .now) (c .wide .result - 1) 0 < 16)
 led c = c .before .before .before .before .pre .2 (c .wide .result - 1) (omega (arith, c .wide .ensures, c .before .if1 .left))
 
-element-copy-out-leader : tie.Need-element-copy-out-leader
-element-copy-out-leader c = search needs
-
-shared-slice-read-result : tie.Need-shared-slice-read-result
-shared-slice-read-result c = search needs
-
 returns : tie.Need-returns
 returns c = completed-live _ _ _ _ _ (c .before .if1 .taken)
 
-wide-requires : tie.Need-wide-requires
-wide-requires c κs = search needs
-
-sub-l : tie.Need-sub-l
-sub-l c = search needs
-
-mul-partner-of : tie.Need-mul-partner-of
-mul-partner-of c = search needs
-
-element-copy-out-partner-of : tie.Need-element-copy-out-partner-of
-element-copy-out-partner-of c = search needs
-
 shared-slice-read-wide : tie.Need-shared-slice-read-wide
 shared-slice-read-wide c = led (c .before .before) .1
-
-wide-requires-2 : tie.Need-wide-requires-2
-wide-requires-2 c κs = search needs
 
 partner-of-requires : tie.Need-partner-of-requires
 partner-of-requires c κs = (led (c .before .before .before) .0, c .before .before .before .before .before .before .before .pre .0, omega (arith, c .wide2 .ensures, led (c .before .before .before) .2))
@@ -53,14 +32,14 @@ pub value-completed-spec : {M : Type 1} → statement M
 value-completed-spec =
     tie.close
     (tie.spec
-    element-copy-out-leader
-    shared-slice-read-result
+    (λ c. search needs)
+    (λ c. search needs)
     returns
-    wide-requires
-    sub-l
-    mul-partner-of
-    element-copy-out-partner-of
+    (λ c κs. search needs)
+    (λ c. search needs)
+    (λ c. search needs)
+    (λ c. search needs)
     shared-slice-read-wide
-    wide-requires-2
+    (λ c κs. search needs)
     partner-of-requires
     returns-2)

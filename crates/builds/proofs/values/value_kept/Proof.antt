@@ -8,11 +8,8 @@ use Rattle.builds.proofs.values.value_kept.Tie as tie
 returns : tie.Need-returns
 returns c = value-led _ _ _ (c .if1 .taken)
 
-has-value-requires : tie.Need-has-value-requires
-has-value-requires c κs = search needs
-
 returns-2 : tie.Need-returns-2
 returns-2 c = c .has-value .ensures ∙ value-live _ _ _ (c .before .if1 .left)
 
 pub value-kept-spec : {M : Type 1} → statement M
-value-kept-spec = tie.close (tie.spec returns has-value-requires returns-2)
+value-kept-spec = tie.close (tie.spec returns (λ c κs. search needs) returns-2)

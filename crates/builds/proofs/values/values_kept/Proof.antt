@@ -20,27 +20,6 @@ loop-holds : tie.Need-loop-holds Inv-loop μ-loop
 unfolding every
 loop-holds c = (omega arith, refl)
 
-element-copy-out-value-kept : tie.Need-element-copy-out-value-kept Inv-loop μ-loop
-element-copy-out-value-kept c = search needs
-
-mul-value-kept : tie.Need-mul-value-kept Inv-loop μ-loop
-mul-value-kept c = search needs
-
-element-copy-out-value-kept-2 : tie.Need-element-copy-out-value-kept-2 Inv-loop μ-loop
-element-copy-out-value-kept-2 c = search needs
-
-shared-slice-read-value-kept : tie.Need-shared-slice-read-value-kept Inv-loop μ-loop
-shared-slice-read-value-kept c = search needs
-
-value-kept-requires : tie.Need-value-kept-requires Inv-loop μ-loop
-value-kept-requires c κs = search needs
-
-add-i : tie.Need-add-i Inv-loop μ-loop
-add-i c = search needs
-
-loop-less : tie.Need-loop-less Inv-loop μ-loop
-loop-less c = search needs
-
 loop-again : tie.Need-loop-again Inv-loop μ-loop
 loop-again c = (omega arith, test-joins _ _ _ _ (c .before .before .before .before .before .loop .inv .1) (c .value-kept .ensures))
 
@@ -55,12 +34,12 @@ values-kept-spec =
     Inv-loop
     μ-loop
     loop-holds
-    element-copy-out-value-kept
-    mul-value-kept
-    element-copy-out-value-kept-2
-    shared-slice-read-value-kept
-    value-kept-requires
-    add-i
-    loop-less
+    (λ c. search needs)
+    (λ c. search needs)
+    (λ c. search needs)
+    (λ c. search needs)
+    (λ c κs. search needs)
+    (λ c. search needs)
+    (λ c. search needs)
     loop-again
     returns)

@@ -21,15 +21,6 @@ read-as c =
     cut-read _ (d .read-parts .result) _ (d .read-parts .ensures)
     (λ k. omega (arith, d .before .before .shared-slice-known .given k)) (c .enum-told .given .1)
 
-read-parts-requires : tie.Need-read-parts-requires
-read-parts-requires c κs = search needs
-
-enum-told : tie.Need-enum-told
-enum-told c = search needs
-
-enum-told-2 : tie.Need-enum-told-2
-enum-told-2 c = search needs
-
 returns : tie.Need-returns
 returns c =
     let d = c .before .before .before .before .before in
@@ -61,9 +52,9 @@ pub cut-parts-spec : {M : Type 1} → statement M
 cut-parts-spec =
     tie.close
     (tie.spec
-    read-parts-requires
-    enum-told
-    enum-told-2
+    (λ c κs. search needs)
+    (λ c. search needs)
+    (λ c. search needs)
     returns
     reduce-sound-requires
     verdict-of-requires

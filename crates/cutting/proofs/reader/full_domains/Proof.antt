@@ -20,26 +20,8 @@ abbrev μ-loop : tie.MeasureT-loop
 loop-holds : tie.Need-loop-holds Inv-loop μ-loop
 loop-holds c = search (filled-none, needs)
 
-array-read-full : tie.Need-array-read-full Inv-loop μ-loop
-array-read-full c = search needs
-
-cast-full : tie.Need-cast-full Inv-loop μ-loop
-cast-full c = search needs
-
 full-requires : tie.Need-full-requires Inv-loop μ-loop
 full-requires c κs = c .before .before .pre (c .before .loop .i)
-
-mul-domains : tie.Need-mul-domains Inv-loop μ-loop
-mul-domains c = search needs
-
-array-write-domains : tie.Need-array-write-domains Inv-loop μ-loop
-array-write-domains c = search needs
-
-add-i : tie.Need-add-i Inv-loop μ-loop
-add-i c = search needs
-
-loop-less : tie.Need-loop-less Inv-loop μ-loop
-loop-less c = search needs
 
 loop-again : tie.Need-loop-again Inv-loop μ-loop
 loop-again c = search (filled-more, needs)
@@ -54,12 +36,12 @@ full-domains-spec =
     Inv-loop
     μ-loop
     loop-holds
-    array-read-full
-    cast-full
+    (λ c. search needs)
+    (λ c. search needs)
     full-requires
-    mul-domains
-    array-write-domains
-    add-i
-    loop-less
+    (λ c. search needs)
+    (λ c. search needs)
+    (λ c. search needs)
+    (λ c. search needs)
     loop-again
     returns)

@@ -12,23 +12,11 @@ use Rattle.cutting.proofs.reader.full_domains.Reads as full-domains-rea
 use Rattle.cutting.proofs.reader.zero_rows.Reads as zero-rows-reads
 use Rattle.reading.proofs.read_into.Reads as read-into-reads
 
-read-into-requires : tie.Need-read-into-requires
-read-into-requires c κs = search needs
-
-enum-known-n : tie.Need-enum-known-n
-enum-known-n c = search needs
-
 full-domains-requires : tie.Need-full-domains-requires
 full-domains-requires c κs =
     read-sizes _ _ _ _
     (λ k. omega (arith, c .before .before .before .before .before .before .before .shared-slice-known .given k))
     _ _ (c .before .before .before .read-into .ensures) (c .before .n .given .1)
-
-enum-known-cause : tie.Need-enum-known-cause
-enum-known-cause c = search needs
-
-zero-rows-requires : tie.Need-zero-rows-requires
-zero-rows-requires c κs = search needs
 
 returns : tie.Need-returns
 unfolding readPartsTold readTold stateRead fullDomains
@@ -46,10 +34,10 @@ pub read-parts-spec : {M : Type 1} → statement M
 read-parts-spec =
     tie.close
     (tie.spec
-    read-into-requires
-    enum-known-n
+    (λ c κs. search needs)
+    (λ c. search needs)
     full-domains-requires
-    enum-known-cause
-    zero-rows-requires
+    (λ c. search needs)
+    (λ c κs. search needs)
     returns
     returns-2)

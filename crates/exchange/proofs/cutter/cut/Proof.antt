@@ -7,12 +7,9 @@ use Rattle.exchange.proofs.cutter.cut.Reads as reads
 use Rattle.exchange.proofs.cutter.cut.Lts as lts
 use Rattle.cutting.proofs.cut_parts.Reads as cut-parts-reads
 
-cut-parts-requires : tie.Need-cut-parts-requires
-cut-parts-requires c κs = search needs
-
 returns : tie.Need-returns
 unfolding cutTold cutPartsTold
 returns c = c .before .before .before .before .before .cut-parts .ensures
 
 pub cut-spec : {M : Type 1} → statement M
-cut-spec = tie.close (tie.spec cut-parts-requires returns)
+cut-spec = tie.close (tie.spec (λ c κs. search needs) returns)

@@ -7,12 +7,9 @@ use Rattle.exchange.proofs.reader.read.Reads as reads
 use Rattle.exchange.proofs.reader.read.Lts as lts
 use Rattle.cutting.proofs.read_parts.Reads as read-parts-reads
 
-read-parts-requires : tie.Need-read-parts-requires
-read-parts-requires c κs = search needs
-
 returns : tie.Need-returns
 unfolding readTold readPartsTold
 returns c = c .before .before .before .read-parts .ensures
 
 pub read-spec : {M : Type 1} → statement M
-read-spec = tie.close (tie.spec read-parts-requires returns)
+read-spec = tie.close (tie.spec (λ c κs. search needs) returns)

@@ -83,9 +83,6 @@ write-into-requires c κs =
     let t = is-sound (first e) in
     (held-sound _ h t (is-fresh e), ((n-most _ t, sizes-most _ h t), fits (third c)))
 
-same-length : tie.Need-same-length
-same-length c = search needs
-
 returns-4 : tie.Need-returns-4
 returns-4 c =
     let e = third (c .before .before .before) in
@@ -103,5 +100,5 @@ write-spec =
     sheet-length-requires
     returns-3
     write-into-requires
-    same-length
+    (λ c. search needs)
     returns-4)

@@ -9,21 +9,15 @@ use Rattle.fields.proofs.field.byte_field.Tie as tie
 returns : tie.Need-returns
 returns c = field-cut _ _ _ _ (omega arith)
 
-shared-slice-read-value : tie.Need-shared-slice-read-value
-shared-slice-read-value c = search needs
-
 cast-value : tie.Need-cast-value
 cast-value c = search (byte-fits, needs)
 
 returns-2 : tie.Need-returns-2
 returns-2 c = field-fault _ _ _ _ _ _ (number-one _ _) (omega arith) (range-fault _ _ _ _ (c .if2 .taken))
 
-add-t7 : tie.Need-add-t7
-add-t7 c = search needs
-
 returns-3 : tie.Need-returns-3
 returns-3 c = field-fine _ _ _ _ _ _ (number-one _ _) refl (omega arith) (range-fine _ _ _ _ (c .if2 .left))
 
 pub byte-field-spec : {M : Type 1} → statement M
 byte-field-spec =
-    tie.close (tie.spec returns shared-slice-read-value cast-value returns-2 add-t7 returns-3)
+    tie.close (tie.spec returns (λ c. search needs) cast-value returns-2 (λ c. search needs) returns-3)

@@ -4,17 +4,8 @@ use Rattle.fields.proofs.Fields.{byte-fits, high-fits, two-fits, two-lt
 use Rattle.fields.proofs.field.number.Statement.{statement}
 use Rattle.fields.proofs.field.number.Tie as tie
 
-shared-slice-read-high : tie.Need-shared-slice-read-high
-shared-slice-read-high c = search needs
-
 cast-high : tie.Need-cast-high
 cast-high c = search (byte-fits, needs)
-
-add-low : tie.Need-add-low
-add-low c = search needs
-
-shared-slice-read-low : tie.Need-shared-slice-read-low
-shared-slice-read-low c = search needs
 
 cast-low : tie.Need-cast-low
 cast-low c = search (byte-fits, needs)
@@ -32,10 +23,10 @@ pub number-spec : {M : Type 1} → statement M
 number-spec =
     tie.close
     (tie.spec
-    shared-slice-read-high
+    (λ c. search needs)
     cast-high
-    add-low
-    shared-slice-read-low
+    (λ c. search needs)
+    (λ c. search needs)
     cast-low
     mul-result
     add-result

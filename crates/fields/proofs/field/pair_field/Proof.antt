@@ -5,14 +5,8 @@ use Rattle.fields.proofs.Fields.{field-cut, field-fault, field-fine, pa
 use Rattle.fields.proofs.field.pair_field.Statement.{statement}
 use Rattle.fields.proofs.field.pair_field.Tie as tie
 
-add-second : tie.Need-add-second
-add-second c = search needs
-
 returns : tie.Need-returns
 returns c = field-cut _ _ _ _ (omega arith)
-
-number-requires : tie.Need-number-requires
-number-requires c κs = search needs
 
 returns-2 : tie.Need-returns-2
 returns-2 c = field-fault _ _ _ _ _ _ (c .before .number .ensures .0) (omega arith) (pair-range _ _ _ (c .if2 .taken))
@@ -25,9 +19,6 @@ returns-4 c =
     field-fault _ _ _ _ _ _ (c .before .before .before .number .ensures .0) (omega arith)
     (pair-repeated _ _ _ (c .before .before .if2 .left) (omega arith) (omega arith))
 
-add-t9 : tie.Need-add-t9
-add-t9 c = search needs
-
 returns-5 : tie.Need-returns-5
 returns-5 c =
     field-fine _ _ _ _ _ _ (c .before .before .before .number .ensures .0) (omega arith) (omega arith)
@@ -36,4 +27,4 @@ returns-5 c =
 pub pair-field-spec : {M : Type 1} → statement M
 pair-field-spec =
     tie.close
-    (tie.spec add-second returns number-requires returns-2 returns-3 returns-4 add-t9 returns-5)
+    (tie.spec (λ c. search needs) returns (λ c κs. search needs) returns-2 returns-3 returns-4 (λ c. search needs) returns-5)

@@ -8,27 +8,6 @@ use Rattle.fields.specs.Fields.{twoAt}
 use Rattle.fields.proofs.four.eight.Statement.{statement}
 use Rattle.fields.proofs.four.eight.Tie as tie
 
-two-requires : tie.Need-two-requires
-two-requires c κs = search needs
-
-add-two : tie.Need-add-two
-add-two c = search needs
-
-two-requires-2 : tie.Need-two-requires-2
-two-requires-2 c κs = search needs
-
-add-two-2 : tie.Need-add-two-2
-add-two-2 c = search needs
-
-two-requires-3 : tie.Need-two-requires-3
-two-requires-3 c κs = search needs
-
-add-two-3 : tie.Need-add-two-3
-add-two-3 c = search needs
-
-two-requires-4 : tie.Need-two-requires-4
-two-requires-4 c κs = search needs
-
 returns : tie.Need-returns
 returns c =
     let args = c .before .before .before .before .before .args in
@@ -42,11 +21,11 @@ pub eight-spec : {M : Type 1} → statement M
 eight-spec =
     tie.close
     (tie.spec
-    two-requires
-    add-two
-    two-requires-2
-    add-two-2
-    two-requires-3
-    add-two-3
-    two-requires-4
+    (λ c κs. search needs)
+    (λ c. search needs)
+    (λ c κs. search needs)
+    (λ c. search needs)
+    (λ c κs. search needs)
+    (λ c. search needs)
+    (λ c κs. search needs)
     returns)

@@ -9,9 +9,6 @@ use Rattle.fields.proofs.FourNumbers.{four-is}
 use Rattle.fields.proofs.four.four_numbers.Statement.{statement}
 use Rattle.fields.proofs.four.four_numbers.Tie as tie
 
-eight-requires : tie.Need-eight-requires
-eight-requires c κs = search needs
-
 swapped-requires : tie.Need-swapped-requires
 unfolding every not and has
 swapped-requires c κs = (omega arith, refl)
@@ -20,4 +17,4 @@ returns : tie.Need-returns
 returns c = four-is _ _ _ _ (c .before .before .shared-slice-known .given) (c .before .eight .ensures) (c .swapped .ensures)
 
 pub four-numbers-spec : {M : Type 1} → statement M
-four-numbers-spec = tie.close (tie.spec eight-requires swapped-requires returns)
+four-numbers-spec = tie.close (tie.spec (λ c κs. search needs) swapped-requires returns)

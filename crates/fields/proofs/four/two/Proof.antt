@@ -5,17 +5,8 @@ use Rattle.fields.proofs.Fields.{byte-fits, high-fits, two-fits, two-lt
 use Rattle.fields.proofs.four.two.Statement.{statement}
 use Rattle.fields.proofs.four.two.Tie as tie
 
-shared-slice-read-first : tie.Need-shared-slice-read-first
-shared-slice-read-first c = search needs
-
 cast-first : tie.Need-cast-first
 cast-first c = search (byte-fits, needs)
-
-add-second : tie.Need-add-second
-add-second c = search needs
-
-shared-slice-read-second : tie.Need-shared-slice-read-second
-shared-slice-read-second c = search needs
 
 cast-second : tie.Need-cast-second
 cast-second c = search (byte-fits, needs)
@@ -34,10 +25,10 @@ pub two-spec : {M : Type 1} → statement M
 two-spec =
     tie.close
     (tie.spec
-    shared-slice-read-first
+    (λ c. search needs)
     cast-first
-    add-second
-    shared-slice-read-second
+    (λ c. search needs)
+    (λ c. search needs)
     cast-second
     mul-result
     add-result

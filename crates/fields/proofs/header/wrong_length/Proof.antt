@@ -10,14 +10,8 @@ returns c = search (short-wrong, needs)
 returns-2 : tie.Need-returns-2
 returns-2 c = search (long-wrong, needs)
 
-number-requires : tie.Need-number-requires
-number-requires c κs = search needs
-
-add-result : tie.Need-add-result
-add-result c = search needs
-
 returns-3 : tie.Need-returns-3
 returns-3 c = search (count-wrong, needs)
 
 pub wrong-length-spec : {M : Type 1} → statement M
-wrong-length-spec = tie.close (tie.spec returns returns-2 number-requires add-result returns-3)
+wrong-length-spec = tie.close (tie.spec returns returns-2 (λ c κs. search needs) (λ c. search needs) returns-3)

@@ -10,41 +10,17 @@ Inv-loop bytes₀ n family seed₀ common at₀ i₀ bytes seed at i = Unit
 abbrev μ-loop : tie.MeasureT-loop
 μ-loop bytes₀ n family seed₀ common at₀ i₀ bytes seed at i = n - i
 
-from-one-requires : tie.Need-from-one-requires Inv-loop μ-loop
-from-one-requires c κs = search needs
-
-loop-holds : tie.Need-loop-holds Inv-loop μ-loop
-loop-holds c = search needs
-
-size-requires : tie.Need-size-requires Inv-loop μ-loop
-size-requires c κs = search needs
-
-put-requires : tie.Need-put-requires Inv-loop μ-loop
-put-requires c κs = search needs
-
-add-i : tie.Need-add-i Inv-loop μ-loop
-add-i c = search needs
-
-loop-less : tie.Need-loop-less Inv-loop μ-loop
-loop-less c = search needs
-
-loop-again : tie.Need-loop-again Inv-loop μ-loop
-loop-again c = search needs
-
-returns : tie.Need-returns Inv-loop μ-loop
-returns c = search needs
-
 pub put-sizes-spec : {M : Type 1} → statement M
 put-sizes-spec =
     tie.close
     (tie.spec
     Inv-loop
     μ-loop
-    from-one-requires
-    loop-holds
-    size-requires
-    put-requires
-    add-i
-    loop-less
-    loop-again
-    returns)
+    (λ c κs. search needs)
+    (λ c. search needs)
+    (λ c κs. search needs)
+    (λ c κs. search needs)
+    (λ c. search needs)
+    (λ c. search needs)
+    (λ c. search needs)
+    (λ c. search needs))

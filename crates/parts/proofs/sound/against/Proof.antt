@@ -6,19 +6,13 @@ use Rattle.parts.specs.Parts.{againstFits}
 use Rattle.parts.proofs.sound.against.Statement.{statement}
 use Rattle.parts.proofs.sound.against.Tie as tie
 
-members-requires : tie.Need-members-requires
-members-requires c κs = search needs
-
 returns : tie.Need-returns
 returns c p B =
     let args = c .before .before .args in
     c .members .ensures p ∙ ap (λ (s : ℕ). againstFits (args .rows .now) s (args .j) p) (sym (c .before .if1 .taken))
 
-strays-requires : tie.Need-strays-requires
-strays-requires c κs = search needs
-
 returns-2 : tie.Need-returns-2
 returns-2 c p B = c .strays .ensures p B
 
 pub against-spec : {M : Type 1} → statement M
-against-spec = tie.close (tie.spec members-requires returns strays-requires returns-2)
+against-spec = tie.close (tie.spec (λ c κs. search needs) returns (λ c κs. search needs) returns-2)

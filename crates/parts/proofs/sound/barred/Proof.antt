@@ -5,9 +5,6 @@ use Rattle.parts.proofs.Tests.{bars-stated, bars-unstated}
 use Rattle.parts.proofs.sound.barred.Statement.{statement}
 use Rattle.parts.proofs.sound.barred.Tie as tie
 
-member-requires : tie.Need-member-requires
-member-requires c κs = search needs
-
 returns : tie.Need-returns
 returns c p B = bars-stated _ p (sym (c .before .member .ensures) ∙ c .if1 .taken) _ B
 
@@ -15,4 +12,4 @@ returns-2 : tie.Need-returns-2
 returns-2 c p B = bars-unstated _ p (sym (c .before .member .ensures) ∙ c .if1 .left)
 
 pub barred-spec : {M : Type 1} → statement M
-barred-spec = tie.close (tie.spec member-requires returns returns-2)
+barred-spec = tie.close (tie.spec (λ c κs. search needs) returns returns-2)

@@ -8,39 +8,12 @@ use Rattle.parts.proofs.sound.follower_sound.Tie as tie
 returns : tie.Need-returns
 returns c = leader-past _ _ _ _ _ _ _ (c .if1 .taken)
 
-element-copy-out-if2 : tie.Need-element-copy-out-if2
-element-copy-out-if2 c = search needs
-
 returns-2 : tie.Need-returns-2
 returns-2 c = leader-led _ _ _ _ _ _ _ (c .before .before .if1 .left) (c .if2 .taken)
-
-mul-if3 : tie.Need-mul-if3
-mul-if3 c = search needs
-
-element-copy-out-if3 : tie.Need-element-copy-out-if3
-element-copy-out-if3 c = search needs
-
-single-requires : tie.Need-single-requires
-single-requires c κs = search needs
 
 returns-3 : tie.Need-returns-3
 returns-3 c = follower-loose _ _ _ _ _ _ _ (c .before .before .before .before .before .if1 .left) (c .before .before .before .if2 .left)
     (λ e. c .if3 .taken (e ∙ sym (c .before .single .ensures)))
-
-mul-partners-within : tie.Need-mul-partners-within
-mul-partners-within c = search needs
-
-element-copy-out-partners-within : tie.Need-element-copy-out-partners-within
-element-copy-out-partners-within c = search needs
-
-mul-partners-within-2 : tie.Need-mul-partners-within-2
-mul-partners-within-2 c = search needs
-
-element-copy-out-partners-within-2 : tie.Need-element-copy-out-partners-within-2
-element-copy-out-partners-within-2 c = search needs
-
-partners-within-requires : tie.Need-partners-within-requires
-partners-within-requires c κs = search needs
 
 returns-4 : tie.Need-returns-4
 returns-4 c = c .partners-within .ensures
@@ -52,15 +25,15 @@ follower-sound-spec =
     tie.close
     (tie.spec
     returns
-    element-copy-out-if2
+    (λ c. search needs)
     returns-2
-    mul-if3
-    element-copy-out-if3
-    single-requires
+    (λ c. search needs)
+    (λ c. search needs)
+    (λ c κs. search needs)
     returns-3
-    mul-partners-within
-    element-copy-out-partners-within
-    mul-partners-within-2
-    element-copy-out-partners-within-2
-    partners-within-requires
+    (λ c. search needs)
+    (λ c. search needs)
+    (λ c. search needs)
+    (λ c. search needs)
+    (λ c κs. search needs)
     returns-4)

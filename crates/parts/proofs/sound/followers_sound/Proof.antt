@@ -19,15 +19,6 @@ loop-holds : tie.Need-loop-holds Inv-loop μ-loop
 unfolding every
 loop-holds c = (omega arith, refl)
 
-free-or-sound-requires : tie.Need-free-or-sound-requires Inv-loop μ-loop
-free-or-sound-requires c κs = search needs
-
-add-i : tie.Need-add-i Inv-loop μ-loop
-add-i c = search needs
-
-loop-less : tie.Need-loop-less Inv-loop μ-loop
-loop-less c = search needs
-
 loop-again : tie.Need-loop-again Inv-loop μ-loop
 loop-again c = (omega arith, test-joins _ _ _ _ (c .before .before .loop .inv .1) (c .free-or-sound .ensures))
 
@@ -38,4 +29,4 @@ returns c = rw (let e : c .before .loop .i ≡ 16 = omega arith in e) at (c .bef
 pub followers-sound-spec : {M : Type 1} → statement M
 followers-sound-spec =
     tie.close
-    (tie.spec Inv-loop μ-loop loop-holds free-or-sound-requires add-i loop-less loop-again returns)
+    (tie.spec Inv-loop μ-loop loop-holds (λ c κs. search needs) (λ c. search needs) (λ c. search needs) loop-again returns)

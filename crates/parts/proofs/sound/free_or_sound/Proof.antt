@@ -6,20 +6,8 @@ use borrow.Author.Needs.{needs}
 use Rattle.parts.proofs.sound.free_or_sound.Statement.{statement}
 use Rattle.parts.proofs.sound.free_or_sound.Tie as tie
 
-element-copy-out-leader : tie.Need-element-copy-out-leader
-element-copy-out-leader c = search needs
-
 returns : tie.Need-returns
 returns c = variable-free _ _ _ _ _ _ (c .if1 .taken)
-
-wide-requires : tie.Need-wide-requires
-wide-requires c κs = search needs
-
-sub-follower-sound : tie.Need-sub-follower-sound
-sub-follower-sound c = search needs
-
-follower-sound-requires : tie.Need-follower-sound-requires
-follower-sound-requires c κs = search needs
 
 returns-2 : tie.Need-returns-2
 returns-2 c = c .follower-sound .ensures ∙ variable-led _ _ _ _ _ _ _ (c .before .before .if1 .left) (omega (arith, c .before .wide .ensures))
@@ -28,9 +16,9 @@ pub free-or-sound-spec : {M : Type 1} → statement M
 free-or-sound-spec =
     tie.close
     (tie.spec
-    element-copy-out-leader
+    (λ c. search needs)
     returns
-    wide-requires
-    sub-follower-sound
-    follower-sound-requires
+    (λ c κs. search needs)
+    (λ c. search needs)
+    (λ c κs. search needs)
     returns-2)

@@ -8,15 +8,6 @@ use Rattle.parts.proofs.Tests.{bars-full}
 use Rattle.parts.proofs.sound.outside.Statement.{statement}
 use Rattle.parts.proofs.sound.outside.Tie as tie
 
-wide-requires : tie.Need-wide-requires
-wide-requires c κs = search needs
-
-full-requires : tie.Need-full-requires
-full-requires c κs = search needs
-
-repeated-requires : tie.Need-repeated-requires
-repeated-requires c κs = search needs
-
 returns : tie.Need-returns
 returns c =
     bars-full (c .before .full .result) (c .before .before .before .args .size) _ (c .before .full .ok)
@@ -24,4 +15,4 @@ returns c =
     (c .repeated .ensures)
 
 pub outside-spec : {M : Type 1} → statement M
-outside-spec = tie.close (tie.spec wide-requires full-requires repeated-requires returns)
+outside-spec = tie.close (tie.spec (λ c κs. search needs) (λ c κs. search needs) (λ c κs. search needs) returns)

@@ -9,11 +9,8 @@ use Rattle.parts.proofs.sound.pair_mirrored.Tie as tie
 returns : tie.Need-returns
 returns c = sym (implies-false _ _ (not-true _ (c .if1 .taken)))
 
-mirrored-requires : tie.Need-mirrored-requires
-mirrored-requires c κs = search needs
-
 returns-2 : tie.Need-returns-2
 returns-2 c = c .mirrored .ensures ∙ sym (implies-true _ _ (not-false _ (c .before .if1 .left)))
 
 pub pair-mirrored-spec : {M : Type 1} → statement M
-pair-mirrored-spec = tie.close (tie.spec returns mirrored-requires returns-2)
+pair-mirrored-spec = tie.close (tie.spec returns (λ c κs. search needs) returns-2)

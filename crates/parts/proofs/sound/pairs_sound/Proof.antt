@@ -19,15 +19,6 @@ loop-holds : tie.Need-loop-holds Inv-loop μ-loop
 unfolding every
 loop-holds c = (omega arith, refl)
 
-variable-sound-requires : tie.Need-variable-sound-requires Inv-loop μ-loop
-variable-sound-requires c κs = search needs
-
-add-i : tie.Need-add-i Inv-loop μ-loop
-add-i c = search needs
-
-loop-less : tie.Need-loop-less Inv-loop μ-loop
-loop-less c = search needs
-
 loop-again : tie.Need-loop-again Inv-loop μ-loop
 loop-again c = (omega arith, test-joins _ _ _ _ (c .before .before .loop .inv .1) (c .variable-sound .ensures))
 
@@ -42,8 +33,8 @@ pairs-sound-spec =
     Inv-loop
     μ-loop
     loop-holds
-    variable-sound-requires
-    add-i
-    loop-less
+    (λ c κs. search needs)
+    (λ c. search needs)
+    (λ c. search needs)
     loop-again
     returns)

@@ -14,13 +14,10 @@ returns : tie.Need-returns
 unfolding rowsFit
 returns c = sym (and-fails _ _ (sym (c .before .rows-within .ensures) ∙ not-true _ (c .if1 .taken)))
 
-sides-mirrored-requires : tie.Need-sides-mirrored-requires
-sides-mirrored-requires c κs = search needs
-
 returns-2 : tie.Need-returns-2
 unfolding rowsFit
 returns-2 c = c .sides-mirrored .ensures
     ∙ sym (and-holds _ _ (sym (c .before .before .rows-within .ensures) ∙ not-false _ (c .before .if1 .left)))
 
 pub rows-sound-spec : {M : Type 1} → statement M
-rows-sound-spec = tie.close (tie.spec rows-within-requires returns sides-mirrored-requires returns-2)
+rows-sound-spec = tie.close (tie.spec rows-within-requires returns (λ c κs. search needs) returns-2)

@@ -23,26 +23,8 @@ loop-holds : tie.Need-loop-holds Inv-loop μ-loop
 unfolding every
 loop-holds c = (omega arith, refl)
 
-mul-against : tie.Need-mul-against Inv-loop μ-loop
-mul-against c = search needs
-
-element-copy-out-against : tie.Need-element-copy-out-against Inv-loop μ-loop
-element-copy-out-against c = search needs
-
-element-copy-out-outside : tie.Need-element-copy-out-outside Inv-loop μ-loop
-element-copy-out-outside c = search needs
-
 outside-requires : tie.Need-outside-requires Inv-loop μ-loop
 outside-requires c κs = c .before .before .before .before .pre (c .before .before .before .loop .j)
-
-against-requires : tie.Need-against-requires Inv-loop μ-loop
-against-requires c κs = search needs
-
-add-j : tie.Need-add-j Inv-loop μ-loop
-add-j c = search needs
-
-loop-less : tie.Need-loop-less Inv-loop μ-loop
-loop-less c = search needs
 
 loop-again : tie.Need-loop-again Inv-loop μ-loop
 loop-again c =
@@ -62,12 +44,12 @@ rows-within-spec =
     Inv-loop
     μ-loop
     loop-holds
-    mul-against
-    element-copy-out-against
-    element-copy-out-outside
+    (λ c. search needs)
+    (λ c. search needs)
+    (λ c. search needs)
     outside-requires
-    against-requires
-    add-j
-    loop-less
+    (λ c κs. search needs)
+    (λ c. search needs)
+    (λ c. search needs)
     loop-again
     returns)

@@ -23,18 +23,6 @@ loop-holds c = (omega arith, refl)
 mul-side-mirrored : tie.Need-mul-side-mirrored Inv-loop μ-loop
 mul-side-mirrored c = omega arith
 
-element-copy-out-side-mirrored : tie.Need-element-copy-out-side-mirrored Inv-loop μ-loop
-element-copy-out-side-mirrored c = search needs
-
-side-mirrored-requires : tie.Need-side-mirrored-requires Inv-loop μ-loop
-side-mirrored-requires c κs = search needs
-
-add-i : tie.Need-add-i Inv-loop μ-loop
-add-i c = search needs
-
-loop-less : tie.Need-loop-less Inv-loop μ-loop
-loop-less c = search needs
-
 loop-again : tie.Need-loop-again Inv-loop μ-loop
 loop-again c = (omega arith, test-joins _ _ _ _ (c .before .before .before .loop .inv .1) (c .side-mirrored .ensures))
 
@@ -50,9 +38,9 @@ sides-mirrored-spec =
     μ-loop
     loop-holds
     mul-side-mirrored
-    element-copy-out-side-mirrored
-    side-mirrored-requires
-    add-i
-    loop-less
+    (λ c. search needs)
+    (λ c κs. search needs)
+    (λ c. search needs)
+    (λ c. search needs)
     loop-again
     returns)

@@ -20,18 +20,6 @@ loop-holds : tie.Need-loop-holds Inv-loop μ-loop
 unfolding every
 loop-holds c = (omega arith, refl)
 
-element-copy-out-size-sound : tie.Need-element-copy-out-size-sound Inv-loop μ-loop
-element-copy-out-size-sound c = search needs
-
-size-sound-requires : tie.Need-size-sound-requires Inv-loop μ-loop
-size-sound-requires c κs = search needs
-
-add-i : tie.Need-add-i Inv-loop μ-loop
-add-i c = search needs
-
-loop-less : tie.Need-loop-less Inv-loop μ-loop
-loop-less c = search needs
-
 loop-again : tie.Need-loop-again Inv-loop μ-loop
 loop-again c = (omega arith, test-joins _ _ _ _ (c .before .before .before .loop .inv .1) (c .size-sound .ensures))
 
@@ -46,9 +34,9 @@ sizes-sound-spec =
     Inv-loop
     μ-loop
     loop-holds
-    element-copy-out-size-sound
-    size-sound-requires
-    add-i
-    loop-less
+    (λ c. search needs)
+    (λ c κs. search needs)
+    (λ c. search needs)
+    (λ c. search needs)
     loop-again
     returns)

@@ -22,9 +22,6 @@ returns-2 c = sym
     ∙ and-fails _ _ (lt-leb _ _ (c .if2 .taken)))
     ∙ parts-sound _ _ _ _ _ _ (c .before .before .pre)
 
-sizes-sound-requires : tie.Need-sizes-sound-requires
-sizes-sound-requires c κs = search needs
-
 returns-3 : tie.Need-returns-3
 unfolding partsFit
 returns-3 c = sym
@@ -44,9 +41,6 @@ returns-4 c = sym
     ∙ and-holds _ _ (sym (c .before .before .before .sizes-sound .ensures) ∙ not-false _ (c .before .before .if3 .left))
     ∙ and-fails _ _ (sym (c .before .domains-sound .ensures) ∙ not-true _ (c .if4 .taken)))
     ∙ parts-sound _ _ _ _ _ _ (c .before .before .before .before .before .before .pre)
-
-pairs-sound-requires : tie.Need-pairs-sound-requires
-pairs-sound-requires c κs = search needs
 
 returns-5 : tie.Need-returns-5
 unfolding partsFit
@@ -75,9 +69,6 @@ returns-6 c = sym
     ∙ and-fails _ _ (sym (c .before .rows-sound .ensures) ∙ not-true _ (c .if6 .taken)))
     ∙ parts-sound _ _ _ _ _ _ (c .before .before .before .before .before .before .before .before .before .before .pre)
 
-followers-sound-requires : tie.Need-followers-sound-requires
-followers-sound-requires c κs = search needs
-
 returns-7 : tie.Need-returns-7
 unfolding partsFit
 returns-7 c = c .followers-sound .ensures
@@ -96,13 +87,13 @@ sound-parts-spec =
     (tie.spec
     returns
     returns-2
-    sizes-sound-requires
+    (λ c κs. search needs)
     returns-3
     domains-sound-requires
     returns-4
-    pairs-sound-requires
+    (λ c κs. search needs)
     returns-5
     rows-sound-requires
     returns-6
-    followers-sound-requires
+    (λ c κs. search needs)
     returns-7)

@@ -21,30 +21,6 @@ abbrev μ-loop : tie.MeasureT-loop
 loop-holds : tie.Need-loop-holds Inv-loop μ-loop
 loop-holds c = (omega arith, sym (word-zero _))
 
-mul-members : tie.Need-mul-members Inv-loop μ-loop
-mul-members c = search needs
-
-element-copy-out-members : tie.Need-element-copy-out-members Inv-loop μ-loop
-element-copy-out-members c = search needs
-
-cast-members : tie.Need-cast-members Inv-loop μ-loop
-cast-members c = search needs
-
-shr-members : tie.Need-shr-members Inv-loop μ-loop
-shr-members c = search needs
-
-cast-members-2 : tie.Need-cast-members-2 Inv-loop μ-loop
-cast-members-2 c = search needs
-
-shl-members : tie.Need-shl-members Inv-loop μ-loop
-shl-members c = search needs
-
-add-j : tie.Need-add-j Inv-loop μ-loop
-add-j c = search needs
-
-loop-less : tie.Need-loop-less Inv-loop μ-loop
-loop-less c = search needs
-
 loop-again : tie.Need-loop-again Inv-loop μ-loop
 loop-again c = (omega arith, digit-joins 65536 _ _ _ _ (pow-mono {j = 16} (omega arith)) (c .before .before .loop .inv .1) (digit-of _ _))
 
@@ -59,13 +35,13 @@ stated-with-spec =
     Inv-loop
     μ-loop
     loop-holds
-    mul-members
-    element-copy-out-members
-    cast-members
-    shr-members
-    cast-members-2
-    shl-members
-    add-j
-    loop-less
+    (λ c. search needs)
+    (λ c. search needs)
+    (λ c. search needs)
+    (λ c. search needs)
+    (λ c. search needs)
+    (λ c. search needs)
+    (λ c. search needs)
+    (λ c. search needs)
     loop-again
     returns)

@@ -27,18 +27,6 @@ loop-holds : tie.Need-loop-holds Inv-loop μ-loop
 unfolding every
 loop-holds c = (omega arith, λ p B. refl)
 
-barred-requires : tie.Need-barred-requires Inv-loop μ-loop
-barred-requires c κs = search needs
-
-stray-requires : tie.Need-stray-requires Inv-loop μ-loop
-stray-requires c κs = search needs
-
-add-i : tie.Need-add-i Inv-loop μ-loop
-add-i c = search needs
-
-loop-less : tie.Need-loop-less Inv-loop μ-loop
-loop-less c = search needs
-
 loop-again : tie.Need-loop-again Inv-loop μ-loop
 loop-again c = (
   omega arith,
@@ -57,9 +45,9 @@ strays-spec =
     Inv-loop
     μ-loop
     loop-holds
-    barred-requires
-    stray-requires
-    add-i
-    loop-less
+    (λ c κs. search needs)
+    (λ c κs. search needs)
+    (λ c. search needs)
+    (λ c. search needs)
     loop-again
     returns)

@@ -8,24 +8,12 @@ use borrow.Author.Needs.{needs}
 use Rattle.parts.proofs.sound.variable_sound.Statement.{statement}
 use Rattle.parts.proofs.sound.variable_sound.Tie as tie
 
-mul-members : tie.Need-mul-members
-mul-members c = search needs
-
-element-copy-out-members : tie.Need-element-copy-out-members
-element-copy-out-members c = search needs
-
 returns : tie.Need-returns
 returns c = variable-past _ _ _ (c .if1 .taken)
-
-within-requires : tie.Need-within-requires
-within-requires c κs = search needs
 
 returns-2 : tie.Need-returns-2
 unfolding within
 returns-2 c = variable-high _ _ _ (c .before .before .if1 .left) (sym (c .before .within .ensures) ∙ not-true _ (c .if2 .taken))
-
-member-requires : tie.Need-member-requires
-member-requires c κs = search needs
 
 returns-3 : tie.Need-returns-3
 unfolding within
@@ -33,9 +21,6 @@ returns-3 c =
     variable-self _ _ _ (c .before .before .before .before .if1 .left)
     (sym (c .before .before .before .within .ensures) ∙ not-false _ (c .before .before .if2 .left))
     (sym (c .before .member .ensures) ∙ c .if3 .taken)
-
-stated-with-requires : tie.Need-stated-with-requires
-stated-with-requires c κs = search needs
 
 returns-4 : tie.Need-returns-4
 unfolding within
@@ -48,12 +33,12 @@ pub variable-sound-spec : {M : Type 1} → statement M
 variable-sound-spec =
     tie.close
     (tie.spec
-    mul-members
-    element-copy-out-members
+    (λ c. search needs)
+    (λ c. search needs)
     returns
-    within-requires
+    (λ c κs. search needs)
     returns-2
-    member-requires
+    (λ c κs. search needs)
     returns-3
-    stated-with-requires
+    (λ c κs. search needs)
     returns-4)

@@ -7,15 +7,6 @@ use Rattle.reading.proofs.Reading.{no-count, no-sizes, no-constraints, 
 use Rattle.reading.proofs.read.read_body.Statement.{statement}
 use Rattle.reading.proofs.read.read_body.Tie as tie
 
-byte-field-requires : tie.Need-byte-field-requires
-byte-field-requires c κs = search needs
-
-enum-known-count : tie.Need-enum-known-count
-enum-known-count c = search needs
-
-enum-told : tie.Need-enum-told
-enum-told c = search needs
-
 returns : tie.Need-returns
 returns c =
     rw (c .enum-told .given .1)
@@ -27,12 +18,6 @@ at-n c = counted _ _ _ (read-got _ _ _ _ (c .before .before .before .byte-field 
 
 read-sizes-requires : tie.Need-read-sizes-requires
 read-sizes-requires c κs = (at-n (c .before) .few, c .before .before .before .before .before .before .pre .0)
-
-enum-known-listed : tie.Need-enum-known-listed
-enum-known-listed c = search needs
-
-enum-told-2 : tie.Need-enum-told-2
-enum-told-2 c = search needs
 
 returns-2 : tie.Need-returns-2
 returns-2 c =
@@ -55,15 +40,6 @@ sub-byte-field c = at-sizes c .some
 mul-byte-field : tie.Need-mul-byte-field
 mul-byte-field c = pairs-fit _ (at-sizes c .few)
 
-byte-field-requires-2 : tie.Need-byte-field-requires-2
-byte-field-requires-2 c κs = search needs
-
-enum-known-constraints : tie.Need-enum-known-constraints
-enum-known-constraints c = search needs
-
-enum-told-3 : tie.Need-enum-told-3
-enum-told-3 c = search needs
-
 returns-3 : tie.Need-returns-3
 returns-3 c =
     rw (c .enum-told3 .given .1)
@@ -85,12 +61,6 @@ read-tables-requires c κs =
     let p = c .before .before .before in
     let start = p .before .before .before .before .before .before .before .before .before .before .before .before .before .before in
     (at-p p .inside, at-p p .few, start .pre .1, start .pre .2, at-p p .sized)
-
-enum-known-all : tie.Need-enum-known-all
-enum-known-all c = search needs
-
-enum-told-4 : tie.Need-enum-told-4
-enum-told-4 c = search needs
 
 returns-4 : tie.Need-returns-4
 returns-4 c =
@@ -119,23 +89,23 @@ pub read-body-spec : {M : Type 1} → statement M
 read-body-spec =
     tie.close
     (tie.spec
-    byte-field-requires
-    enum-known-count
-    enum-told
+    (λ c κs. search needs)
+    (λ c. search needs)
+    (λ c. search needs)
     returns
     read-sizes-requires
-    enum-known-listed
-    enum-told-2
+    (λ c. search needs)
+    (λ c. search needs)
     returns-2
     sub-byte-field
     mul-byte-field
-    byte-field-requires-2
-    enum-known-constraints
-    enum-told-3
+    (λ c κs. search needs)
+    (λ c. search needs)
+    (λ c. search needs)
     returns-3
     read-tables-requires
-    enum-known-all
-    enum-told-4
+    (λ c. search needs)
+    (λ c. search needs)
     returns-4
     returns-5
     returns-6)

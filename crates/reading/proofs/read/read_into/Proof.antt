@@ -14,9 +14,6 @@ use Rattle.reading.proofs.read.read_into.Tie as tie
 right-length : (c : tie.Else1) → wrongLength version1 (now (c .before .before .before .args .bytes)) ≡ false
 right-length c = sym (c .before .wrong-length .ensures) ∙ c .if1 .left
 
-wrong-length-requires : tie.Need-wrong-length-requires
-wrong-length-requires c κs = search needs
-
 returns : tie.Need-returns
 returns c = into-wrong-length _ _ _ _ (sym (c .before .wrong-length .ensures) ∙ c .if1 .taken)
 
@@ -25,15 +22,6 @@ shared-slice-read-if2 c = some-byte _ [] [] [] (right-length (c .before))
 
 returns-2 : tie.Need-returns-2
 returns-2 c = into-wrong-version _ _ _ _ (right-length (c .before .before)) (c .if2 .taken)
-
-read-body-requires : tie.Need-read-body-requires
-read-body-requires c κs = search needs
-
-enum-known-n : tie.Need-enum-known-n
-enum-known-n c = search needs
-
-enum-known-cause : tie.Need-enum-known-cause
-enum-known-cause c = search needs
 
 returns-3 : tie.Need-returns-3
 returns-3 c =
@@ -51,12 +39,12 @@ pub read-into-spec : {M : Type 1} → statement M
 read-into-spec =
     tie.close
     (tie.spec
-    wrong-length-requires
+    (λ c κs. search needs)
     returns
     shared-slice-read-if2
     returns-2
-    read-body-requires
-    enum-known-n
-    enum-known-cause
+    (λ c κs. search needs)
+    (λ c. search needs)
+    (λ c. search needs)
     returns-3
     returns-4)

@@ -16,15 +16,6 @@ abbrev μ-loop : tie.MeasureT-loop
 loop-holds : tie.Need-loop-holds Inv-loop μ-loop
 loop-holds c = search (sizes-none, needs)
 
-byte-field-requires : tie.Need-byte-field-requires Inv-loop μ-loop
-byte-field-requires c κs = search needs
-
-enum-known-size : tie.Need-enum-known-size Inv-loop μ-loop
-enum-known-size c = search needs
-
-enum-told : tie.Need-enum-told Inv-loop μ-loop
-enum-told c = search needs
-
 returns : tie.Need-returns Inv-loop μ-loop
 returns c =
     rw (c .enum-told .given .1)
@@ -34,15 +25,6 @@ returns c =
 cast-sizes : tie.Need-cast-sizes Inv-loop μ-loop
 cast-sizes c =
     size-fits _ _ _ _ (read-got _ _ _ _ (c .before .before .before .byte-field .ensures) (c .before .size .given .1))
-
-element-write-sizes : tie.Need-element-write-sizes Inv-loop μ-loop
-element-write-sizes c = search needs
-
-add-i : tie.Need-add-i Inv-loop μ-loop
-add-i c = search needs
-
-loop-less : tie.Need-loop-less Inv-loop μ-loop
-loop-less c = search needs
 
 loop-again : tie.Need-loop-again Inv-loop μ-loop
 loop-again c =
@@ -59,13 +41,13 @@ read-sizes-spec =
     Inv-loop
     μ-loop
     loop-holds
-    byte-field-requires
-    enum-known-size
-    enum-told
+    (λ c κs. search needs)
+    (λ c. search needs)
+    (λ c. search needs)
     returns
     cast-sizes
-    element-write-sizes
-    add-i
-    loop-less
+    (λ c. search needs)
+    (λ c. search needs)
+    (λ c. search needs)
     loop-again
     returns-2)

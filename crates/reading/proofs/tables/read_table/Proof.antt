@@ -10,15 +10,6 @@ use Rattle.reading.proofs.TablesLoop.{PairIn, pair-in, table-no-pair, t
 use Rattle.reading.proofs.tables.read_table.Statement.{statement}
 use Rattle.reading.proofs.tables.read_table.Tie as tie
 
-pair-field-requires : tie.Need-pair-field-requires
-pair-field-requires c κs = search needs
-
-enum-known-head : tie.Need-enum-known-head
-enum-known-head c = search needs
-
-enum-told : tie.Need-enum-told
-enum-told c = search needs
-
 returns : tie.Need-returns
 returns c =
     rw (c .enum-told .given .1)
@@ -59,12 +50,6 @@ cast-read-sides-2 c = omega (arith, pair-known (c .before .before))
 read-sides-requires : tie.Need-read-sides-requires
 read-sides-requires c κs = omega (arith, pair-known (c .before .before .before))
 
-enum-known-body : tie.Need-enum-known-body
-enum-known-body c = search needs
-
-enum-told-2 : tie.Need-enum-told-2
-enum-told-2 c = search needs
-
 returns-2 : tie.Need-returns-2
 returns-2 c =
     let body = c .before .before in
@@ -91,9 +76,9 @@ pub read-table-spec : {M : Type 1} → statement M
 read-table-spec =
     tie.close
     (tie.spec
-    pair-field-requires
-    enum-known-head
-    enum-told
+    (λ c κs. search needs)
+    (λ c. search needs)
+    (λ c. search needs)
     returns
     sub-i
     sub-j
@@ -102,8 +87,8 @@ read-table-spec =
     element-copy-out-read-sides-2
     cast-read-sides-2
     read-sides-requires
-    enum-known-body
-    enum-told-2
+    (λ c. search needs)
+    (λ c. search needs)
     returns-2
     mark-requires
     mark-requires-2

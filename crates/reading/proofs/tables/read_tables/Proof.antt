@@ -17,27 +17,12 @@ abbrev μ-loop : tie.MeasureT-loop
 loop-holds : tie.Need-loop-holds Inv-loop μ-loop
 loop-holds c = search (tables-none, needs)
 
-read-table-requires : tie.Need-read-table-requires Inv-loop μ-loop
-read-table-requires c κs = search needs
-
-enum-known-table : tie.Need-enum-known-table Inv-loop μ-loop
-enum-known-table c = search needs
-
-enum-told : tie.Need-enum-told Inv-loop μ-loop
-enum-told c = search needs
-
 returns : tie.Need-returns Inv-loop μ-loop
 returns c =
     let read = c .before .before in
     rw (c .enum-told .given .1)
     (tables-refused _ _ _ _ _ _ _ _ _ _ (read .before .before .before .before .loop .inv) (omega arith)
     _ _ _ (read .read-table .ensures) _ _ (c .enum-told .given .1))
-
-add-counter : tie.Need-add-counter Inv-loop μ-loop
-add-counter c = search needs
-
-loop-less : tie.Need-loop-less Inv-loop μ-loop
-loop-less c = search needs
 
 loop-again : tie.Need-loop-again Inv-loop μ-loop
 loop-again c =
@@ -55,11 +40,11 @@ read-tables-spec =
     Inv-loop
     μ-loop
     loop-holds
-    read-table-requires
-    enum-known-table
-    enum-told
+    (λ c κs. search needs)
+    (λ c. search needs)
+    (λ c. search needs)
     returns
-    add-counter
-    loop-less
+    (λ c. search needs)
+    (λ c. search needs)
     loop-again
     returns-2)

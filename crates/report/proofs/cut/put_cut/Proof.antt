@@ -8,15 +8,9 @@ use Rattle.report.specs.Parts.{cutLines}
 use Rattle.report.proofs.cut.put_cut.Statement.{statement}
 use Rattle.report.proofs.cut.put_cut.Tie as tie
 
-slice-aggregate-put-titled : tie.Need-slice-aggregate-put-titled
-slice-aggregate-put-titled c = search needs
-
 put-titled-requires : tie.Need-put-titled-requires
 unfolding cutLines ascii
 put-titled-requires c κs = omega (arith, simp length-append at (c .before .before .before .pre .1))
-
-slice-aggregate-put-text : tie.Need-slice-aggregate-put-text
-slice-aggregate-put-text c = search needs
 
 put-text-requires : tie.Need-put-text-requires
 unfolding cutLines ascii
@@ -26,15 +20,9 @@ put-options-requires : tie.Need-put-options-requires
 unfolding cutLines ascii
 put-options-requires c κs = (search needs, omega (arith, simp length-append at (c .before .before .before .before .before .before .before .before .before .before .before .before .pre .1)))
 
-slice-aggregate-put-titled-2 : tie.Need-slice-aggregate-put-titled-2
-slice-aggregate-put-titled-2 c = search needs
-
 put-titled-requires-2 : tie.Need-put-titled-requires-2
 unfolding cutLines ascii
 put-titled-requires-2 c κs = omega (arith, simp length-append at (c .before .before .before .before .before .before .before .before .before .before .before .before .before .before .before .before .before .pre .1))
-
-slice-aggregate-put-text-2 : tie.Need-slice-aggregate-put-text-2
-slice-aggregate-put-text-2 c = search needs
 
 put-text-requires-2 : tie.Need-put-text-requires-2
 unfolding cutLines ascii
@@ -43,9 +31,6 @@ put-text-requires-2 c κs = omega (arith, simp length-append at (c .before .befo
 put-verdict-requires : tie.Need-put-verdict-requires
 unfolding cutLines ascii
 put-verdict-requires c κs = (search needs, omega (arith, simp length-append at (c .before .before .before .before .before .before .before .before .before .before .before .before .before .before .before .before .before .before .before .before .before .before .before .before .before .before .pre .1)))
-
-same-length : tie.Need-same-length
-same-length c = search needs
 
 returns : tie.Need-returns
 unfolding cutLines ascii
@@ -65,15 +50,15 @@ pub put-cut-spec : {M : Type 1} → statement M
 put-cut-spec =
     tie.close
     (tie.spec
-    slice-aggregate-put-titled
+    (λ c. search needs)
     put-titled-requires
-    slice-aggregate-put-text
+    (λ c. search needs)
     put-text-requires
     put-options-requires
-    slice-aggregate-put-titled-2
+    (λ c. search needs)
     put-titled-requires-2
-    slice-aggregate-put-text-2
+    (λ c. search needs)
     put-text-requires-2
     put-verdict-requires
-    same-length
+    (λ c. search needs)
     returns)

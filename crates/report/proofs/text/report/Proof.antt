@@ -14,9 +14,6 @@ use Rattle.report.proofs.text.report.Lts as lts
 use Rattle.report.proofs.text.written.Reads as written-reads
 use Rattle.cutting.proofs.cut_parts.Reads as cut-parts-reads
 
-cut-parts-requires : tie.Need-cut-parts-requires
-cut-parts-requires c κs = search needs
-
 written-requires : tie.Need-written-requires
 written-requires c κs =
     printable-answer _ (λ k. omega (arith, c .before .before .shared-slice-known .given k)) (c .cut-parts .result) _ (c .cut-parts .ensures)
@@ -28,4 +25,4 @@ unfolding textOf
 returns c = rw (sym (c .before .cut-parts .ensures)) (c .written .ensures _)
 
 pub report-spec : {M : Type 1} → statement M
-report-spec = tie.close (tie.spec cut-parts-requires written-requires returns)
+report-spec = tie.close (tie.spec (λ c κs. search needs) written-requires returns)

@@ -8,21 +8,6 @@ use Rattle.report.proofs.Answer.{accepted-text, refused-text}
 use Rattle.report.proofs.text.written.Statement.{statement}
 use Rattle.report.proofs.text.written.Tie as tie
 
-enum-told : tie.Need-enum-told
-enum-told c = search needs
-
-enum-told-2 : tie.Need-enum-told-2
-enum-told-2 c = search needs
-
-slice-aggregate-put-refusal : tie.Need-slice-aggregate-put-refusal
-slice-aggregate-put-refusal c = search needs
-
-read-number-requires : tie.Need-read-number-requires
-read-number-requires c κs = search needs
-
-read-place-requires : tie.Need-read-place-requires
-read-place-requires c κs = search needs
-
 put-refusal-requires : tie.Need-put-refusal-requires
 put-refusal-requires c κs =
     let t = c .before .before .before in
@@ -35,9 +20,6 @@ returns c = λ rows.
     let t = p .before .before .before in
     let s = t .before .before in
     rw (refused-text (s .args .cut) _ (t .enum-told2 .given .1) (p .before .read-number .ensures) (p .read-place .ensures)) (printed 512 (c .before .put-refusal .ensures))
-
-slice-aggregate-put-cut : tie.Need-slice-aggregate-put-cut
-slice-aggregate-put-cut c = search needs
 
 put-cut-requires : tie.Need-put-cut-requires
 unfolding cutPartsTold
@@ -56,13 +38,13 @@ pub written-spec : {M : Type 1} → statement M
 written-spec =
     tie.close
     (tie.spec
-    enum-told
-    enum-told-2
-    slice-aggregate-put-refusal
-    read-number-requires
-    read-place-requires
+    (λ c. search needs)
+    (λ c. search needs)
+    (λ c. search needs)
+    (λ c κs. search needs)
+    (λ c κs. search needs)
     put-refusal-requires
     returns
-    slice-aggregate-put-cut
+    (λ c. search needs)
     put-cut-requires
     returns-2)

@@ -58,9 +58,6 @@ returns-2 c = complete-14 _ _ (is-sound (c .before)) (c .if2 .taken)
 values-kept-requires : tie.Need-values-kept-requires
 values-kept-requires c κs = (n-most _ (is-sound (c .before .before .before .before .before)), omega (arith, c .before .before .before .before .if2 .left))
 
-same-length : tie.Need-same-length
-same-length c = search needs
-
 returns-3 : tie.Need-returns-3
 unfolding outcomeNumber
 returns-3 c =
@@ -72,9 +69,6 @@ pairs-kept-requires c κs =
     let e = c .before .before .before .before .before in
     (n-most _ (is-sound (first e)), omega (arith, is-long e))
 
-same-length-2 : tie.Need-same-length-2
-same-length-2 c = search needs
-
 returns-4 : tie.Need-returns-4
 unfolding outcomeNumber
 returns-4 c =
@@ -85,9 +79,6 @@ complete-values-requires : tie.Need-complete-values-requires
 complete-values-requires c κs =
     let e = c .before .before .before .before .before .before .before .before .before .before .before .before in
     complete-led _ (shaped (start (first e))) (is-sound (first e)) _ (is-long e) (kept e)
-
-same-length-3 : tie.Need-same-length-3
-same-length-3 c = search needs
 
 -- Past the fourth test each stated pair of live options allows its values.
 allowed : (c : tie.Else4) → pairsKept (state (third (c .before)) .n) (state (third (c .before)) .leaders) (state (third (c .before)) .stated)
@@ -109,11 +100,11 @@ complete-spec =
     returns
     returns-2
     values-kept-requires
-    same-length
+    (λ c. search needs)
     returns-3
     pairs-kept-requires
-    same-length-2
+    (λ c. search needs)
     returns-4
     complete-values-requires
-    same-length-3
+    (λ c. search needs)
     returns-5)

@@ -16,15 +16,6 @@ state c = stateOf (c .args .n) (c .args .sizes .now) (c .args .domains .now) (c 
 shaped : (c : tie.Start) → Shaped (state c)
 shaped c = lent-shaped _ _ _ _ _ _ (let f : Fits w64 (c .args .n) = search needs in f .fits) (c .pre)
 
-refuse-step-requires : tie.Need-refuse-step-requires
-refuse-step-requires c κs = search needs
-
-enum-told : tie.Need-enum-told
-enum-told c = search needs
-
-enum-told-2 : tie.Need-enum-told-2
-enum-told-2 c = search needs
-
 returns : tie.Need-returns
 returns c =
     let t = c .before .before .before in
@@ -67,9 +58,9 @@ pub eliminate-parts-spec : {M : Type 1} → statement M
 eliminate-parts-spec =
     tie.close
     (tie.spec
-    refuse-step-requires
-    enum-told
-    enum-told-2
+    (λ c κs. search needs)
+    (λ c. search needs)
+    (λ c. search needs)
     returns
     sub-step
     sub-step-2

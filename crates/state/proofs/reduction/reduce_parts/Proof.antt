@@ -17,9 +17,6 @@ state c = stateOf (c .args .n) (c .args .sizes .now) (c .args .domains .now) (c 
 sound : (c : tie.Else1) → soundState (state (c .before .before .before)) ≡ true
 sound c = sym (sound-told _ _ (c .before .sound-parts .ensures)) ∙ not-false _ (c .if1 .left)
 
-sound-parts-requires : tie.Need-sound-parts-requires
-sound-parts-requires c κs = search needs
-
 returns : tie.Need-returns
 returns c =
     let e = c .before .before .before in
@@ -32,4 +29,4 @@ returns-2 : tie.Need-returns-2
 returns-2 c = let e = c .before .before in c .reduce-sound .ensures ∙ sym (reduced-done (state (e .before .before .before)) (sound e))
 
 pub reduce-parts-spec : {M : Type 1} → statement M
-reduce-parts-spec = tie.close (tie.spec sound-parts-requires returns reduce-sound-requires returns-2)
+reduce-parts-spec = tie.close (tie.spec (λ c κs. search needs) returns reduce-sound-requires returns-2)

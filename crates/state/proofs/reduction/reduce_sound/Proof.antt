@@ -32,12 +32,6 @@ loop-holds c = let s = c .before .before .before in reducing-none (state s) (sha
 next-pair-requires : tie.Need-next-pair-requires Inv-loop μ-loop
 next-pair-requires c κs = reducing-n _ _ _ (c .before .before .before .before .loop .inv)
 
-enum-known-pair : tie.Need-enum-known-pair Inv-loop μ-loop
-enum-known-pair c = search needs
-
-enum-told : tie.Need-enum-told Inv-loop μ-loop
-enum-told c = search needs
-
 returns : tie.Need-returns Inv-loop μ-loop
 returns c =
     let p = c .before .before in
@@ -87,8 +81,8 @@ reduce-sound-spec =
     μ-loop
     loop-holds
     next-pair-requires
-    enum-known-pair
-    enum-told
+    (λ c. search needs)
+    (λ c. search needs)
     returns
     step-requires
     add-steps

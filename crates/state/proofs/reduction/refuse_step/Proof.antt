@@ -22,20 +22,11 @@ shaped c = lent-shaped _ _ _ _ _ _ (let f : Fits w64 (c .args .n) = search needs
 sound : (c : tie.Else1) → soundState (state (c .before .before)) ≡ true
 sound c = sym (sound-told _ _ (c .before .sound-parts .ensures)) ∙ not-false _ (c .if1 .left)
 
-sound-parts-requires : tie.Need-sound-parts-requires
-sound-parts-requires c κs = search needs
-
 returns : tie.Need-returns
 returns c = unsound-number _ _ _ (sym (sound-told _ _ (c .before .sound-parts .ensures)) ∙ not-true _ (c .if1 .taken))
 
 judge-requires : tie.Need-judge-requires
 judge-requires c κs = n-most (state (c .before .before)) (sound c)
-
-enum-told : tie.Need-enum-told
-enum-told c = search needs
-
-enum-known-cause : tie.Need-enum-known-cause
-enum-known-cause c = search needs
 
 returns-2 : tie.Need-returns-2
 returns-2 c =
@@ -53,10 +44,10 @@ pub refuse-step-spec : {M : Type 1} → statement M
 refuse-step-spec =
     tie.close
     (tie.spec
-    sound-parts-requires
+    (λ c κs. search needs)
     returns
     judge-requires
-    enum-told
-    enum-known-cause
+    (λ c. search needs)
+    (λ c. search needs)
     returns-2
     returns-3)

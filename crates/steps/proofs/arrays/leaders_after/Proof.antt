@@ -18,32 +18,8 @@ abbrev μ-loop : tie.MeasureT-loop
 loop-holds : tie.Need-loop-holds Inv-loop μ-loop
 loop-holds c = (omega arith, filled-none 16 _ _ (search needs))
 
-element-copy-out-leader-after : tie.Need-element-copy-out-leader-after Inv-loop μ-loop
-element-copy-out-leader-after c = search needs
-
-leader-after-requires : tie.Need-leader-after-requires Inv-loop μ-loop
-leader-after-requires c κs = search needs
-
-array-write-after : tie.Need-array-write-after Inv-loop μ-loop
-array-write-after c = search needs
-
-add-x : tie.Need-add-x Inv-loop μ-loop
-add-x c = search needs
-
-loop-less : tie.Need-loop-less Inv-loop μ-loop
-loop-less c = search needs
-
 loop-again : tie.Need-loop-again Inv-loop μ-loop
 loop-again c = (omega arith, filled-more 16 _ _ _ _ (c .before .before .before .loop .inv .1) (c .before .before .loop-test .taken) (c .leader-after .ensures))
-
-add-after : tie.Need-add-after Inv-loop μ-loop
-add-after c = search needs
-
-cast-after : tie.Need-cast-after Inv-loop μ-loop
-cast-after c = search needs
-
-array-write-after-2 : tie.Need-array-write-after-2 Inv-loop μ-loop
-array-write-after-2 c = search needs
 
 returns : tie.Need-returns Inv-loop μ-loop
 returns c = leaders-led _ _ (c .before .before .args .leaders .now) _ (omega arith) (filled-end 16 _ _ _ (c .before .loop .inv .1) (c .loop-test .left))
@@ -55,13 +31,13 @@ leaders-after-spec =
     Inv-loop
     μ-loop
     loop-holds
-    element-copy-out-leader-after
-    leader-after-requires
-    array-write-after
-    add-x
-    loop-less
+    (λ c. search needs)
+    (λ c κs. search needs)
+    (λ c. search needs)
+    (λ c. search needs)
+    (λ c. search needs)
     loop-again
-    add-after
-    cast-after
-    array-write-after-2
+    (λ c. search needs)
+    (λ c. search needs)
+    (λ c. search needs)
     returns)

@@ -6,26 +6,8 @@ use Rattle.steps.proofs.StepRows.{third-none, third-apart, third-moved}
 use Rattle.steps.proofs.arrays.move_third.Statement.{statement}
 use Rattle.steps.proofs.arrays.move_third.Tie as tie
 
-member-requires : tie.Need-member-requires
-member-requires c κs = search needs
-
 returns : tie.Need-returns
 returns c = third-none _ _ _ _ _ _ _ _ (sym (c .before .member .ensures) ∙ not-true _ (c .if1 .taken))
-
-member-requires-2 : tie.Need-member-requires-2
-member-requires-2 c κs = search needs
-
-mul-compose : tie.Need-mul-compose
-mul-compose c = search needs
-
-element-copy-out-compose : tie.Need-element-copy-out-compose
-element-copy-out-compose c = search needs
-
-mul-compose-2 : tie.Need-mul-compose-2
-mul-compose-2 c = search needs
-
-element-copy-out-compose-2 : tie.Need-element-copy-out-compose-2
-element-copy-out-compose-2 c = search needs
 
 compose-requires : tie.Need-compose-requires
 compose-requires c κs =
@@ -33,12 +15,6 @@ compose-requires c κs =
     let p = e .before .before .pre in
     let t = sym (e .before .member .ensures) ∙ not-false _ (e .if1 .left) in
     (p .0, p .1, p .2, p .3, λ q. third-apart _ _ _ t (p .5) (sym q), third-apart _ _ _ t (p .4), p .6)
-
-clear-requires : tie.Need-clear-requires
-clear-requires c κs = search needs
-
-clear-requires-2 : tie.Need-clear-requires-2
-clear-requires-2 c κs = search needs
 
 returns-2 : tie.Need-returns-2
 returns-2 c =
@@ -53,14 +29,14 @@ pub move-third-spec : {M : Type 1} → statement M
 move-third-spec =
     tie.close
     (tie.spec
-    member-requires
+    (λ c κs. search needs)
     returns
-    member-requires-2
-    mul-compose
-    element-copy-out-compose
-    mul-compose-2
-    element-copy-out-compose-2
+    (λ c κs. search needs)
+    (λ c. search needs)
+    (λ c. search needs)
+    (λ c. search needs)
+    (λ c. search needs)
     compose-requires
-    clear-requires
-    clear-requires-2
+    (λ c κs. search needs)
+    (λ c κs. search needs)
     returns-2)

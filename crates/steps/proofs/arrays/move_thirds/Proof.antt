@@ -22,12 +22,6 @@ move-third-requires c κs =
     let p = c .before .before .before .pre in
     (p .0, p .1, c .before .loop-test .taken, p .2, p .3, p .4, c .before .before .loop .inv .1 .same-length ∙ p .5)
 
-add-k : tie.Need-add-k Inv-loop μ-loop
-add-k c = search needs
-
-loop-less : tie.Need-loop-less Inv-loop μ-loop
-loop-less c = search needs
-
 loop-again : tie.Need-loop-again Inv-loop μ-loop
 loop-again c =
     let p = c .before .before .before .before .pre in
@@ -39,4 +33,4 @@ returns c = last-turn _ _ _ _ _ _ _ _ _ (c .before .before .fits .thirds .fits) 
 pub move-thirds-spec : {M : Type 1} → statement M
 move-thirds-spec =
     tie.close
-    (tie.spec Inv-loop μ-loop loop-holds move-third-requires add-k loop-less loop-again returns)
+    (tie.spec Inv-loop μ-loop loop-holds move-third-requires (λ c. search needs) (λ c. search needs) loop-again returns)

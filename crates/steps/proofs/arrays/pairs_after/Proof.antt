@@ -6,38 +6,17 @@ use Rattle.steps.proofs.StepArrays.{pairs-i, pairs-j, pairs-other, pair
 use Rattle.steps.proofs.arrays.pairs_after.Statement.{statement}
 use Rattle.steps.proofs.arrays.pairs_after.Tie as tie
 
-either-requires : tie.Need-either-requires
-either-requires c κs = search needs
-
 returns : tie.Need-returns
 returns c = let p = c .before .before .pre in pairs-i _ _ _ _ _ (p .3) (p .4) (p .5) _ (c .before .if1 .taken) (c .either .ensures)
 
-without-requires : tie.Need-without-requires
-without-requires c κs = search needs
-
 returns-2 : tie.Need-returns-2
 returns-2 c = let p = c .before .before .before .pre in pairs-j _ _ _ _ _ (p .3) (p .4) (p .5) _ (c .before .if2 .taken) (c .without .ensures)
-
-member-requires : tie.Need-member-requires
-member-requires c κs = search needs
 
 returns-3 : tie.Need-returns-3
 returns-3 c =
     let s = c .before .before .before .before in
     pairs-other _ _ _ _ _ (s .pre .3) (s .pre .4) (s .pre .5) (s .fits .pairs .fits)
     (c .before .before .before .if1 .left) (c .before .before .if2 .left) (sym (c .before .member .ensures) ∙ not-true _ (c .if3 .taken))
-
-single-requires : tie.Need-single-requires
-single-requires c κs = search needs
-
-either-requires-2 : tie.Need-either-requires-2
-either-requires-2 c κs = search needs
-
-single-requires-2 : tie.Need-single-requires-2
-single-requires-2 c κs = search needs
-
-without-requires-2 : tie.Need-without-requires-2
-without-requires-2 c κs = search needs
 
 returns-4 : tie.Need-returns-4
 returns-4 c =
@@ -50,14 +29,14 @@ pub pairs-after-spec : {M : Type 1} → statement M
 pairs-after-spec =
     tie.close
     (tie.spec
-    either-requires
+    (λ c κs. search needs)
     returns
-    without-requires
+    (λ c κs. search needs)
     returns-2
-    member-requires
+    (λ c κs. search needs)
     returns-3
-    single-requires
-    either-requires-2
-    single-requires-2
-    without-requires-2
+    (λ c κs. search needs)
+    (λ c κs. search needs)
+    (λ c κs. search needs)
+    (λ c κs. search needs)
     returns-4)

@@ -18,27 +18,6 @@ abbrev μ-loop : tie.MeasureT-loop
 loop-holds : tie.Need-loop-holds Inv-loop μ-loop
 loop-holds c = (omega arith, filled-none 16 _ _ (search needs))
 
-mul-pairs-after : tie.Need-mul-pairs-after Inv-loop μ-loop
-mul-pairs-after c = search needs
-
-element-copy-out-pairs-after : tie.Need-element-copy-out-pairs-after Inv-loop μ-loop
-element-copy-out-pairs-after c = search needs
-
-pairs-after-requires : tie.Need-pairs-after-requires Inv-loop μ-loop
-pairs-after-requires c κs = search needs
-
-mul-after : tie.Need-mul-after Inv-loop μ-loop
-mul-after c = search needs
-
-array-write-after : tie.Need-array-write-after Inv-loop μ-loop
-array-write-after c = search needs
-
-add-x : tie.Need-add-x Inv-loop μ-loop
-add-x c = search needs
-
-loop-less : tie.Need-loop-less Inv-loop μ-loop
-loop-less c = search needs
-
 loop-again : tie.Need-loop-again Inv-loop μ-loop
 loop-again c = (omega arith, filled-more 16 _ _ _ _ (c .before .before .before .loop .inv .1) (c .before .before .loop-test .taken) (c .pairs-after .ensures))
 
@@ -52,12 +31,12 @@ stated-after-spec =
     Inv-loop
     μ-loop
     loop-holds
-    mul-pairs-after
-    element-copy-out-pairs-after
-    pairs-after-requires
-    mul-after
-    array-write-after
-    add-x
-    loop-less
+    (λ c. search needs)
+    (λ c. search needs)
+    (λ c κs. search needs)
+    (λ c. search needs)
+    (λ c. search needs)
+    (λ c. search needs)
+    (λ c. search needs)
     loop-again
     returns)

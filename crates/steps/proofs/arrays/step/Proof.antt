@@ -24,47 +24,8 @@ apart c =
     let p = c .before .before .before .before .before .before .pre in
     (p .0, p .1, p .2, leader-no-third _ _ _ _ (c .thirds-of .ensures) (p .0), follower-no-third _ _ _ _ (c .thirds-of .ensures) (p .1))
 
-mul-supported : tie.Need-mul-supported
-mul-supported c = search needs
-
-element-copy-out-supported : tie.Need-element-copy-out-supported
-element-copy-out-supported c = search needs
-
-mul-supported-2 : tie.Need-mul-supported-2
-mul-supported-2 c = search needs
-
-element-copy-out-supported-2 : tie.Need-element-copy-out-supported-2
-element-copy-out-supported-2 c = search needs
-
-supported-requires : tie.Need-supported-requires
-supported-requires c κs = search needs
-
-mul-thirds-of : tie.Need-mul-thirds-of
-mul-thirds-of c = search needs
-
-element-copy-out-thirds-of : tie.Need-element-copy-out-thirds-of
-element-copy-out-thirds-of c = search needs
-
-thirds-of-requires : tie.Need-thirds-of-requires
-thirds-of-requires c κs = search needs
-
-leaders-after-requires : tie.Need-leaders-after-requires
-leaders-after-requires c κs = search needs
-
 stated-after-requires : tie.Need-stated-after-requires
 stated-after-requires c κs = apart (c .before)
-
-mul-trimmed : tie.Need-mul-trimmed
-mul-trimmed c = search needs
-
-array-write-trimmed : tie.Need-array-write-trimmed
-array-write-trimmed c = search needs
-
-mul-move-thirds : tie.Need-mul-move-thirds
-mul-move-thirds c = search needs
-
-element-copy-out-move-thirds : tie.Need-element-copy-out-move-thirds
-element-copy-out-move-thirds c = search needs
 
 move-thirds-requires : tie.Need-move-thirds-requires
 move-thirds-requires c κs =
@@ -83,19 +44,19 @@ pub step-spec : {M : Type 1} → statement M
 step-spec =
     tie.close
     (tie.spec
-    mul-supported
-    element-copy-out-supported
-    mul-supported-2
-    element-copy-out-supported-2
-    supported-requires
-    mul-thirds-of
-    element-copy-out-thirds-of
-    thirds-of-requires
-    leaders-after-requires
+    (λ c. search needs)
+    (λ c. search needs)
+    (λ c. search needs)
+    (λ c. search needs)
+    (λ c κs. search needs)
+    (λ c. search needs)
+    (λ c. search needs)
+    (λ c κs. search needs)
+    (λ c κs. search needs)
     stated-after-requires
-    mul-trimmed
-    array-write-trimmed
-    mul-move-thirds
-    element-copy-out-move-thirds
+    (λ c. search needs)
+    (λ c. search needs)
+    (λ c. search needs)
+    (λ c. search needs)
     move-thirds-requires
     returns)

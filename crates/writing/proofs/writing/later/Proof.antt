@@ -6,15 +6,6 @@ use Rattle.writing.proofs.Held.{later-shifted, later-most}
 use Rattle.writing.proofs.writing.later.Statement.{statement}
 use Rattle.writing.proofs.writing.later.Tie as tie
 
-cast-count : tie.Need-cast-count
-cast-count c = search needs
-
-shr-count : tie.Need-shr-count
-shr-count c = search needs
-
-count-requires : tie.Need-count-requires
-count-requires c κs = search needs
-
 returns : tie.Need-returns
 returns c =
     let e = c .count .ensures ∙ later-shifted _ _ in (e, omega (arith, later-most (c .before .args .x) (c .before .args .i)))
@@ -23,7 +14,7 @@ pub later-spec : {M : Type 1} → statement M
 later-spec =
     tie.close
     (tie.spec
-    cast-count
-    shr-count
-    count-requires
+    (λ c. search needs)
+    (λ c. search needs)
+    (λ c κs. search needs)
     returns)

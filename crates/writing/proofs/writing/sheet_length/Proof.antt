@@ -15,35 +15,8 @@ Inv-loop n sizes stated bytes₀ i₀ bytes i = (i ≤ n) × (bytes ≡ 5 + n + 
 abbrev μ-loop : tie.MeasureT-loop
 μ-loop n sizes stated bytes₀ i₀ bytes i = n - i
 
-add-bytes : tie.Need-add-bytes Inv-loop μ-loop
-add-bytes c = search needs
-
 loop-holds : tie.Need-loop-holds Inv-loop μ-loop
 loop-holds c = let none = bytes-none (c .args .sizes .now) (c .args .stated .now) in (omega arith, omega arith, omega arith)
-
-element-copy-out-tables-length : tie.Need-element-copy-out-tables-length Inv-loop μ-loop
-element-copy-out-tables-length c = search needs
-
-mul-later : tie.Need-mul-later Inv-loop μ-loop
-mul-later c = search needs
-
-element-copy-out-later : tie.Need-element-copy-out-later Inv-loop μ-loop
-element-copy-out-later c = search needs
-
-later-requires : tie.Need-later-requires Inv-loop μ-loop
-later-requires c κs = search needs
-
-tables-length-requires : tie.Need-tables-length-requires Inv-loop μ-loop
-tables-length-requires c κs = search needs
-
-add-bytes-2 : tie.Need-add-bytes-2 Inv-loop μ-loop
-add-bytes-2 c = search needs
-
-add-i : tie.Need-add-i Inv-loop μ-loop
-add-i c = search needs
-
-loop-less : tie.Need-loop-less Inv-loop μ-loop
-loop-less c = search needs
 
 loop-again : tie.Need-loop-again Inv-loop μ-loop
 loop-again c =
@@ -65,15 +38,15 @@ sheet-length-spec =
     (tie.spec
     Inv-loop
     μ-loop
-    add-bytes
+    (λ c. search needs)
     loop-holds
-    element-copy-out-tables-length
-    mul-later
-    element-copy-out-later
-    later-requires
-    tables-length-requires
-    add-bytes-2
-    add-i
-    loop-less
+    (λ c. search needs)
+    (λ c. search needs)
+    (λ c. search needs)
+    (λ c κs. search needs)
+    (λ c κs. search needs)
+    (λ c. search needs)
+    (λ c. search needs)
+    (λ c. search needs)
     loop-again
     returns)

@@ -6,12 +6,6 @@ use Rattle.writing.proofs.Held.{bytes-most}
 use Rattle.writing.proofs.writing.tables_length.Statement.{statement}
 use Rattle.writing.proofs.writing.tables_length.Tie as tie
 
-mul-result : tie.Need-mul-result
-mul-result c = search needs
-
-add-result : tie.Need-add-result
-add-result c = search needs
-
 mul-result-2 : tie.Need-mul-result-2
 mul-result-2 c = omega (arith, bytes-most (c .args .size) (c .args .tables) (omega arith) (c .pre))
 
@@ -22,7 +16,7 @@ pub tables-length-spec : {M : Type 1} → statement M
 tables-length-spec =
     tie.close
     (tie.spec
-    mul-result
-    add-result
+    (λ c. search needs)
+    (λ c. search needs)
     mul-result-2
     returns)

@@ -5,18 +5,9 @@ use Rattle.buffers.proofs.Laws.{wrote-then}
 use Rattle.writing.proofs.writing.write_header.Statement.{statement}
 use Rattle.writing.proofs.writing.write_header.Tie as tie
 
-put-byte-requires : tie.Need-put-byte-requires
-put-byte-requires c κs = search needs
-
-put-number-requires : tie.Need-put-number-requires
-put-number-requires c κs = search needs
-
 put-byte-requires-2 : tie.Need-put-byte-requires-2
 unfolding bytesOf
 put-byte-requires-2 c κs = search needs
-
-same-length : tie.Need-same-length
-same-length c = search needs
 
 returns : tie.Need-returns
 returns c =
@@ -27,8 +18,8 @@ pub write-header-spec : {M : Type 1} → statement M
 write-header-spec =
     tie.close
     (tie.spec
-    put-byte-requires
-    put-number-requires
+    (λ c κs. search needs)
+    (λ c κs. search needs)
     put-byte-requires-2
-    same-length
+    (λ c. search needs)
     returns)

@@ -41,9 +41,6 @@ sheet-length-requires : tie.Need-sheet-length-requires
 sheet-length-requires c κs =
     let s = c .before in (s .pre .1 .0 .0, stated-below _ _ _ _ (s .pre .1 .0 .0) (s .pre .1 .0 .1) (s .pre .0))
 
-cast-write-header : tie.Need-cast-write-header
-cast-write-header c = search needs
-
 sub-write-header : tie.Need-sub-write-header
 sub-write-header c = omega (arith, bytes c)
 
@@ -56,9 +53,6 @@ write-header-requires c κs = omega (arith, bytes (c .before))
 write-sizes-requires : tie.Need-write-sizes-requires
 unfolding bytesOf
 write-sizes-requires c κs = let p = bytes (c .before .before .before .before .before) in search needs
-
-table-count-requires : tie.Need-table-count-requires
-table-count-requires c κs = search needs
 
 cast-tables : tie.Need-cast-tables
 cast-tables c = omega (arith, few-tables (c .before .before .before .before .before .before .before .before .before .before .before))
@@ -74,9 +68,6 @@ write-tables-requires c κs =
     let p = bytes s in
     let q = s .before .before .pre .1 .0 in
     search needs
-
-same-length : tie.Need-same-length
-same-length c = search needs
 
 returns : tie.Need-returns
 returns c =
@@ -94,14 +85,14 @@ write-into-spec =
     tie.close
     (tie.spec
     sheet-length-requires
-    cast-write-header
+    (λ c. search needs)
     sub-write-header
     cast-write-header-2
     write-header-requires
     write-sizes-requires
-    table-count-requires
+    (λ c κs. search needs)
     cast-tables
     put-byte-requires
     write-tables-requires
-    same-length
+    (λ c. search needs)
     returns)

@@ -17,9 +17,6 @@ Inv-loop i n sizes stated rows buffer₀ at next₀ j₀ buffer next j =
 abbrev μ-loop : tie.MeasureT-loop
 μ-loop i n sizes stated rows buffer₀ at next₀ j₀ buffer next j = n - j
 
-add-j : tie.Need-add-j Inv-loop μ-loop
-add-j c = search needs
-
 loop-holds : tie.Need-loop-holds Inv-loop μ-loop
 unfolding laterText
 loop-holds c = (omega arith, omega arith, wrote-start _ _ _ _ (omega arith))
@@ -31,18 +28,9 @@ write-table-requires c κs =
     let r = wrote-room _ (s .args .n) (omega arith) (omega arith) (s .pre .1) (c .before .before .loop .inv .2) in
     search needs
 
-add-j-2 : tie.Need-add-j-2 Inv-loop μ-loop
-add-j-2 c = search needs
-
-loop-less : tie.Need-loop-less Inv-loop μ-loop
-loop-less c = search needs
-
 loop-again : tie.Need-loop-again Inv-loop μ-loop
 loop-again c =
     (omega arith, omega arith, wrote-next _ (omega arith) (c .before .before .before .before .before .loop .inv .2) (c .before .before .write-table .ensures))
-
-same-length : tie.Need-same-length Inv-loop μ-loop
-same-length c = search needs
 
 returns : tie.Need-returns Inv-loop μ-loop
 unfolding laterText
@@ -54,11 +42,11 @@ write-later-spec =
     (tie.spec
     Inv-loop
     μ-loop
-    add-j
+    (λ c. search needs)
     loop-holds
     write-table-requires
-    add-j-2
-    loop-less
+    (λ c. search needs)
+    (λ c. search needs)
     loop-again
-    same-length
+    (λ c. search needs)
     returns)

@@ -22,43 +22,16 @@ loop-holds : tie.Need-loop-holds Inv-loop μ-loop
 unfolding rowsText
 loop-holds c = (omega arith, wrote-start 0 _ _ _ (omega arith))
 
-mul-put-number : tie.Need-mul-put-number Inv-loop μ-loop
-mul-put-number c = search needs
-
-add-put-number : tie.Need-add-put-number Inv-loop μ-loop
-add-put-number c = search needs
-
-mul-put-number-2 : tie.Need-mul-put-number-2 Inv-loop μ-loop
-mul-put-number-2 c = search needs
-
-add-put-number-2 : tie.Need-add-put-number-2 Inv-loop μ-loop
-add-put-number-2 c = search needs
-
-mul-put-number-3 : tie.Need-mul-put-number-3 Inv-loop μ-loop
-mul-put-number-3 c = search needs
-
-element-copy-out-put-number : tie.Need-element-copy-out-put-number Inv-loop μ-loop
-element-copy-out-put-number c = search needs
-
 put-number-requires : tie.Need-put-number-requires Inv-loop μ-loop
 unfolding rowsText bytesOf
 put-number-requires c κs =
     let s = c .before .before .before .before .before in
     wrote-room _ (s .args .size) (omega arith) (omega arith) (s .pre .3) (c .before .before .before .loop .inv .1)
 
-add-a : tie.Need-add-a Inv-loop μ-loop
-add-a c = search needs
-
-loop-less : tie.Need-loop-less Inv-loop μ-loop
-loop-less c = search needs
-
 loop-again : tie.Need-loop-again Inv-loop μ-loop
 unfolding rowAt place
 loop-again c =
     (omega arith, wrote-next _ (omega arith) (c .before .before .before .before .before .before .loop .inv .1) (c .before .before .put-number .ensures))
-
-same-length : tie.Need-same-length Inv-loop μ-loop
-same-length c = search needs
 
 returns : tie.Need-returns Inv-loop μ-loop
 unfolding rowsText
@@ -71,15 +44,15 @@ write-rows-spec =
     Inv-loop
     μ-loop
     loop-holds
-    mul-put-number
-    add-put-number
-    mul-put-number-2
-    add-put-number-2
-    mul-put-number-3
-    element-copy-out-put-number
+    (λ c. search needs)
+    (λ c. search needs)
+    (λ c. search needs)
+    (λ c. search needs)
+    (λ c. search needs)
+    (λ c. search needs)
     put-number-requires
-    add-a
-    loop-less
+    (λ c. search needs)
+    (λ c. search needs)
     loop-again
-    same-length
+    (λ c. search needs)
     returns)

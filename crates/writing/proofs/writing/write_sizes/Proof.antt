@@ -21,27 +21,15 @@ loop-holds : tie.Need-loop-holds Inv-loop μ-loop
 unfolding sizesText
 loop-holds c = (omega arith, wrote-start 0 _ _ _ (omega arith))
 
-element-copy-out-put-byte : tie.Need-element-copy-out-put-byte Inv-loop μ-loop
-element-copy-out-put-byte c = search needs
-
 put-byte-requires : tie.Need-put-byte-requires Inv-loop μ-loop
 unfolding sizesText
 put-byte-requires c κs =
     let s = c .before .before .before .before .before in
     omega (arith, wrote-room _ (s .args .n) (omega arith) (omega arith) (s .pre .1) (c .before .before .before .loop .inv .1))
 
-add-i : tie.Need-add-i Inv-loop μ-loop
-add-i c = search needs
-
-loop-less : tie.Need-loop-less Inv-loop μ-loop
-loop-less c = search needs
-
 loop-again : tie.Need-loop-again Inv-loop μ-loop
 loop-again c =
     (omega arith, wrote-next _ (omega arith) (c .before .before .before .before .before .before .loop .inv .1) (c .before .before .put-byte .ensures))
-
-same-length : tie.Need-same-length Inv-loop μ-loop
-same-length c = search needs
 
 returns : tie.Need-returns Inv-loop μ-loop
 unfolding sizesText
@@ -54,10 +42,10 @@ write-sizes-spec =
     Inv-loop
     μ-loop
     loop-holds
-    element-copy-out-put-byte
+    (λ c. search needs)
     put-byte-requires
-    add-i
-    loop-less
+    (λ c. search needs)
+    (λ c. search needs)
     loop-again
-    same-length
+    (λ c. search needs)
     returns)

@@ -24,47 +24,17 @@ room-here : (c : tie.Else1)
     s .at + (2 + length (rowsText (getD (s .sizes .now) (s .i) 0) (rowAt 16 (s .rows .now) (s .i) (s .j)))) ≤ length (s .buffer .now)
 room-here c = let r = rw (table-stated _ _ _ _ _ (stated-here c)) at (c .before .before .before .before .pre .1) in omega arith
 
-mul-member : tie.Need-mul-member
-mul-member c = search needs
-
-element-copy-out-member : tie.Need-element-copy-out-member
-element-copy-out-member c = search needs
-
-member-requires : tie.Need-member-requires
-member-requires c κs = search needs
-
 returns : tie.Need-returns
 returns c = rw (table-unstated _ _ _ _ _ (sym (c .before .member .ensures) ∙ not-true _ (c .if1 .taken))) (wrote-none _ _ (omega arith))
-
-add-put-byte : tie.Need-add-put-byte
-add-put-byte c = search needs
-
-cast-put-byte : tie.Need-cast-put-byte
-cast-put-byte c = search needs
 
 put-byte-requires : tie.Need-put-byte-requires
 put-byte-requires c κs = omega (arith, room-here (c .before))
 
-add-put-byte-2 : tie.Need-add-put-byte-2
-add-put-byte-2 c = search needs
-
-cast-put-byte-2 : tie.Need-cast-put-byte-2
-cast-put-byte-2 c = search needs
-
 put-byte-requires-2 : tie.Need-put-byte-requires-2
 put-byte-requires-2 c κs = omega (arith, room-here (c .before .before .before .before .before))
 
-element-copy-out-write-rows : tie.Need-element-copy-out-write-rows
-element-copy-out-write-rows c = search needs
-
-cast-write-rows : tie.Need-cast-write-rows
-cast-write-rows c = search needs
-
 write-rows-requires : tie.Need-write-rows-requires
 write-rows-requires c κs = let r = room-here (c .before .before .before .before .before .before .before .before .before .before) in search needs
-
-same-length : tie.Need-same-length
-same-length c = search needs
 
 returns-2 : tie.Need-returns-2
 returns-2 c =
@@ -76,18 +46,18 @@ pub write-table-spec : {M : Type 1} → statement M
 write-table-spec =
     tie.close
     (tie.spec
-    mul-member
-    element-copy-out-member
-    member-requires
+    (λ c. search needs)
+    (λ c. search needs)
+    (λ c κs. search needs)
     returns
-    add-put-byte
-    cast-put-byte
+    (λ c. search needs)
+    (λ c. search needs)
     put-byte-requires
-    add-put-byte-2
-    cast-put-byte-2
+    (λ c. search needs)
+    (λ c. search needs)
     put-byte-requires-2
-    element-copy-out-write-rows
-    cast-write-rows
+    (λ c. search needs)
+    (λ c. search needs)
     write-rows-requires
-    same-length
+    (λ c. search needs)
     returns-2)

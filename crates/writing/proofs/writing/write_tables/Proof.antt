@@ -29,18 +29,9 @@ write-later-requires c κs =
     let small = s .pre .0 .1 (c .before .before .loop .i) in
     search needs
 
-add-i : tie.Need-add-i Inv-loop μ-loop
-add-i c = search needs
-
-loop-less : tie.Need-loop-less Inv-loop μ-loop
-loop-less c = search needs
-
 loop-again : tie.Need-loop-again Inv-loop μ-loop
 loop-again c =
     (omega arith, wrote-next _ (omega arith) (c .before .before .before .before .before .loop .inv .1) (c .before .before .write-later .ensures))
-
-same-length : tie.Need-same-length Inv-loop μ-loop
-same-length c = search needs
 
 returns : tie.Need-returns Inv-loop μ-loop
 unfolding tablesText
@@ -54,8 +45,8 @@ write-tables-spec =
     μ-loop
     loop-holds
     write-later-requires
-    add-i
-    loop-less
+    (λ c. search needs)
+    (λ c. search needs)
     loop-again
-    same-length
+    (λ c. search needs)
     returns)

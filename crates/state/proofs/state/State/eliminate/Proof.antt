@@ -11,11 +11,8 @@ shaped c = search shape
 eliminate-parts-requires : tie.Need-eliminate-parts-requires
 eliminate-parts-requires c κs = shaped-lent _ (shaped (c .before .before .before .before .before .before .before .before .before .before))
 
-handed-back-requires : tie.Need-handed-back-requires
-handed-back-requires c κs = search needs
-
 returns : tie.Need-returns
 returns c = c .handed-back .ensures ∙ c .before .eliminate-parts .ensures
 
 pub eliminate-spec : {M : Type 1} → statement M
-eliminate-spec = tie.close (tie.spec eliminate-parts-requires handed-back-requires returns)
+eliminate-spec = tie.close (tie.spec eliminate-parts-requires (λ c κs. search needs) returns)

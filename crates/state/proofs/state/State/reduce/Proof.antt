@@ -11,11 +11,8 @@ shaped c = search shape
 reduce-parts-requires : tie.Need-reduce-parts-requires
 reduce-parts-requires c κs = shaped-lent _ (shaped (c .before .before .before .before .before .before .before .before .before .before))
 
-handed-back-requires : tie.Need-handed-back-requires
-handed-back-requires c κs = search needs
-
 returns : tie.Need-returns
 returns c = c .handed-back .ensures ∙ c .before .reduce-parts .ensures
 
 pub reduce-spec : {M : Type 1} → statement M
-reduce-spec = tie.close (tie.spec reduce-parts-requires handed-back-requires returns)
+reduce-spec = tie.close (tie.spec reduce-parts-requires (λ c κs. search needs) returns)
