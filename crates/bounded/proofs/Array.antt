@@ -1,4 +1,4 @@
--- Arrays of numbers: what the type of an array says of the list that it holds.
+-- Laws of arrays of numbers.
 use mathlib.Core.List.{List, [], _∷_}
 use mathlib.Core.Path.{_≡_, sym, _∙_}
 use Prim.Native.Nat.{ℕ, zero, suc, _^_, _≤_, _<_}
@@ -8,14 +8,10 @@ use lib.ListN.{length, getD, set, List·getD-eq-default}
 use mir.Syntax.{Width, w8, w16}
 use mir.Val.{Fits, bits}
 use borrow.Author.Tests.{ltb-true, ltb-false}
+use Rattle.bounded.specs.Array.{Array}
 use Rattle.bounded.specs.Table.{tabulate}
 use Rattle.bounded.proofs.Bool.{by-cases}
 use Rattle.bounded.proofs.Table.{length-tabulate, getD-tabulate, getD-tabulate-past}
-
--- n numbers below b.
-pub record Array (n b : ℕ) (l : List ℕ) : Type 0 where
-  pub array-length : length l ≡ n
-  pub element-lt : (k : ℕ) → getD l k 0 < b
 
 -- The elements of an array of `u8` or `u16` fit; `search (u8-array, u16-array, needs)` finds both facts of a parameter or a field.
 fits-array : (W : Width) (n : ℕ) (l : List ℕ) → length l ≡ n → ((k : ℕ) → Fits W (getD l k 0)) → Array n (2 ^ bits W) l

@@ -196,12 +196,6 @@ unfolding bit
 bit-le true = omega arith
 bit-le false = omega arith
 
--- A test is read off its bit.
-pub true-of-bit : (b : Bool) → 1 ≤ bit b → b ≡ true
-unfolding bit
-true-of-bit true h = refl
-true-of-bit false h = absurd (let k : ⊥ = omega arith in k)
-
 pub bit-and : (a b : Bool) → bit (and a b) ≡ bit a * bit b
 unfolding bit and
 bit-and true true = refl

@@ -118,11 +118,6 @@ sum-one (suc n) f k l h =
     let r : sum n f ≡ f k = sum-one n f k s (λ j m d. h j (omega arith) d) in
     omega arith)
 
-pub sum-le : (n : ℕ) (f g : ℕ → ℕ) → ((k : ℕ) → k < n → f k ≤ g k) → sum n f ≤ sum n g
-unfolding sum
-sum-le zero f g h = omega arith
-sum-le (suc n) f g h = omega (arith, h n (omega arith), sum-le n f g (λ k l. h k (omega arith)))
-
 pub count-le : (n : ℕ) (p : ℕ → Bool) → count n p ≤ n
 unfolding count sum
 count-le zero p = omega arith
@@ -228,12 +223,6 @@ first-is n p k l h u =
     (λ t. by-cases (ltb k (first n p))
     (λ r. clash h (first-below n p k (ltb-true k (first n p) r)))
     (λ r. omega (arith, ltb-false (first n p) k t, ltb-false k (first n p) r)))
-
--- Where none passes the search gives the bound.
-pub first-none : (n : ℕ) (p : ℕ → Bool) → some n p ≡ false → first n p ≡ n
-first-none n p h = by-cases (ltb (first n p) n)
-    (λ t. clash (first-passes n p (ltb-true (first n p) n t)) (none-of n p h (first n p) (ltb-true (first n p) n t)))
-    (λ t. omega (arith, ltb-false (first n p) n t, first-le n p))
 
 pub first-cong : (n : ℕ) (p q : ℕ → Bool) → ((k : ℕ) → k < n → p k ≡ q k) → first n p ≡ first n q
 unfolding first

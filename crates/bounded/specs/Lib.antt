@@ -2,3 +2,4 @@
 pub mod Bool
 pub mod Fold
 pub mod Table
+pub mod Array

@@ -65,7 +65,3 @@ hex-digit-low d h = if-true _ _ _ (lt-ltb d 10 h)
 pub hex-digit-high : (d : ℕ) → 10 ≤ d → hexDigit d ≡ 55 + d
 unfolding hexDigit
 hex-digit-high d h = if-false _ _ _ (le-ltb d 10 h)
-
-pub length-hex4 : (n : ℕ) → length (hex4 n) ≡ 4
-unfolding hex4
-length-hex4 n = refl

@@ -2,15 +2,15 @@
 // A state goes in by value, and a step or a reduction changes one in place, lent as its arrays; any contents of it are taken. `include/sheet.h` declares
 // all of this in C.
 ghost use mathlib.Core.Path.{_≡_};
-ghost use Rattle.parts.specs.Parts.{Lent};
+ghost use Rattle.soundness.specs.Parts.{Lent};
 ghost use Rattle.state.specs.View.{stateOf, soundState};
 ghost use Rattle.state.specs.Read.{readSheet};
 ghost use Rattle.state.specs.Write.{writeSheet};
 ghost use Rattle.state.specs.Steps.{stepped, reduced};
 ghost use Rattle.state.specs.Solutions.{tested, completeNumber, completedBuffer, verdictOf};
 ghost use Rattle.state.specs.Cut.{cutSheet};
-ghost use Rattle.report.specs.Text.{textOf};
-ghost use Rattle.report.specs.Printed.{Printed};
+ghost use Rattle.text_report.specs.Text.{textOf};
+ghost use Rattle.text_report.specs.Printed.{Printed};
 ghost use Rattle.capi.specs.Answers.{readOut, leftAs, writtenOut, testedOut, verdictOut, cutOut};
 use answers::outcome_number;
 use answers::read_number;
@@ -21,11 +21,11 @@ use answers::verdict_kind;
 use answers::verdict_number;
 use answers::write_length;
 use answers::write_number;
-use cutting::cut_parts;
-use cutting::read_parts;
 use state::State;
 use state::eliminate_parts;
 use state::reduce_parts;
+use state_cut::cut_parts;
+use state_read::read_parts;
 
 // Reading: the number that refuses, its place, and the state.
 #[repr(C)]
@@ -319,7 +319,7 @@ pub extern "C" fn sheet_cut(bytes: &[u8]) -> SheetCut
 pub extern "C" fn sheet_text(bytes: &[u8]) -> SheetText
     ensures { λ r. ⌜ Printed 512 (textOf (now (bytes .entry))) (r .bytes) (r .length) ⌝ }
 {
-    let text = report::report(bytes);
+    let text = text_report::report(bytes);
     let printed = text.bytes;
     SheetText {
         length: text.length,

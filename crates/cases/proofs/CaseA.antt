@@ -29,7 +29,7 @@ use Rattle.state.specs.View.{pack}
 use Rattle.state.specs.Answers.{ReadTold}
 use Rattle.state.specs.Read.{readSheet}
 use Rattle.state.specs.Steps.{reduced, reducedAs}
-use Rattle.cutting.proofs.RoundTrip.{Accepted, read-got, read-sound, got-accepted}
+use Rattle.state_read.proofs.RoundTrip.{Accepted, read-got, read-sound, got-accepted}
 use Rattle.state.proofs.Steps.{reduced-done}
 use Rattle.cases.specs.CaseA.{bytesA, bytesLast, stateLast, cutA}
 

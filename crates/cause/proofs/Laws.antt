@@ -5,27 +5,30 @@ use Rattle.cause.specs.declared.Cause.{Cause}
 use Rattle.cause.specs.declared.Cause.the-variants.{Length, Version, VariableCount, Size, ConstraintCount, CutOff, LeftOver, PairRange, PairOrder, PairRepeated, RowRange, Unsound, VariableNumber, SameVariable, NotFree, NotStated, NotFunctional, SolutionLength, ValueRange, ValuesForbidden, BufferLength, NotFresh}
 use Rattle.cause.specs.Number.{numberOf}
 
--- No cause has number 0, which stands for "not refused".
+-- "Causes and their numbers": 1 to 18. No cause has number 0, which stands for "not refused".
+pub number-range : (c : Cause) → (1 ≤ numberOf c) × (numberOf c ≤ 18)
+number-range Length = omega arith
+number-range Version = omega arith
+number-range VariableCount = omega arith
+number-range Size = omega arith
+number-range ConstraintCount = omega arith
+number-range CutOff = omega arith
+number-range LeftOver = omega arith
+number-range PairRange = omega arith
+number-range PairOrder = omega arith
+number-range PairRepeated = omega arith
+number-range RowRange = omega arith
+number-range Unsound = omega arith
+number-range VariableNumber = omega arith
+number-range SameVariable = omega arith
+number-range NotFree = omega arith
+number-range NotStated = omega arith
+number-range NotFunctional = omega arith
+number-range SolutionLength = omega arith
+number-range ValueRange = omega arith
+number-range ValuesForbidden = omega arith
+number-range BufferLength = omega arith
+number-range NotFresh = omega arith
+
 pub number-positive : (c : Cause) → 1 ≤ numberOf c
-number-positive Length = omega arith
-number-positive Version = omega arith
-number-positive VariableCount = omega arith
-number-positive Size = omega arith
-number-positive ConstraintCount = omega arith
-number-positive CutOff = omega arith
-number-positive LeftOver = omega arith
-number-positive PairRange = omega arith
-number-positive PairOrder = omega arith
-number-positive PairRepeated = omega arith
-number-positive RowRange = omega arith
-number-positive Unsound = omega arith
-number-positive VariableNumber = omega arith
-number-positive SameVariable = omega arith
-number-positive NotFree = omega arith
-number-positive NotStated = omega arith
-number-positive NotFunctional = omega arith
-number-positive SolutionLength = omega arith
-number-positive ValueRange = omega arith
-number-positive ValuesForbidden = omega arith
-number-positive BufferLength = omega arith
-number-positive NotFresh = omega arith
+number-positive c = number-range c .0

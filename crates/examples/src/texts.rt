@@ -13,7 +13,7 @@ fn is_text(printed: &[u8; 512], length: usize, expected: &[u8]) -> bool {
 
 // The program prints `expected` for the bytes.
 pub(crate) fn expect_text(bytes: &[u8], expected: &[u8], tally: &mut [u64; 32]) {
-    let text = report::report(bytes);
+    let text = text_report::report(bytes);
     let is_same = is_text(&text.bytes, text.length, expected);
     tally::expect(tally, tally::TEXTS, is_same);
 }

@@ -2,12 +2,12 @@
 use mathlib.Core.List.{List, [], _∷_, _++_, append-nil, append-assoc}
 use mathlib.Core.Path.{_≡_, refl, sym, _∙_, ap}
 use Prim.Native.Nat.{ℕ, zero, suc, _+_, _*_, _/_, _%_, _^_, _≤_, _<_}
-use native.Mathlib.Nat.{add-zero, zero-add, mul-assoc, mul-comm, suc-mul, add-mul, pow-succ', pow-suc, one-le-pow, mul-le-mul-right}
+use native.Mathlib.Nat.{add-zero, mul-assoc, mul-comm, suc-mul, add-mul, pow-succ', pow-suc, one-le-pow, mul-le-mul-right}
 use native.Mathlib.Nat.{mod-lt, mod-eq-of-lt, div-add-mod', mul-add-div-right, div-eq-of-lt, mul-add-mod-self-right}
 use native.Mathlib.Numerals.{add-one}
 use native.Mathlib.Omega.{arith}
 use lib.ListN.{length, getD, take, drop, length-append, List·getD-append}
-use lib.Seq.{drop-append-seam, drop-drop, drop-cons, drop-length, getD-drop, take-at}
+use lib.Seq.{drop-append-seam, drop-drop, drop-cons, drop-length, getD-drop}
 use Rattle.format.specs.Parse.{numberAt}
 use Rattle.format.specs.Print.{bytesOf}
 
@@ -118,12 +118,6 @@ number-low (suc k) v bytes at next h =
 pub number-of-bytes : (k v : ℕ) (bytes : List ℕ) (at next : ℕ) → v < 256 ^ k → Stands bytes at (bytesOf k v) next → numberAt k bytes at ≡ v
 number-of-bytes k v bytes at next l h = number-low k v bytes at next h ∙ mod-eq-of-lt l
 
-pub number-between : (k v : ℕ) (before after : List ℕ) → v < 256 ^ k → numberAt k (before ++ bytesOf k v ++ after) (length before) ≡ v
-number-between k v before after l =
-    let all = before ++ bytesOf k v ++ after in
-    let front = stands-front all 0 (length all) (before ++ bytesOf k v) after (stands-self all) in
-    rw zero-add at (number-of-bytes k v all (0 + length before) _ l (stands-back all 0 _ before (bytesOf k v) front))
-
 -- Writing what was read.
 module _ (bytes : List ℕ) (octets : (k : ℕ) → getD bytes k 0 < 256) where
   pub number-below : (k at : ℕ) → numberAt k bytes at < 256 ^ k
@@ -141,8 +135,3 @@ module _ (bytes : List ℕ) (octets : (k : ℕ) → getD bytes k 0 < 256) where
       rw (mul-add-div-right (pow-pos k) b w, div-eq-of-lt (number-below k (suc at)), add-zero b, mod-eq-of-lt (octets at), bytesOf-low k b w, ← e)
       (stands-append bytes at (suc at) (suc at + k) (b ∷ []) (bytesOf k w) (stands-byte bytes at (omega arith))
       (bytes-of-number k (suc at) (omega arith)))
-
-  pub bytes-of-number-at : (k at : ℕ) → at + k ≤ length bytes → bytesOf k (numberAt k bytes at) ≡ take k (drop at bytes)
-  bytes-of-number-at k at h =
-      let t = bytesOf k (numberAt k bytes at) in
-      sym (ap (take k) (bytes-of-number k at h .split) ∙ take-at t (drop (at + k) bytes) k (length-bytesOf k (numberAt k bytes at)))

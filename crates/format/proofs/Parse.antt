@@ -6,7 +6,7 @@ use Prim.Native.Nat.{ℕ, suc, _+_, _-_, _*_, _/_, _%_, _≤_, _<_, _^_}
 use native.Mathlib.Omega.{arith}
 use lib.Dec.{eqb, ltb}
 use lib.ListN.{length, getD}
-use borrow.Author.Tests.{lt-ltb, le-ltb, lt-leb, eq-eqb, ne-eqb, ltb-true, ltb-false, leb-false, eqb-true, eqb-false}
+use borrow.Author.Tests.{lt-ltb, le-ltb, eq-eqb, ne-eqb, ltb-true, ltb-false, eqb-true, eqb-false}
 use Rattle.bounded.specs.Bool.{or, if}
 use Rattle.bounded.proofs.Bool.{by-cases, or-false-l, or-false-r, or-false-i, not-i, not-false-e, not-false-i, if-true, if-false}
 use Rattle.cause.specs.declared.Cause.{Cause}
@@ -34,10 +34,6 @@ module _ {A B : Type 0} (f : A → ℕ → Parse B) where
   pub bind-got : (p : Parse A) {x : A} {next : ℕ} → p ≡ got x next → bind p f ≡ f x next
   unfolding bind
   bind-got p e = rw e
-
-  pub bind-bad : (p : Parse A) {c : Cause} {at : ℕ} → p ≡ bad c at → bind p f ≡ bad c at
-  unfolding bind
-  bind-bad p e = rw e
 
   pub bind-where : {P : A → ℕ → Type 0} {Q : B → ℕ → Type 0} {p : Parse A} → Where P p
       → ((x : A) (next : ℕ) → P x next → Where Q (f x next))
@@ -79,10 +75,6 @@ module _ (k : ℕ) (test : ℕ → Test) (bytes : List ℕ) (at : ℕ) where
 
 -- Items in a row.
 module _ {S A : Type 0} (step : S → A → S) (item : S → List ℕ → ℕ → Parse A) (s : S) (bytes : List ℕ) (at : ℕ) where
-  pub many-zero : many step item 0 s bytes at ≡ got [] at
-  unfolding many
-  many-zero = refl
-
   pub many-suc : (k : ℕ) → many step item (suc k) s bytes at
       ≡ bind (item s bytes at) (λ x next. bind (many step item k (step s x) bytes next) (λ xs end. got (x ∷ xs) end))
   unfolding many
@@ -92,14 +84,6 @@ module _ {S A : Type 0} (step : S → A → S) (item : S → List ℕ → ℕ �
       → many step item k (step s x) bytes next ≡ got xs end
       → many step item (suc k) s bytes at ≡ got (x ∷ xs) end
   many-got k e h = many-suc k ∙ bind-got _ _ e ∙ bind-got _ _ h
-
-  pub many-bad-first : (k : ℕ) {c : Cause} {place : ℕ} → item s bytes at ≡ bad c place → many step item (suc k) s bytes at ≡ bad c place
-  many-bad-first k e = many-suc k ∙ bind-bad _ _ e
-
-  pub many-bad-later : (k : ℕ) {x : A} {next : ℕ} {c : Cause} {place : ℕ} → item s bytes at ≡ got x next
-      → many step item k (step s x) bytes next ≡ bad c place
-      → many step item (suc k) s bytes at ≡ bad c place
-  many-bad-later k e h = many-suc k ∙ bind-got _ _ e ∙ bind-bad _ _ h
 
 -- The tests, to and from the facts that they are of.
 fine-unless : (b : Bool) (c : Cause) (t : Test) → if b (fault c) t ≡ fine → (b ≡ false) × (t ≡ fine)
@@ -165,14 +149,6 @@ fine-pair n previous pair h =
     let highs = or-false-i _ _ (le-ltb n (pair / 256) (omega arith)) (le-ltb n (pair % 256) (omega arith)) in
     if-false _ _ _ (or-false-i _ _ zeros highs) ∙ if-false _ _ _ (not-false-i _ (lt-ltb _ _ (h .ordered)))
     ∙ if-false _ _ _ (not-false-i _ (lt-ltb _ _ (h .after)))
-
-pub row-of-fine : (size row : ℕ) → withinTest size row ≡ fine → row < 2 ^ size
-unfolding withinTest
-row-of-fine size row h = leb-false _ _ (fine-unless _ _ _ h .0)
-
-pub fine-row : (size row : ℕ) → row < 2 ^ size → withinTest size row ≡ fine
-unfolding withinTest
-fine-row size row h = if-false _ _ _ (lt-leb _ _ h)
 
 -- The length of the bytes, and byte 0.
 pub record LengthFits (L : Layout) (bytes : List ℕ) : Type 0 where

@@ -2,7 +2,7 @@
 use mathlib.Core.List.{List, [], _∷_, _++_}
 use mathlib.Core.Path.{_≡_, refl, _∙_, ap}
 use Prim.Native.Nat.{ℕ, zero, suc, _+_, _-_, _*_, _/_, _%_, _^_, _≤_, _<_}
-use native.Mathlib.Nat.{mul-le-mul, pow-le-pow-right}
+use native.Mathlib.Nat.{mul-le-mul}
 use native.Mathlib.Omega.{arith}
 use lib.Dec.{eqb, ltb}
 use lib.ListN.{length, getD}
@@ -19,7 +19,7 @@ use Rattle.format.proofs.Numbers.{Stands, stands-none, stands-byte, sta
 use Rattle.format.proofs.Numbers.{length-bytesOf, number-of-bytes, number-below, bytes-of-number}
 use Rattle.format.proofs.Parse.{Where, of-got, of-bad, holds-of-got, where-map, bind-got, bind-where, field-fine, field-where, many-got}
 use Rattle.format.proofs.Parse.{PairFits, pair-of-fine, fine-pair, size-of-fine, fine-size, count-of-fine, fine-count}
-use Rattle.format.proofs.Parse.{constraints-of-fine, fine-constraints, fine-row}
+use Rattle.format.proofs.Parse.{constraints-of-fine, fine-constraints}
 use Rattle.format.proofs.Parse.{LengthFits, length-fits, right-length, parse-wrong-length, parse-wrong-version, parse-is-body}
 
 -- What a parser gets at a place fits, and is printed as the bytes that it was read from.
@@ -434,10 +434,3 @@ parse-of-print L usable s w =
 pub version1-usable : Usable version1
 unfolding version1
 version1-usable = record { byte-sizes = omega arith; two-byte-count = omega arith }
-
--- A row that lies within a size of version 1 passes the test of rows, and has room in two bytes.
-pub version1-row : (size row : ℕ) → size ≤ 16 → row < 2 ^ size → FieldFits (version1 .rowBytes) (version1 .rowTest size) row
-unfolding version1
-version1-row size row h l =
-    let m : 2 ^ size ≤ 2 ^ 16 = pow-le-pow-right (omega arith) h in
-    (fine-row size row l, omega arith)

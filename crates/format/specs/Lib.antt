@@ -3,6 +3,4 @@ pub mod Layout
 pub mod Parse
 pub mod Print
 pub mod WellFormed
-pub mod Arrays
-pub mod Writing
 pub mod Builds

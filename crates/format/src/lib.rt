@@ -1,4 +1,1 @@
-// The sheet's bytes.
-mod outcome;
-
-pub use outcome::Outcome;
+// The bytes of a sheet: definitions and laws, and no code.

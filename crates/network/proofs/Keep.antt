@@ -13,7 +13,8 @@ use Rattle.bounded.proofs.Fold.{is-or-not, every-i, every-e, pairs-e, count-con
 use Rattle.network.specs.Network.{Network, free, partner, functional, inDomains, pairsAllow, solves}
 use Rattle.network.specs.Sound.{Sound}
 use Rattle.network.specs.Step.{legal, trimmed, third, composed, eliminate}
-use Rattle.network.proofs.Pairs.{Stays, stays-sym, own-pair-stays, self-pair-stays, pair-case-sym, Moved, pairs-moved}
+use Rattle.network.specs.Pairs.{Stays}
+use Rattle.network.proofs.Pairs.{stays-sym, own-pair-stays, self-pair-stays, pair-case-sym, Moved, pairs-moved}
 use Rattle.network.proofs.Sound.{free-e, led-not-free}
 use Rattle.network.proofs.Step.{Legal, legal-e, third-e, third-i, i-not-third, j-not-third, ij-stays}
 use Rattle.network.proofs.Step.{same-n, domain-i, domain-other, domain-fewer, domain-kept, leader-j, leader-of-j, leader-other, leader-case}

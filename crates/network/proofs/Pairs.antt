@@ -7,6 +7,7 @@ use lib.Dec.{eqb}
 use borrow.Author.Tests.{eq-eqb, eqb-true}
 use Rattle.bounded.specs.Bool.{and, or, if}
 use Rattle.bounded.specs.Fold.{every}
+use Rattle.network.specs.Pairs.{Stays}
 use Rattle.bounded.proofs.Bool.{by-cases, clash, bool-ext, and-i, and-l, and-r, and-false, false-and, or-l, or-r, or-false-i, if-true, if-false}
 use Rattle.bounded.proofs.Fold.{pairs-i, pairs-e}
 
@@ -23,22 +24,15 @@ not-and-e : (x p : ℕ) (b : Bool) → and (eqb x p) b ≡ false → x ≡ p →
 not-and-e x p b h e = by-cases b (λ t. clash (and-i (eqb x p) b (eq-eqb x p e) t) h) (λ t. t)
 
 module _ (i j : ℕ) (T : ℕ → Bool) where
-  -- A pair that stays.
-  pub record Stays (x y : ℕ) : Type 0 where
-    pub left-i : x ≡ i → T y ≡ false
-    pub right-i : y ≡ i → T x ≡ false
-    pub left-j : x ≡ j → T y ≡ false
-    pub right-j : y ≡ j → T x ≡ false
-
-  pub stays-sym : (x y : ℕ) → Stays x y → Stays y x
+  pub stays-sym : (x y : ℕ) → Stays i j T x y → Stays i j T y x
   stays-sym x y r = record { left-i = r .right-i; right-i = r .left-i; left-j = r .right-j; right-j = r .left-j }
 
   -- The pair i, j itself stays, and so does each pair of a number with itself.
   module _ (i-out : T i ≡ false) (j-out : T j ≡ false) where
-    pub own-pair-stays : (i ≡ j → ⊥) → Stays i j
+    pub own-pair-stays : (i ≡ j → ⊥) → Stays i j T i j
     own-pair-stays d = record { left-i = λ e. j-out; right-i = λ e. absurd (d (sym e)); left-j = λ e. absurd (d e); right-j = λ e. i-out }
 
-    pub self-pair-stays : (x : ℕ) → Stays x x
+    pub self-pair-stays : (x : ℕ) → Stays i j T x x
     self-pair-stays x = record { left-i = at-i; right-i = at-i; left-j = at-j; right-j = at-j }
       where
         at-i : x ≡ i → T x ≡ false
@@ -51,7 +45,7 @@ module _ (i j : ℕ) (T : ℕ → Bool) where
   pub pair-case : (P : ℕ → ℕ → Type 0)
       → ((k : ℕ) → T k ≡ true → P i k) → ((k : ℕ) → T k ≡ true → P k i)
       → ((k : ℕ) → T k ≡ true → P j k) → ((k : ℕ) → T k ≡ true → P k j)
-      → ((x y : ℕ) → Stays x y → P x y)
+      → ((x y : ℕ) → Stays i j T x y → P x y)
       → (x y : ℕ) → P x y
   pair-case P ik ki jk kj rest x y =
       is-pair i x y (λ (z : ℕ). P z y) (ik y) (λ a.
@@ -67,7 +61,7 @@ module _ (i j : ℕ) (T : ℕ → Bool) where
 
   -- The same for what is alike on both sides.
   pub pair-case-sym : (P : ℕ → ℕ → Type 0) → ((x y : ℕ) → P x y → P y x)
-      → ((k : ℕ) → T k ≡ true → P i k) → ((k : ℕ) → T k ≡ true → P j k) → ((x y : ℕ) → Stays x y → P x y)
+      → ((k : ℕ) → T k ≡ true → P i k) → ((k : ℕ) → T k ≡ true → P j k) → ((x y : ℕ) → Stays i j T x y → P x y)
       → (x y : ℕ) → P x y
   pair-case-sym P s ik jk rest = pair-case P ik (λ k t. s i k (ik k t)) jk (λ k t. s j k (jk k t)) rest
 

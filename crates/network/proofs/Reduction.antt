@@ -72,9 +72,6 @@ run-keeps {N} {M} s (next i j l r) = keeps-trans N (eliminate N i j) M (step-kee
 pub run-sound : {N M : Network} {k : ℕ} → Sound N → Run N M k → Sound M
 run-sound s r = run-keeps s r .still-sound
 
-pub run-solves : {N M : Network} {k : ℕ} → Sound N → Run N M k → (f : ℕ → ℕ) → solves M f ≡ solves N f
-run-solves {N} s r f = run-keeps s r .same-solutions f ∙ and-true (solves N f)
-
 -- No step sets a variable free.
 pub run-free : {N M : Network} {k : ℕ} → Sound N → Run N M k → (x : ℕ) → free M x ≡ true → free N x ≡ true
 run-free s done x h = h
@@ -107,12 +104,6 @@ leading-i N i j l = some-i (N .n) (legal N i) j (legal-e N i j l .j-in) l
 pub leading-e : {A : Type 0} (N : Network) (i : ℕ) → leading N i ≡ true → ((j : ℕ) → legal N i j ≡ true → A) → A
 unfolding leading
 leading-e N i h f = some-e (N .n) (legal N i) h (λ j m l. f j l)
-
-pub leading-in : (N : Network) (i : ℕ) → leading N i ≡ true → i < N .n
-leading-in N i h = leading-e N i h (λ j l. legal-e N i j l .i-in)
-
-pub not-leading : (N : Network) (i : ℕ) → leading N i ≡ false → (j : ℕ) → legal N i j ≡ false
-not-leading N i h j = not-true→false (legal N i j) (λ l. clash (leading-i N i j l) h)
 
 pub legal-reducible : (N : Network) (i j : ℕ) → legal N i j ≡ true → reducible N ≡ true
 unfolding reducible

@@ -13,7 +13,8 @@ use Rattle.bounded.proofs.Fold.{is-or-not, every-i, every-e, some-i, some-e, co
 use Rattle.network.specs.Network.{Network, free, partner, functional}
 use Rattle.network.specs.Sound.{Sound}
 use Rattle.network.specs.Step.{outside, refusal, legal, trimmed, third, joined, composed, eliminate}
-use Rattle.network.proofs.Pairs.{Stays, stays-sym, own-pair-stays, pair-case-sym, Moved, moved}
+use Rattle.network.specs.Pairs.{Stays}
+use Rattle.network.proofs.Pairs.{stays-sym, own-pair-stays, pair-case-sym, Moved, moved}
 
 -- Refusals
 

@@ -1,6 +1,7 @@
 -- Constraint networks: what document 01 means, as functions with no width and no code.
 pub mod Network
 pub mod Sound
+pub mod Pairs
 pub mod Substitution
 pub mod Step
 pub mod Reduction

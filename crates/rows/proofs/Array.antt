@@ -9,7 +9,8 @@ use lib.Dec.{ltb}
 use lib.ListN.{getD}
 use lib.Pow.{pow-pos}
 use borrow.Author.Tests.{ltb-true, ltb-false}
-use Rattle.bounded.proofs.Array.{Array, array-past, table-array}
+use Rattle.bounded.specs.Array.{Array}
+use Rattle.bounded.proofs.Array.{array-past, table-array}
 use Rattle.bounded.proofs.Bool.{by-cases, clash, and-l, and-r}
 use Rattle.words.specs.Word.{has}
 use Rattle.words.proofs.Laws.{word-lt, has-below, has-zero}

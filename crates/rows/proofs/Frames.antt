@@ -37,8 +37,3 @@ filled-more w before now after i j f n v li lj ln e h s q =
       size = length-set now (place w i j n) v ∙ h .size;
       words = λ g k. set-lt (2 ^ w) now (place w i j n) v (rw q (g n (omega arith))) (h .words (λ a l. g a (omega arith)) k);
     })
-
--- A row that is not reached yet is as before.
-pub row-left : (w : ℕ) (before now : List ℕ) (i j : ℕ) (f : ℕ → ℕ) (n : ℕ) → i < 16 → j < 16 → n < w → Filled w before now i j f n
-    → rowAt w now i j n ≡ rowAt w before i j n
-row-left w before now i j f n li lj ln h = h .rest i j n li lj ln (λ _ _ l. let x : ⊥ = omega arith in x)

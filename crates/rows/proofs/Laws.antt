@@ -7,10 +7,10 @@ use native.Mathlib.Nat.{add-zero, mod-lt, mod-eq-of-lt, div-eq-of-lt, div-add-mo
 use native.Mathlib.Omega.{arith}
 use lib.Dec.{ltb, eqb}
 use lib.ListN.{length, getD, set}
-use lib.Seq.{ext-getD, getD-set-same, getD-set-other}
-use borrow.Author.Tests.{ltb-true, ltb-false, lt-ltb, leb-true, le-leb, eq-eqb, eqb-true}
+use lib.Seq.{getD-set-same, getD-set-other}
+use borrow.Author.Tests.{ltb-true, ltb-false, lt-ltb, leb-true, eq-eqb, eqb-true}
 use Rattle.bounded.specs.Bool.{and, if}
-use Rattle.bounded.proofs.Bool.{by-cases, clash, bool-ext, and-i, and-l, and-r, true-and, implies-i, implies-e, if-true, if-false}
+use Rattle.bounded.proofs.Bool.{by-cases, clash, bool-ext, and-l, and-r, true-and, implies-e}
 use Rattle.bounded.proofs.Fold.{every-i, every-e}
 use Rattle.bounded.proofs.Table.{getD-tabulate, getD-tabulate-past, is-table}
 use Rattle.words.specs.Word.{has, word}
@@ -66,14 +66,6 @@ every-place w P h k l =
     let p : zero < w = omega arith in
     let q : k / w < 16 * 16 = div-lt-iff-lt-mul p .1 l in
     subst P (place-of w k) (h (k / w / 16) (k / w % 16) (k % w) (omega arith) (omega arith) (mod-lt k p))
-
--- Two arrays with the same rows are the same.
-pub rows-ext : (w : ℕ) (rows rows′ : List ℕ) → length rows ≡ 16 * 16 * w → length rows′ ≡ 16 * 16 * w
-    → ((i j a : ℕ) → i < 16 → j < 16 → a < w → rowAt w rows i j a ≡ rowAt w rows′ i j a) → rows ≡ rows′
-unfolding rowAt
-rows-ext w rows rows′ e f h =
-    ext-getD 0 rows rows′ (e ∙ sym f)
-    (λ k l. every-place w (λ (n : ℕ). getD rows n 0 ≡ getD rows′ n 0) h k (omega arith))
 
 -- ---- an array and the rule that it holds
 
@@ -166,13 +158,6 @@ partners-e w rows i j di dj least most t a l m =
     let b = implies-e _ _ (every-e w _ t a l) m in
     (leb-true least _ (and-l _ _ b), leb-true _ most (and-r _ _ b))
 
-pub partners-i : (w : ℕ) (rows : List ℕ) (i j di dj least most : ℕ)
-    → ((a : ℕ) → a < w → has di a ≡ true → (least ≤ partnersAt w rows i j dj a) × (partnersAt w rows i j dj a ≤ most))
-    → partnersWithin w rows i j di dj least most ≡ true
-unfolding partnersWithin
-partners-i w rows i j di dj least most h =
-    every-i w _ (λ a l. implies-i _ _ (λ m. and-i _ _ (le-leb least _ (h a l m .0)) (le-leb _ most (h a l m .1))))
-
 -- ---- a store
 
 -- The row that is stored,
@@ -187,16 +172,3 @@ unfolding rowAt
 rowAt-other w rows i j a v x y c l h m k d =
     getD-set-other rows (place w i j a) (place w x y c) v 0
     (λ e. let p = place-inj w x y c i j a m k l h e in d (p .0) (p .1) (p .2))
-
--- Both in one: the row at x, y, c after a store.
-pub rowAt-set : (w : ℕ) (rows : List ℕ) (i j a v x y c : ℕ) → place w i j a < length rows → j < 16 → a < w → y < 16 → c < w
-    → rowAt w (set rows (place w i j a) v) x y c ≡ if (and (and (eqb x i) (eqb y j)) (eqb c a)) v (rowAt w rows x y c)
-rowAt-set w rows i j a v x y c b l h m k =
-    by-cases (and (and (eqb x i) (eqb y j)) (eqb c a))
-    (λ t. let p : x ≡ i = eqb-true x i (and-l _ _ (and-l _ _ t)) in
-    let q : y ≡ j = eqb-true y j (and-r _ _ (and-l _ _ t)) in
-    let r : c ≡ a = eqb-true c a (and-r _ _ t) in
-    rw (p, q, r) (rowAt-same w rows i j a v b) ∙ sym (if-true _ _ _ t))
-    (λ t. rowAt-other w rows i j a v x y c l h m k
-    (λ p q r. clash (and-i _ _ (and-i _ _ (eq-eqb x i p) (eq-eqb y j q)) (eq-eqb c a r)) t)
-    ∙ sym (if-false _ _ _ t))

@@ -60,9 +60,3 @@ pub supported-cut : (w : ℕ) (rows : List ℕ) (i j di dj x y : ℕ)
     → y ≡ supportedAt w rows i j di dj
 unfolding supportedAt
 supported-cut w rows i j di dj x y e f = f ∙ word-cong w _ _ (λ a l. ap (λ (t : Bool). and (has di a) t) (ap (λ (n : ℕ). has n a) e ∙ has-word w _ a l))
-
--- A value stays where it is in the list and has a partner.
-pub has-supported : (w : ℕ) (rows : List ℕ) (i j di dj a : ℕ) → a < w
-    → has (supportedAt w rows i j di dj) a ≡ and (has di a) (some w (λ (b : ℕ). and (has dj b) (has (rowAt w rows i j a) b)))
-unfolding supportedAt
-has-supported w rows i j di dj a l = has-word w _ a l

@@ -11,7 +11,7 @@ use Rattle.network.specs.Calls.{Call, follow-step, full-reduction, answer}
 use Rattle.state.specs.declared.state.State.{State}
 use Rattle.state.specs.View.{view, pack, soundState}
 use Rattle.state.proofs.View.{Shaped}
-use Rattle.state.proofs.Steps.{StateKept, step-answers, reduced-answers, step-keeps, reduced-keeps}
+use Rattle.state.proofs.Steps.{StateKept, step-answers, reduced-answers}
 use Rattle.sheet.specs.Promise.{handedBack, ruledAs}
 
 -- On a sound state it is the state of the network that the call answers.
@@ -19,12 +19,6 @@ pub call-answers : (s : State) → Shaped s → soundState s ≡ true → (c : C
 unfolding handedBack
 call-answers s h t (follow-step l f) = step-answers s h t l f
 call-answers s h t full-reduction = reduced-answers s h t
-
--- It keeps soundness, variables, sizes and solutions, refused or not.
-pub call-keeps : (s : State) → Shaped s → (c : Call) → StateKept s (handedBack s c)
-unfolding handedBack
-call-keeps s h (follow-step l f) = step-keeps s h l f
-call-keeps s h full-reduction = reduced-keeps s h
 
 pub ruled-as : (s : State) → soundState s ≡ true → (k : Verdict) → ruledAs k (verdictOf s) ↔ (verdict (view s) ≡ k)
 unfolding ruledAs

@@ -39,7 +39,7 @@ use Rattle.state.proofs.View.{Shaped, Packed, pack-view}
 use Rattle.state.proofs.Keep.{after-packed}
 use Rattle.state.proofs.Steps.{answer-packed}
 use Rattle.sheet.proofs.Calls.{call-answers, ruled-as}
-use Rattle.cutting.proofs.RoundTrip.{Accepted, accepted, read-sound}
+use Rattle.state_read.proofs.RoundTrip.{Accepted, accepted, read-sound}
 use Rattle.state.proofs.Solutions.{tested-yes, yes-solves, complete-accepted, completed-buffer, verdict-of}
 
 -- A list of calls on a sound state hands back the state of the network that the same calls make of its network.

@@ -1,7 +1,7 @@
 // The program sheetcut: a sheet on standard input, its text on standard output.
 use libc::STDIN_FILENO;
 use libc::STDOUT_FILENO;
-use report::report;
+use text_report::report;
 
 fn main() {
     // One byte more than the largest sheet, so that a longer input is seen to be longer. What comes after that is not read.

@@ -18,13 +18,13 @@ use Rattle.network.proofs.Reduction.{next-legal, step-count, reduceWithin-step,
 use Rattle.state.specs.declared.state.State.{State}
 use Rattle.answers.specs.declared.Outcome.{Outcome}
 use Rattle.answers.specs.declared.Outcome.the-variants as outcome
-use Rattle.search.specs.declared.Judgement.the-variants as judgement
-use Rattle.search.specs.declared.Pair.{Pair}
-use Rattle.search.specs.declared.Pair.the-variants as pair
+use Rattle.step_choice.specs.declared.Judgement.the-variants as judgement
+use Rattle.step_choice.specs.declared.Pair.{Pair}
+use Rattle.step_choice.specs.declared.Pair.the-variants as pair
 use Rattle.state.specs.View.{view, pack, soundState}
 use Rattle.answers.specs.Answers.{outcomeNumber}
 use Rattle.state.specs.Steps.{refused, stepRefusal, stepped, reducedAs, reduced}
-use Rattle.search.specs.Judging.{sizeless, judgedNumber, nextPair}
+use Rattle.step_choice.specs.Judging.{sizeless, judgedNumber, nextPair}
 use Rattle.state.proofs.View.{Shaped, Packed, pack-view, state-sound, state-n}
 use Rattle.state.proofs.Keep.{eliminated-packed}
 use Rattle.state.proofs.Sizeless.{state-refusal, state-next}

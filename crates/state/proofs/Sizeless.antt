@@ -12,11 +12,11 @@ use Rattle.network.specs.Sound.{Sound}
 use Rattle.network.specs.Step.{outside, refusal, legal}
 use Rattle.network.specs.Reduction.{leading, reducible, nextLeader, nextFollower}
 use Rattle.network.proofs.Step.{functional-i, functional-e}
-use Rattle.search.specs.declared.Pair.{Pair}
-use Rattle.search.specs.declared.Pair.the-variants as pair
+use Rattle.step_choice.specs.declared.Pair.{Pair}
+use Rattle.step_choice.specs.declared.Pair.the-variants as pair
 use Rattle.state.specs.declared.state.State.{State}
 use Rattle.state.specs.View.{view, soundState}
-use Rattle.search.specs.Judging.{sizeless, nextPair}
+use Rattle.step_choice.specs.Judging.{sizeless, nextPair}
 use Rattle.state.proofs.View.{Shaped, state-sound, state-size}
 
 -- N with w values for each variable.

@@ -10,7 +10,6 @@ use borrow.Author.Tests.{eq-eqb, ne-eqb, eqb-true, eqb-false, lt-ltb}
 use Rattle.bounded.specs.Table.{tabulate}
 use Rattle.bounded.proofs.Bool.{by-cases, not-i, not-false-i, if-true, if-false}
 use Rattle.bounded.proofs.Fold.{every-i}
-use Rattle.bounded.proofs.Table.{length-tabulate, getD-tabulate}
 use Rattle.network.specs.Network.{Network, solves, testRefusal}
 use Rattle.network.specs.Sound.{Sound}
 use Rattle.network.specs.Completion.{allowedChoice, completed, verdict, shown}
@@ -85,13 +84,6 @@ module _ (s : State) (build : List ℕ) where
   unfolding completeNumber
   complete-accepted t e a = build-own s build _ t e ∙ completion.accepted (view s) (valuesOf build) a
 
-  pub accepted-complete : completeNumber s build ≡ 0
-      → (soundState s ≡ true) × (length build ≡ s .n) × (allowedChoice (view s) (valuesOf build) ≡ true)
-  unfolding completeNumber
-  accepted-complete z =
-      let p = build-taken s build _ z in
-      (p .0, p .1, completion.accepted-only (view s) (valuesOf build) (p .2))
-
   pub completed-buffer : completeNumber s build ≡ 0 → completedBuffer s build ≡ tabulate (s .n) (completed (view s) (valuesOf build))
   unfolding completedBuffer
   completed-buffer z = if-true _ _ _ (eq-eqb _ 0 z)
@@ -100,16 +92,6 @@ module _ (s : State) (build : List ℕ) where
   pub refused-buffer : 1 ≤ completeNumber s build → completedBuffer s build ≡ build
   unfolding completedBuffer
   refused-buffer h = if-false _ _ _ (ne-eqb (completeNumber s build) 0 (omega arith))
-
-  pub completed-length : length (completedBuffer s build) ≡ length build
-  completed-length =
-      by-cases (eqb (completeNumber s build) 0)
-      (λ e. let z = eqb-true _ 0 e in ap length (completed-buffer z) ∙ length-tabulate (s .n) _ ∙ sym (accepted-complete z .1))
-      (λ e. let d : completeNumber s build ≡ 0 → ⊥ = eqb-false _ 0 e in ap length (refused-buffer (omega arith)))
-
-  pub completed-value : completeNumber s build ≡ 0 → (i : ℕ) → i < s .n → valuesOf (completedBuffer s build) i ≡ completed (view s) (valuesOf build) i
-  unfolding valuesOf
-  completed-value z i l = ap (λ (b : List ℕ). getD b i 0) (completed-buffer z) ∙ getD-tabulate (s .n) _ i 0 l
 
 -- The verdict.
 module _ (s : State) where

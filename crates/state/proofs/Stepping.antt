@@ -8,27 +8,27 @@ use lib.ListN.{length, getD, set, length-set}
 use lib.Seq.{getD-set-same, getD-set-other}
 use Rattle.bounded.specs.Bool.{and, implies}
 use Rattle.bounded.specs.Table.{tabulate}
-use Rattle.bounded.proofs.Array.{Array}
+use Rattle.bounded.specs.Array.{Array}
 use Rattle.bounded.proofs.Bool.{bool-ext, not-true→false, and-i, and-l, and-r}
 use Rattle.bounded.proofs.Fold.{is-or-not, some-i, some-e}
 use Rattle.bounded.proofs.Table.{is-table}
 use Rattle.network.specs.Sound.{Sound}
 use Rattle.network.specs.Step.{legal, trimmed, third, joined, composed, eliminate}
 use Rattle.network.proofs.Pairs.{pair-case}
-use Rattle.network.proofs.Step.{Legal, legal-e, domain-i, domain-other, third-e, eliminate-moves}
+use Rattle.network.proofs.Step.{Legal, legal-e, domain-i, domain-other, eliminate-moves}
 use Rattle.network.proofs.Step.{trimmed-domain, trimmed-e, trimmed-i, joined-e, joined-i, both-sides}
 use Rattle.rows.specs.Rows.{rowAt}
 use Rattle.rows.specs.Rows.{supportedAt}
-use Rattle.compose.specs.Compose.{reach, composedAt}
+use Rattle.step_compose.specs.Compose.{reach, composedAt}
 use Rattle.rows.proofs.Laws.{allows-row}
 use Rattle.rows.proofs.Laws.{rows-rule}
 use Rattle.words.specs.Word.{has, word}
 use Rattle.words.proofs.Laws.{has-word, has-zero, has-all, has-below, word-lt, is-word}
 use Rattle.state.specs.declared.state.State.{State}
 use Rattle.state.specs.View.{view, pack, soundState}
-use Rattle.steps.specs.declared.arrays.Arrays.{Arrays}
-use Rattle.steps.specs.Stepped.{trimmedWord, thirdsWord, Stepped}
-use Rattle.steps.specs.StepParts.{leaderAfter, thirdOf, statedAfter, madeRow, MovedRows}
+use Rattle.step_rules.specs.declared.arrays.Arrays.{Arrays}
+use Rattle.step_rules.specs.Stepped.{trimmedWord, thirdsWord, Stepped}
+use Rattle.step_rules.specs.StepParts.{leaderAfter, thirdOf, statedAfter, madeRow, MovedRows}
 use Rattle.state.proofs.View.{Shaped, state-sound, state-n, state-size}
 
 module _ (s : State) (h : Shaped s) (t : soundState s ≡ true) (i j : ℕ) (l : legal (view s) i j ≡ true) where
@@ -112,10 +112,6 @@ module _ (s : State) (h : Shaped s) (t : soundState s ≡ true) (i j : ℕ) (l :
   same-sizes : s .sizes ≡ pack (eliminate (view s) i j) .sizes
   unfolding pack eliminate view
   same-sizes = is-table 16 _ (s .sizes) 0 (h .sizes-array .array-length) (λ x lx. refl)
-
-  -- Rule 2 on rows.
-  third-lt : (k : ℕ) → third (view s) i j k ≡ true → k < 16
-  third-lt k u = omega (arith, sound .stated-in j k (third-e (view s) i j k u .0) .1, state-n s t)
 
   -- Value c of k is joined to value a of i: j's value is seen from k and from j, where the definition sees it from i and from j.
   reach-joined : (k a c : ℕ) → k < 16 → a < 16 → c < 16

@@ -9,7 +9,8 @@ use lib.Pow.{pow-pos}
 use borrow.Author.Needs.{needs}
 use borrow.Author.Tests.{leb-true}
 use Rattle.bounded.specs.Table.{tabulate}
-use Rattle.bounded.proofs.Array.{Array, u8-array, u16-array, getD-table, table-array}
+use Rattle.bounded.specs.Array.{Array}
+use Rattle.bounded.proofs.Array.{u8-array, u16-array, getD-table, table-array}
 use Rattle.bounded.proofs.Bool.{not-true→false, and-l}
 use Rattle.bounded.proofs.Table.{is-table}
 use Rattle.words.specs.Word.{has, word}
@@ -21,9 +22,9 @@ use Rattle.network.proofs.Sound.{free-e, free-or-led, leader-n, sound→Sound, 
 use Rattle.rows.proofs.Array.{rows-array}
 use Rattle.rows.proofs.Laws.{allows-rows, rows-allows}
 use Rattle.state.specs.View.{stateOf, view, pack, zeroState, soundState}
-use Rattle.parts.specs.Parts.{partsView, Lent}
+use Rattle.soundness.specs.Parts.{partsView, Lent}
 use Rattle.state.specs.declared.state.State.{State}
-use Rattle.parts.proofs.Parts.{parts-bounded}
+use Rattle.soundness.proofs.Parts.{parts-bounded}
 
 -- What the types of the fields say of every state.
 pub record Shaped (s : State) : Type 0 where

@@ -1,5 +1,5 @@
 use mathlib.Core.Path.{refl}
-use Rattle.cutting.specs.Parts.{cutPartsTold}
+use Rattle.state_cut.specs.Parts.{cutPartsTold}
 use Rattle.capi.proofs.Laws.{cut-out}
 use borrow.Author.Needs.{needs}
 use Rattle.capi.proofs.sheet_cut.Statement.{statement}
@@ -9,7 +9,7 @@ use Rattle.capi.proofs.sheet_cut.Lts as lts
 use Rattle.answers.proofs.read_number.Reads as read-number-reads
 use Rattle.answers.proofs.read_place.Reads as read-place-reads
 use Rattle.answers.proofs.verdict_kind.Reads as verdict-kind-reads
-use Rattle.cutting.proofs.cut_parts.Reads as cut-parts-reads
+use Rattle.state_cut.proofs.cut_parts.Reads as cut-parts-reads
 
 returns : tie.Need-returns
 unfolding cutPartsTold

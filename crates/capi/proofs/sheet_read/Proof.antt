@@ -1,4 +1,4 @@
-use Rattle.cutting.specs.Parts.{readPartsTold}
+use Rattle.state_read.specs.Parts.{readPartsTold}
 use Rattle.capi.proofs.Laws.{read-out}
 use borrow.Author.Needs.{needs}
 use Rattle.capi.proofs.sheet_read.Statement.{statement}
@@ -7,7 +7,7 @@ use Rattle.capi.proofs.sheet_read.Reads as reads
 use Rattle.capi.proofs.sheet_read.Lts as lts
 use Rattle.answers.proofs.read_number.Reads as read-number-reads
 use Rattle.answers.proofs.read_place.Reads as read-place-reads
-use Rattle.cutting.proofs.read_parts.Reads as read-parts-reads
+use Rattle.state_read.proofs.read_parts.Reads as read-parts-reads
 
 returns : tie.Need-returns
 unfolding readPartsTold

@@ -5,7 +5,7 @@ use borrow.Author.Tests.{not-true, not-false}
 use mir.Syntax.{w64}
 use mir.Val.{Fits}
 use borrow.Author.Needs.{needs}
-use Rattle.search.specs.Judging.{judgedNumber}
+use Rattle.step_choice.specs.Judging.{judgedNumber}
 use Rattle.state.specs.declared.state.State.{State}
 use Rattle.state.specs.View.{stateOf, soundState}
 use Rattle.state.proofs.View.{Shaped, lent-shaped, sound-told, n-most}

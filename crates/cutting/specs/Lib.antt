@@ -1,2 +1,0 @@
--- Answers whose rows are lent.
-pub mod Parts

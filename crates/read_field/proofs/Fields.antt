@@ -1,0 +1,242 @@
+-- Laws of one field: what its bytes and its own test make of it, as the functions that read a field are asked for it.
+use mathlib.Core.Bool.{Bool, true, false, _||_, not as negated}
+use mathlib.Core.List.{List}
+use mathlib.Core.Path.{_≡_, refl, sym, _∙_, ap, fun-ext}
+use Prim.Native.Nat.{ℕ, _+_, _-_, _*_, _/_, _%_, _^_, _≤_, _<_}
+use native.Mathlib.Nat.{one-mul}
+use native.Mathlib.Numerals.{add-one}
+use native.Mathlib.Omega.{arith}
+use mir.Syntax.{w8, w64}
+use mir.Val.{Fits}
+use lib.Dec.{eqb, ltb}
+use lib.ListN.{length, getD}
+use borrow.Author.Tests.{lt-ltb, le-ltb, le-leb, lt-leb, eq-eqb, ltb-true, ltb-false, leb-false, eqb-true}
+use Rattle.bounded.specs.Bool.{or, not, if}
+use Rattle.bounded.proofs.Bool.{by-cases, bool-ext, if-true, if-false, not-i, not-false-i, not-false-e, or-l, or-r, or-false-l, or-false-r}
+use Rattle.words.proofs.Machine.{shl-is}
+use Rattle.cause.specs.declared.Cause.{Cause}
+use Rattle.cause.specs.declared.Cause.the-variants.{VariableCount, Size, ConstraintCount, PairRange, PairOrder, PairRepeated, RowRange, CutOff}
+use Rattle.read_field.specs.declared.field.Read.{Read}
+use Rattle.read_field.specs.declared.field.Read.the-variants.{Value, Refused}
+use Rattle.format.specs.Layout.{Test, fine, fault, countTest, sizeTest, constraintsTest, pairTest, withinTest, version1}
+use Rattle.format.specs.Parse.{Parse, got, bad, numberAt, judged, field, wrongLength}
+use Rattle.read_field.specs.Fields.{readAs, readOf, rangeTest}
+
+-- ---- any parse that came to an answer
+
+pub read-got : (p : Parse ℕ) (r : Read) (v next : ℕ) → p ≡ readOf r → r ≡ Value v next → p ≡ got v next
+unfolding readOf
+read-got p r v next e q = e ∙ ap readOf q
+
+pub read-bad : (p : Parse ℕ) (r : Read) (c : Cause) (at : ℕ) → p ≡ readOf r → r ≡ Refused c at → p ≡ bad c at
+unfolding readOf
+read-bad p r c at e q = e ∙ ap readOf q
+
+pub as-got : {A : Type 0} (p : Parse A) (r : Read) (x : A) (v next : ℕ) → p ≡ readAs r x → r ≡ Value v next → p ≡ got x next
+unfolding readAs
+as-got p r x v next e q = e ∙ ap (λ r. readAs r x) q
+
+pub as-bad : {A : Type 0} (p : Parse A) (r : Read) (x : A) (c : Cause) (at : ℕ) → p ≡ readAs r x → r ≡ Refused c at → p ≡ bad c at
+unfolding readAs
+as-bad p r x c at e q = e ∙ ap (λ r. readAs r x) q
+
+-- No answer is both a value and a refusal.
+pub no-value : {A : Type 0} (c : Cause) (at v next : ℕ) → Refused c at ≡ Value v next → A
+no-value c at v next q = absurd (let z : _≡_ {A = ℕ} 0 1 = cc in let x : ⊥ = omega arith in x)
+
+-- What holds of a value that was answered.
+pub value-is : (P : ℕ → ℕ → Type 0) (v next w x : ℕ) → P v next → Value v next ≡ Value w x → P w x
+value-is P v next w x h q = rw (let m : v ≡ w = cc in m, let m : next ≡ x = cc in m) at h
+
+-- ---- any field
+
+pub record FieldGot (k : ℕ) (test : ℕ → Test) (bytes : List ℕ) (at v next : ℕ) : Type 0 where
+  pub value : v ≡ numberAt k bytes at
+  pub passed : test v ≡ fine
+  pub ends : next ≡ at + k
+  pub inside : next ≤ length bytes
+
+module _ (k : ℕ) (test : ℕ → Test) (bytes : List ℕ) (at : ℕ) where
+  pub field-cut : length bytes < at + k → field k test bytes at ≡ readOf (Refused CutOff at)
+  unfolding field readOf
+  field-cut h = if-true _ _ _ (lt-ltb _ _ h)
+
+  pub field-fault : (v : ℕ) (c : Cause) → v ≡ numberAt k bytes at → at + k ≤ length bytes → test v ≡ fault c
+      → field k test bytes at ≡ readOf (Refused c at)
+  unfolding field judged readOf
+  field-fault v c e h t = rw (le-ltb _ _ h, ← e, t) (if-false false _ _ refl)
+
+  pub field-fine : (v next : ℕ) → v ≡ numberAt k bytes at → next ≡ at + k → next ≤ length bytes → test v ≡ fine
+      → field k test bytes at ≡ readOf (Value v next)
+  unfolding field judged readOf
+  field-fine v next e p h t = rw (p, le-ltb (length bytes) (at + k) (rw p at h), ← e, t) (if-false false _ _ refl)
+
+  judged-got : (t : Test) (v u next : ℕ) → judged t v at k ≡ got u next → (t ≡ fine) × (v ≡ u) × (at + k ≡ next)
+  unfolding judged
+  judged-got fine v u next e = (refl, cc, cc)
+  judged-got (fault c) v u next e = absurd (let z : _≡_ {A = ℕ} 0 1 = cc in let x : ⊥ = omega arith in x)
+
+  -- A field that was parsed is the number in its bytes, passed its test, and ends within the bytes.
+  pub field-got : (v next : ℕ) → field k test bytes at ≡ got v next → FieldGot k test bytes at v next
+  unfolding field readOf
+  field-got v next e =
+      by-cases (ltb (length bytes) (at + k))
+      (λ t. absurd (let z : _≡_ {A = ℕ} 0 1 = cc (field-cut (ltb-true _ _ t)) in let x : ⊥ = omega arith in x))
+      (λ t.
+      let j = judged-got _ _ v next (sym (if-false _ _ _ t) ∙ e) in
+      record {
+        value = sym (j .1);
+        passed = ap test (sym (j .1)) ∙ j .0;
+        ends = sym (j .2);
+        inside = omega (arith, ltb-false (length bytes) (at + k) t, j .2);
+      })
+
+-- The number in one byte, and in two.
+pub number-one : (bytes : List ℕ) (at : ℕ) → getD bytes at 0 ≡ numberAt 1 bytes at
+unfolding numberAt
+number-one bytes at = omega arith
+
+pub number-two : (bytes : List ℕ) (at : ℕ) → getD bytes at 0 * 256 + getD bytes (at + 1) 0 ≡ numberAt 2 bytes at
+unfolding numberAt
+number-two bytes at = rw (add-one at) (omega arith)
+
+-- What is known of the bytes of a slice, as the machine asks it.
+module _ (bytes : List ℕ) (at : ℕ) (known : (k : ℕ) → Fits w8 (getD bytes k 0)) where
+  pub byte-fits : Fits w64 (getD bytes at 0)
+  byte-fits = omega (arith, known at)
+
+  pub high-fits : Fits w64 (getD bytes at 0 * 256)
+  high-fits = omega (arith, known at)
+
+  pub two-lt : (low : ℕ) → getD bytes at 0 * 256 + getD bytes low 0 < 65536
+  two-lt low = omega (arith, known at, known low)
+
+  pub two-fits : (low : ℕ) → Fits w64 (getD bytes at 0 * 256 + getD bytes low 0)
+  two-fits low = omega (arith, known at, known low)
+
+-- ---- the tests
+
+or-machine : (a b : Bool) → a || b ≡ or a b
+unfolding or
+or-machine true b = refl
+or-machine false b = refl
+
+pub range-fault : (least most v : ℕ) (c : Cause) → ltb v least || ltb most v ≡ true → rangeTest least most c v ≡ fault c
+unfolding rangeTest
+range-fault least most v c h = if-true _ _ _ (sym (or-machine _ _) ∙ h)
+
+pub range-fine : (least most v : ℕ) (c : Cause) → ltb v least || ltb most v ≡ false → rangeTest least most c v ≡ fine
+unfolding rangeTest
+range-fine least most v c h = if-false _ _ _ (sym (or-machine _ _) ∙ h)
+
+-- The four faults of a pair's range, as the machine joins them.
+four-machine : (a b c d : Bool) → or (or a b) (or c d) ≡ a || b || c || d
+unfolding or
+four-machine true b c d = refl
+four-machine false true c d = refl
+four-machine false false true d = refl
+four-machine false false false d = refl
+
+module _ (n previous pair : ℕ) where
+  pub pair-range : eqb (pair / 256) 0 || eqb (pair % 256) 0 || ltb n (pair / 256) || ltb n (pair % 256) ≡ true
+      → pairTest n previous pair ≡ fault PairRange
+  unfolding pairTest
+  pair-range h = if-true _ _ _ (four-machine _ _ _ _ ∙ h)
+
+  module _ (h : eqb (pair / 256) 0 || eqb (pair % 256) 0 || ltb n (pair / 256) || ltb n (pair % 256) ≡ false) where
+    pub pair-order : pair % 256 ≤ pair / 256 → pairTest n previous pair ≡ fault PairOrder
+    unfolding pairTest
+    pair-order o = if-false _ _ _ (four-machine _ _ _ _ ∙ h) ∙ if-true _ _ _ (not-i _ (le-ltb _ _ o))
+
+    pub pair-repeated : pair / 256 < pair % 256 → pair ≤ previous → pairTest n previous pair ≡ fault PairRepeated
+    unfolding pairTest
+    pair-repeated o r =
+        if-false _ _ _ (four-machine _ _ _ _ ∙ h) ∙ if-false _ _ _ (not-false-i _ (lt-ltb _ _ o)) ∙ if-true _ _ _ (not-i _ (le-ltb _ _ r))
+
+    pub pair-fine : pair / 256 < pair % 256 → previous < pair → pairTest n previous pair ≡ fine
+    unfolding pairTest
+    pair-fine o r =
+        if-false _ _ _ (four-machine _ _ _ _ ∙ h) ∙ if-false _ _ _ (not-false-i _ (lt-ltb _ _ o)) ∙ if-false _ _ _ (not-false-i _ (lt-ltb _ _ r))
+
+-- 1 shifted by the size is 2 to the size, so that a row not below it has a bit at or above the size.
+module _ (size row m : ℕ) (l : size ≤ 16) (b : 1 * 2 ^ 16 < m) where
+  pub within-fault : 1 * 2 ^ size % m ≤ row → withinTest size row ≡ fault RowRange
+  unfolding withinTest
+  within-fault h = if-true _ _ _ (le-leb _ _ (rw (shl-is 16 1 size m l b, one-mul (2 ^ size)) at h))
+
+  pub within-fine : row < 1 * 2 ^ size % m → withinTest size row ≡ fine
+  unfolding withinTest
+  within-fine h = if-false _ _ _ (lt-leb _ _ (rw (shl-is 16 1 size m l b, one-mul (2 ^ size)) at h))
+
+-- The same of a row that is below it.
+pub within-below : (size row : ℕ) → row < 2 ^ size → withinTest size row ≡ fine
+unfolding withinTest
+within-below size row h = if-false _ _ _ (lt-leb _ _ h)
+
+-- ---- the length
+
+machine-not : (b : Bool) → negated b ≡ not b
+unfolding not
+machine-not true = refl
+machine-not false = refl
+
+module _ (bytes : List ℕ) where
+  pub short-wrong : length bytes < 3 → true ≡ wrongLength version1 bytes
+  unfolding wrongLength
+  short-wrong h = sym (or-l _ _ (lt-ltb _ _ h))
+
+  pub long-wrong : 4101 < length bytes → true ≡ wrongLength version1 bytes
+  unfolding wrongLength version1
+  long-wrong h = sym (or-r _ _ (or-l _ _ (lt-ltb _ _ h)))
+
+  pub count-wrong : (count : ℕ) → 3 ≤ length bytes → length bytes ≤ 4101 → count ≡ numberAt 2 bytes 1
+      → negated (eqb (length bytes) (3 + count)) ≡ wrongLength version1 bytes
+  unfolding wrongLength version1 or
+  count-wrong count h k e = rw (le-ltb _ _ h, le-ltb _ _ k, e) (machine-not _)
+
+-- ---- the tests of n, of a size and of p are of ranges
+
+eqb-zero : (n : ℕ) → eqb n 0 ≡ ltb n 1
+eqb-zero n = bool-ext _ _ (λ t. lt-ltb n 1 (omega (arith, eqb-true n 0 t))) (λ t. eq-eqb n 0 (omega (arith, ltb-true n 1 t)))
+
+pub count-range : countTest ≡ rangeTest 1 16 VariableCount
+unfolding countTest rangeTest
+count-range = fun-ext (λ n. rw (eqb-zero n))
+
+pub size-range : (most : ℕ) → sizeTest most ≡ rangeTest 1 most Size
+unfolding sizeTest rangeTest
+size-range most = fun-ext (λ n. rw (eqb-zero n))
+
+pub constraints-range : (n : ℕ) → constraintsTest n ≡ rangeTest 0 (n * (n - 1) / 2) ConstraintCount
+unfolding constraintsTest rangeTest or
+constraints-range n = fun-ext (λ p. rw (le-ltb p 0 (omega arith)))
+
+-- ---- what a number that passed its test is
+
+or-fault : (c : Cause) (b : Bool) (t : Test) → if b (fault c) t ≡ fine → (b ≡ false) × (t ≡ fine)
+unfolding if
+or-fault c true t e = absurd (let z : _≡_ {A = ℕ} 0 1 = cc in let x : ⊥ = omega arith in x)
+or-fault c false t e = (refl, e)
+
+pub range-passed : (least most v : ℕ) (c : Cause) → rangeTest least most c v ≡ fine → (least ≤ v) × (v ≤ most)
+unfolding rangeTest
+range-passed least most v c e =
+    let f = or-fault _ _ _ e .0 in
+    (ltb-false _ _ (or-false-l _ _ f), ltb-false _ _ (or-false-r _ _ f))
+
+pub within-passed : (size row : ℕ) → withinTest size row ≡ fine → row < 2 ^ size
+unfolding withinTest
+within-passed size row e = leb-false _ _ (or-fault _ _ _ e .0)
+
+pub pair-passed : (n previous pair : ℕ) → pairTest n previous pair ≡ fine
+    → (1 ≤ pair / 256) × (pair / 256 < pair % 256) × (pair % 256 ≤ n) × (previous < pair)
+unfolding pairTest
+pair-passed n previous pair e =
+    let f = or-fault _ _ _ e in
+    let g = or-fault _ _ _ (f .1) in
+    let h = or-fault _ _ _ (g .1) in (
+      ltb-false _ _ (sym (eqb-zero (pair / 256)) ∙ or-false-l _ _ (or-false-l _ _ (f .0))),
+      ltb-true _ _ (not-false-e _ (g .0)),
+      ltb-false _ _ (or-false-r _ _ (or-false-r _ _ (f .0))),
+      ltb-true _ _ (not-false-e _ (h .0)),
+    )

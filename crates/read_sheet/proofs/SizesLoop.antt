@@ -1,0 +1,109 @@
+-- The loop that reads the sizes.
+use mathlib.Core.List.{List}
+use mathlib.Core.Path.{_≡_, refl, _∙_, ap}
+use Prim.Native.Nat.{ℕ, zero, suc, _+_, _-_, _≤_, _<_}
+use native.Mathlib.Numerals.{add-one}
+use native.Mathlib.Omega.{arith}
+use mir.Syntax.{w8}
+use mir.Val.{Fits}
+use lib.Dec.{eqb}
+use lib.ListN.{length, getD, set, take, replicate, length-replicate, length-set}
+use lib.Seq.{take-suc-set}
+use borrow.Author.Tests.{eqb-true, eqb-false}
+use Rattle.bounded.proofs.Bool.{by-cases, if-true, if-false}
+use Rattle.bounded.proofs.Table.{getD-set}
+use Rattle.cause.specs.declared.Cause.{Cause}
+use Rattle.cause.specs.declared.Cause.the-variants.{Size}
+use Rattle.read_field.specs.declared.field.Read.the-variants.{Value, Refused}
+use Rattle.format.specs.Layout.{sizeTest}
+use Rattle.format.specs.Parse.{got, bad, field, fields}
+use Rattle.read_field.specs.Fields.{readAs, rangeTest}
+use Rattle.read_sheet.specs.Reading.{Sized, SizesRead}
+use Rattle.read_field.proofs.Fields.{field-got, size-range, range-passed}
+use Rattle.read_field.proofs.Many.{prepend, fields-begin, fields-end, fields-go-on, fields-stop}
+
+-- The first i sizes stand in the array, and the next one at a place.
+pub record SizesSoFar (bytes : List ℕ) (n : ℕ) (sizes : List ℕ) (at i : ℕ) : Type 0 where
+  pub within : i ≤ n
+  pub parsed : fields 1 (sizeTest 16) n bytes 4 ≡ prepend (take i sizes) (fields 1 (sizeTest 16) (n - i) bytes at)
+  pub sized : Sized i sizes
+
+-- An array of zeros; its length is an argument, so that no list is written out.
+getD-zeros : (n k : ℕ) → getD {A = ℕ} (replicate n 0) k 0 ≡ 0
+getD-zeros zero k = refl
+getD-zeros (suc n) zero = refl
+getD-zeros (suc n) (suc k) = getD-zeros n k
+
+pub zeros-at : (n : ℕ) (l : List ℕ) → l ≡ replicate n 0 → (k : ℕ) → getD l k 0 ≡ 0
+zeros-at n l e k = ap (λ x. getD x k 0) e ∙ getD-zeros n k
+
+pub zeros-length : (n : ℕ) (l : List ℕ) → l ≡ replicate n 0 → length l ≡ n
+zeros-length n l e = ap length e ∙ length-replicate {A = ℕ} n 0
+
+pub sizes-none : (bytes : List ℕ) (n : ℕ) (sizes : List ℕ) → sizes ≡ replicate 16 0 → SizesSoFar bytes n sizes 4 0
+sizes-none bytes n sizes e =
+    record {
+      within = omega arith;
+      parsed = rw (let z : n - 0 ≡ n = omega arith in z) (fields-begin _ _ _ _ _);
+      sized =
+          record {
+            length-is = zeros-length 16 sizes e;
+            small = λ k. rw (zeros-at 16 sizes e k) (omega arith);
+            past = λ k h. zeros-at 16 sizes e k;
+          };
+    }
+
+-- A size fits a byte.
+pub size-fits : (bytes : List ℕ) (at v next : ℕ) → field 1 (rangeTest 1 16 Size) bytes at ≡ got v next → Fits w8 v
+size-fits bytes at v next e = omega (arith, range-passed 1 16 v Size (field-got _ _ _ _ v next e .passed))
+
+-- What stands at k after a store at i.
+stored : (P : ℕ → Type 0) (l : List ℕ) (i k v : ℕ) → i < length l → (k ≡ i → P v) → ((k ≡ i → ⊥) → P (getD l k 0)) → P (getD (set l i v) k 0)
+stored P l i k v h f g =
+    rw (getD-set l i k v 0 h)
+    (by-cases (eqb k i)
+    (λ t. rw (if-true (eqb k i) v (getD l k 0) t) (f (eqb-true k i t)))
+    (λ t. rw (if-false (eqb k i) v (getD l k 0) t) (g (eqb-false k i t))))
+
+module _ (bytes : List ℕ) (n : ℕ) (sizes : List ℕ) (at i : ℕ) (before : SizesSoFar bytes n sizes at i) where
+  pub sizes-more : i < n → n ≤ 16 → (v next : ℕ) → field 1 (rangeTest 1 16 Size) bytes at ≡ got v next
+      → SizesSoFar bytes n (set sizes i v) next (i + 1)
+  sizes-more l m v next e =
+      let room : i < length sizes = omega (arith, before .sized .length-is) in
+      let passed : (1 ≤ v) × (v ≤ 16) = range-passed 1 16 v Size (field-got _ _ _ _ v next e .passed) in
+      record {
+        within = omega arith;
+        parsed =
+            rw (add-one i, take-suc-set sizes i v room)
+            (fields-go-on 1 (sizeTest 16) bytes _ _ (n - i) at (before .parsed) (n - suc i) (omega arith) v next (rw (size-range 16) e));
+        sized =
+            record {
+              length-is = length-set sizes i v ∙ before .sized .length-is;
+              small = λ k. stored (λ x. x ≤ 16) sizes i k v room (λ _. passed .1) (λ _. before .sized .small k);
+              past = λ k h. stored (λ x. x ≡ 0) sizes i k v room (λ q. absurd (let x : ⊥ = omega arith in x))
+                  (λ _. before .sized .past k (omega arith));
+            };
+      }
+
+  pub sizes-end : n ≤ i → SizesRead bytes n sizes (Value n at)
+  unfolding readAs
+  sizes-end h =
+      let e : i ≡ n = omega (arith, before .within) in
+      record {
+        parsed = rw e at (fields-end 1 (sizeTest 16) bytes _ (take i sizes) (n - i) at (before .parsed) (omega arith));
+        sized = rw e at (before .sized);
+      }
+
+  pub sizes-refused : i < n → (c : Cause) (place : ℕ) → field 1 (rangeTest 1 16 Size) bytes at ≡ bad c place
+      → SizesRead bytes n sizes (Refused c place)
+  unfolding readAs
+  sizes-refused l c place e =
+      record {
+        parsed = fields-stop 1 (sizeTest 16) bytes _ _ (n - i) at (before .parsed) (n - suc i) (omega arith) c place (rw (size-range 16) e);
+        sized =
+            record {
+              length-is = before .sized .length-is;
+              small = before .sized .small;
+              past = λ k h. before .sized .past k (omega arith);
+            };
+      }

@@ -1,0 +1,111 @@
+-- Field after field: each answer is refused with its own cause and place, or leaves less to parse.
+use denote.Ref.{now}
+use borrow.Author.Needs.{needs}
+use Rattle.read_field.proofs.Fields.{read-got, read-bad}
+use Rattle.read_sheet.proofs.Reading.{Counted, Listed, Constrained, Tabled, counted, listed, constrained, tabled-all}
+use Rattle.read_sheet.proofs.Reading.{no-count, no-sizes, no-constraints, no-tables, left-over, body-read, pairs-fit}
+use Rattle.read_sheet.proofs.read.read_body.Statement.{statement}
+use Rattle.read_sheet.proofs.read.read_body.Tie as tie
+
+returns : tie.Need-returns
+returns c =
+    rw (c .enum-told .given .1)
+    (no-count _ _ _ (read-bad _ _ _ _ (c .before .before .byte-field .ensures) (c .enum-told .given .1)) _ _ _)
+
+-- n is read.
+at-n : (c : tie.After-known-told) → Counted (now (c .before .before .before .before .before .args .bytes)) (c .before .count .given .0 .0)
+at-n c = counted _ _ _ (read-got _ _ _ _ (c .before .before .before .byte-field .ensures) (c .before .count .given .1))
+
+read-sizes-requires : tie.Need-read-sizes-requires
+read-sizes-requires c κs = (at-n (c .before) .few, c .before .before .before .before .before .before .pre .0)
+
+returns-2 : tie.Need-returns-2
+returns-2 c =
+    rw (c .enum-told2 .given .1)
+    (no-sizes _ _ (at-n (c .before .before .before .before)) _ _ (c .before .before .read-sizes .ensures) _ _ (c .enum-told2 .given .1) _ _)
+
+-- The sizes are read.
+at-sizes : (c : tie.After-known-told2)
+    → (let sizes = c .before .before .before in
+    let n = sizes .before .before .before in
+    Listed (now (n .before .before .before .before .args .bytes)) (n .count .given .0 .0) (sizes .read-sizes .last .1 .1 .0)
+    (c .before .listed .given .0 .1 .0))
+at-sizes c =
+    let sizes = c .before .before .before in
+    listed _ _ (at-n (sizes .before .before)) _ _ (sizes .read-sizes .ensures) _ _ (c .before .listed .given .1)
+
+sub-byte-field : tie.Need-sub-byte-field
+sub-byte-field c = at-sizes c .some
+
+mul-byte-field : tie.Need-mul-byte-field
+mul-byte-field c = pairs-fit _ (at-sizes c .few)
+
+returns-3 : tie.Need-returns-3
+returns-3 c =
+    rw (c .enum-told3 .given .1)
+    (no-constraints _ _ _ _ (at-sizes (c .before .before .before)) _ _
+    (read-bad _ _ _ _ (c .before .before .byte-field2 .ensures) (c .enum-told3 .given .1)) _ _)
+
+-- p is read.
+at-p : (c : tie.After-known-told3)
+    → (let sizes = c .before .before .before .before .before .before .before in
+    let n = sizes .before .before .before in
+    Constrained (now (n .before .before .before .before .args .bytes)) (n .count .given .0 .0) (sizes .read-sizes .last .1 .1 .0)
+    (c .before .constraints .given .0 .0) (c .before .constraints .given .0 .1 .0))
+at-p c =
+    constrained _ _ _ _ (at-sizes (c .before .before .before .before)) _ _
+    (read-got _ _ _ _ (c .before .before .before .byte-field2 .ensures) (c .before .constraints .given .1))
+
+read-tables-requires : tie.Need-read-tables-requires
+read-tables-requires c κs =
+    let p = c .before .before .before in
+    let start = p .before .before .before .before .before .before .before .before .before .before .before .before .before .before in
+    (at-p p .inside, at-p p .few, start .pre .1, start .pre .2, at-p p .sized)
+
+returns-4 : tie.Need-returns-4
+returns-4 c =
+    let tables = c .before .before in
+    rw (c .enum-told4 .given .1)
+    (no-tables _ _ _ _ _ (at-p (tables .before .before .before .before)) _ _ _ (tables .read-tables .ensures) _ _ (c .enum-told4 .given .1))
+
+-- The tables are read.
+at-end : (c : tie.After-known-told4)
+    → (let tables = c .before .before .before in
+    let sizes = tables .before .before .before .before .before .before .before .before .before .before .before in
+    let n = sizes .before .before .before in
+    Tabled (now (n .before .before .before .before .args .bytes)) (n .count .given .0 .0) (sizes .read-sizes .last .1 .1 .0)
+    (tables .read-tables .last .1 .1 .1 .1 .1 .0) (tables .read-tables .last .1 .1 .1 .1 .1 .1 .0) (c .before .all .given .0 .1 .0))
+at-end c =
+    let tables = c .before .before .before in
+    tabled-all _ _ _ _ _ (at-p (tables .before .before .before .before)) _ _ _ (tables .read-tables .ensures) _ _ (c .before .all .given .1)
+
+returns-5 : tie.Need-returns-5
+returns-5 c = left-over _ _ _ _ _ _ (at-end (c .before)) (c .if1 .taken)
+
+returns-6 : tie.Need-returns-6
+returns-6 c = body-read _ _ _ _ _ _ (at-end (c .before)) (c .if1 .left)
+
+pub read-body-spec : {M : Type 1} → statement M
+read-body-spec =
+    tie.close
+    (tie.spec
+    (λ c κs. search needs)
+    (λ c. search needs)
+    (λ c. search needs)
+    returns
+    read-sizes-requires
+    (λ c. search needs)
+    (λ c. search needs)
+    returns-2
+    sub-byte-field
+    mul-byte-field
+    (λ c κs. search needs)
+    (λ c. search needs)
+    (λ c. search needs)
+    returns-3
+    read-tables-requires
+    (λ c. search needs)
+    (λ c. search needs)
+    returns-4
+    returns-5
+    returns-6)

@@ -1,0 +1,50 @@
+-- The loop's invariant: the tables before the counter are held, and the next is at `at`.
+use Prim.Native.Nat.{_-_}
+use native.Mathlib.Omega.{arith}
+use borrow.Author.Needs.{needs}
+use Rattle.read_sheet.proofs.TablesLoop.{TablesSoFar, tables-none, tables-more, tables-refused, tables-end}
+use Rattle.read_sheet.proofs.tables.read_tables.Statement.{statement}
+use Rattle.read_sheet.proofs.tables.read_tables.Tie as tie
+
+abbrev Inv-loop : tie.InvT-loop
+Inv-loop bytes from n count sizes stated₀ rows₀ at₀ previous₀ counter₀ stated rows at previous counter =
+    TablesSoFar bytes from n count sizes stated rows at previous counter
+
+abbrev μ-loop : tie.MeasureT-loop
+μ-loop bytes from n count sizes stated₀ rows₀ at₀ previous₀ counter₀ stated rows at previous counter =
+    count - counter
+
+loop-holds : tie.Need-loop-holds Inv-loop μ-loop
+loop-holds c = search (tables-none, needs)
+
+returns : tie.Need-returns Inv-loop μ-loop
+returns c =
+    let read = c .before .before in
+    rw (c .enum-told .given .1)
+    (tables-refused _ _ _ _ _ _ _ _ _ _ (read .before .before .before .before .loop .inv) (omega arith)
+    _ _ _ (read .read-table .ensures) _ _ (c .enum-told .given .1))
+
+loop-again : tie.Need-loop-again Inv-loop μ-loop
+loop-again c =
+    let read = c .before .before .before in
+    tables-more _ _ _ _ _ _ _ _ _ _ (read .before .before .before .before .loop .inv) (omega arith)
+    _ _ _ (read .read-table .ensures) _ _ (c .before .table .given .1)
+
+returns-2 : tie.Need-returns-2 Inv-loop μ-loop
+returns-2 c = search (tables-end, needs)
+
+pub read-tables-spec : {M : Type 1} → statement M
+read-tables-spec =
+    tie.close
+    (tie.spec
+    Inv-loop
+    μ-loop
+    loop-holds
+    (λ c κs. search needs)
+    (λ c. search needs)
+    (λ c. search needs)
+    returns
+    (λ c. search needs)
+    (λ c. search needs)
+    loop-again
+    returns-2)

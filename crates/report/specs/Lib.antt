@@ -1,4 +1,0 @@
--- The text that sheetcut prints.
-pub mod Text
-pub mod Parts
-pub mod Printed

@@ -1,0 +1,54 @@
+-- The loop's invariant: the first `i` domains lie within their sizes. A turn tests one more.
+use mathlib.Core.Path.{_≡_, refl}
+use Prim.Native.Nat.{ℕ, _-_, _≤_}
+use Rattle.bounded.specs.Fold.{every}
+use Rattle.rows.proofs.Loops.{test-joins}
+use lib.ListN.{getD}
+use Rattle.soundness.specs.Parts.{within, domainsFit}
+use Rattle.soundness.proofs.Tests.{within-same}
+use mathlib.Core.Path.{_≡_, refl}
+use native.Mathlib.Omega.{arith}
+use borrow.Author.Needs.{needs}
+use Rattle.soundness.proofs.sound.domains_sound.Statement.{statement}
+use Rattle.soundness.proofs.sound.domains_sound.Tie as tie
+
+abbrev Inv-loop : tie.InvT-loop
+Inv-loop sizes domains all₀ i₀ all i = (i ≤ 16) × (all ≡ every i (λ (k : ℕ). within (getD domains k 0) (getD sizes k 0)))
+
+abbrev μ-loop : tie.MeasureT-loop
+μ-loop sizes domains all₀ i₀ all i = 16 - i
+
+loop-holds : tie.Need-loop-holds Inv-loop μ-loop
+unfolding every
+loop-holds c = (omega arith, refl)
+
+within-requires : tie.Need-within-requires Inv-loop μ-loop
+within-requires c κs = omega (arith, c .wide .ensures, c .before .before .before .before .before .pre (c .before .before .before .before .loop .i))
+
+loop-again : tie.Need-loop-again Inv-loop μ-loop
+unfolding within
+loop-again c = (
+  omega arith,
+  test-joins _ _ _ _ (c .before .before .before .before .before .loop .inv .1) (within-same _ _ _ _ (c .within .ensures) (c .before .wide .ensures)),
+)
+
+returns : tie.Need-returns Inv-loop μ-loop
+unfolding domainsFit
+returns c = rw (let e : c .before .loop .i ≡ 16 = omega arith in e) at (c .before .loop .inv .1)
+
+pub domains-sound-spec : {M : Type 1} → statement M
+domains-sound-spec =
+    tie.close
+    (tie.spec
+    Inv-loop
+    μ-loop
+    loop-holds
+    (λ c. search needs)
+    (λ c. search needs)
+    (λ c. search needs)
+    (λ c κs. search needs)
+    within-requires
+    (λ c. search needs)
+    (λ c. search needs)
+    loop-again
+    returns)

@@ -1,0 +1,144 @@
+-- Reading, the full reduction and the verdict in one call: each case of the definition.
+use mathlib.Core.Bool.{true, false}
+use mathlib.Core.List.{List}
+use mathlib.Core.Path.{_≡_, refl, sym, ap, _∙_}
+use Prim.Native.Nat.{ℕ, _≤_, _<_}
+use native.Mathlib.Omega.{arith}
+use lib.ListN.{getD, replicate}
+use Rattle.cause.specs.declared.Cause.{Cause}
+use Rattle.cause.specs.declared.Cause.the-variants as cause
+use Rattle.cause.specs.Number.{numberOf}
+use Rattle.cause.proofs.Laws.{number-positive}
+use Rattle.network.specs.Reduction.{reduce}
+use Rattle.network.specs.Sheet.{Sheet}
+use Rattle.format.specs.Parse.{parse, got, bad}
+use Rattle.format.specs.Layout.{version1}
+use Rattle.format.proofs.Places.{refused-place}
+use Rattle.state.specs.declared.state.State.{State}
+use Rattle.answers.specs.declared.ReadOutcome.the-variants as readOutcome
+use Rattle.state_read.specs.declared.ReadParts.{ReadParts}
+use Rattle.answers.specs.declared.Verdict.the-variants as verdict
+use Rattle.state.specs.View.{stateOf, view, soundState, zeroState}
+use Rattle.answers.specs.Answers.{readNumber, readPlace, VerdictTold, verdictTold, no-verdict}
+use Rattle.state.specs.Answers.{ReadTold, Told}
+use Rattle.state.specs.Read.{readSheet}
+use Rattle.state.specs.Steps.{refused, reducedAs, reduced}
+use Rattle.state.specs.Solutions.{verdictOf}
+use Rattle.state.specs.Cut.{CutTold, cutAs, cutSheet}
+use Rattle.state_read.specs.Parts.{readPartsTold}
+use Rattle.state_cut.specs.Parts.{cutPartsTold}
+use Rattle.state.proofs.View.{Shaped, n-most, zero-unsound}
+use Rattle.state.proofs.Steps.{StateKept, reduced-done, reduced-refused, reduced-keeps, reduced-most}
+use Rattle.state.proofs.Solutions.{verdict-refused}
+use Rattle.state_read.proofs.RoundTrip.{AsRead, got-or-bad, read-refused, read-got, read-sound}
+
+-- A state that is not sound: the reduction hands it back and there is no verdict.
+cut-unsound : (r : ReadTold) → soundState (r .state) ≡ false
+    → cutAs r (reduced (r .state))
+    ≡ record { number = r .number; place = r .place; state = r .state; steps = 0; verdict = no-verdict 9 (replicate 16 0) }
+unfolding cutAs refused
+cut-unsound r t =
+    ap (cutAs r) (reduced-refused (r .state) t)
+    ∙ (λ z. record { number = r .number; place = r .place; state = r .state; steps = 0; verdict = verdict-refused (r .state) t z })
+
+-- Parts that tell what reading says, and their rows.
+module _ (bytes : List ℕ) (a : ReadParts) (rows : List ℕ) (e : readPartsTold a rows ≡ readSheet bytes) where
+  unfoldable pub stateRead : State
+  stateRead = stateOf (a .n) (a .sizes) (a .domains) (replicate 16 0) (a .stated) rows
+
+  told-number : readNumber (a .outcome) ≡ readSheet bytes .number
+  unfolding readPartsTold
+  told-number = ap (λ (r : ReadTold). r .number) e
+
+  told-state : stateRead ≡ readSheet bytes .state
+  unfolding readPartsTold stateRead
+  told-state = ap (λ (r : ReadTold). r .state) e
+
+  -- A refused sheet gives the zero state, which is not sound.
+  refused-unsound : {c : Cause} {at : ℕ} → a .outcome ≡ readOutcome.Refused c at → soundState stateRead ≡ false
+  unfolding readNumber
+  refused-unsound {c} h =
+      rw told-state
+      (got-or-bad bytes (parse version1 bytes) refl
+      (λ s next g. absurd (let z : numberOf c ≡ 0 = sym (ap readNumber h) ∙ told-number ∙ ap (λ (r : ReadTold). r .number) (read-got bytes s next g) in
+      let x : ⊥ = omega (arith, number-positive c) in x))
+      (λ d at g. ap (λ (r : ReadTold). soundState (r .state)) (read-refused bytes d at g) ∙ zero-unsound))
+
+  pub cut-refused : {c : Cause} {at : ℕ} → a .outcome ≡ readOutcome.Refused c at
+      → cutPartsTold
+      (record {
+        outcome = a .outcome;
+        n = a .n;
+        sizes = a .sizes;
+        domains = a .domains;
+        leaders = replicate 16 0;
+        stated = a .stated;
+        steps = 0;
+        verdict = verdict.Refused cause.Unsound;
+        solution = replicate 16 0;
+      })
+      rows
+      ≡ cutSheet bytes
+  unfolding cutPartsTold cutSheet readPartsTold verdictTold stateRead
+  cut-refused h =
+      sym (cut-unsound (readPartsTold a rows) (refused-unsound h)) ∙ ap (λ (r : ReadTold). cutAs r (reduced (r .state))) e
+
+  -- An accepted sheet gives a sound state,
+  pub cut-read : ((k : ℕ) → getD bytes k 0 < 256) → a .outcome ≡ readOutcome.Accepted → AsRead stateRead
+  unfolding readNumber
+  cut-read octets h = rw told-state (read-sound bytes octets (sym told-number ∙ ap readNumber h))
+
+  module _ (r : AsRead stateRead) (b : Told) (f : b ≡ reducedAs (reduce (view stateRead))) where
+    told-reduced : b ≡ reduced stateRead
+    told-reduced = f ∙ sym (reduced-done stateRead (r .is-sound))
+
+    -- which the reduction keeps sound,
+    kept : StateKept stateRead (b .state)
+    kept = rw (ap (λ (x : Told). x .state) told-reduced) (reduced-keeps stateRead (r .read-shaped))
+
+    pub cut-shaped : Shaped (b .state)
+    cut-shaped = kept .kept-shaped
+
+    pub cut-sound : soundState (b .state) ≡ true
+    cut-sound = kept .kept-sound (r .is-sound)
+
+    -- and its verdict is that of the reduced state.
+    pub cut-accepted : (v : VerdictTold) → v ≡ verdictOf (b .state)
+        → _≡_ {A = CutTold}
+        (record { number = readNumber (a .outcome); place = readPlace (a .outcome); state = b .state; steps = b .steps; verdict = v })
+        (cutSheet bytes)
+    unfolding cutAs cutSheet readPartsTold stateRead
+    cut-accepted v g =
+        (λ z. record { number = readNumber (a .outcome); place = readPlace (a .outcome); state = b .state; steps = b .steps; verdict = g z })
+        ∙ ap (cutAs (readPartsTold a rows)) told-reduced
+        ∙ ap (λ (x : ReadTold). cutAs x (reduced (x .state))) e
+
+-- How large the numbers of an answer are: a place is within the largest sheet, and there are at most 16 options and so fewer steps.
+pub record Small (c : CutTold) : Type 0 where
+  pub place-small : c .place ≤ 4101
+  pub n-small : c .state .n ≤ 16
+  pub steps-small : c .steps < 16
+
+module _ (bytes : List ℕ) (octets : (k : ℕ) → getD bytes k 0 < 256) where
+  small-accepted : (s : Sheet) (next : ℕ) → parse version1 bytes ≡ got s next → Small (cutSheet bytes)
+  unfolding cutAs cutSheet
+  small-accepted s next e =
+      let g = read-got bytes s next e in
+      let r = read-sound bytes octets (ap (λ (x : ReadTold). x .number) g) in
+      let t = readSheet bytes .state in
+      let p : readSheet bytes .place ≡ 0 = ap (λ (x : ReadTold). x .place) g in
+      let few = n-most t (r .is-sound) in
+      let kept = reduced-keeps t (r .read-shaped) .kept-n in
+      let most = reduced-most t (r .read-shaped) (r .is-sound) in
+      record { place-small = omega arith; n-small = omega arith; steps-small = omega arith }
+
+  small-refused : (c : Cause) (at : ℕ) → parse version1 bytes ≡ bad c at → Small (cutSheet bytes)
+  unfolding cutSheet zeroState version1
+  small-refused c at e =
+      let g = read-refused bytes c at e in
+      let l = refused-place bytes version1 e in
+      rw (g, cut-unsound (record { number = numberOf c; place = at; state = zeroState }) zero-unsound)
+      (record { place-small = l; n-small = omega arith; steps-small = omega arith })
+
+  pub cut-small : Small (cutSheet bytes)
+  cut-small = got-or-bad bytes (parse version1 bytes) refl small-accepted small-refused

@@ -1,0 +1,2 @@
+-- A whole cut on lent rows.
+pub mod Parts

@@ -1,0 +1,47 @@
+-- The loop's invariant: the lists of the variables before the `i`th stand in the array.
+use Prim.Native.Nat.{ℕ, _-_}
+use borrow.Author.Needs.{needs}
+use lib.Dec.{ltb}
+use lib.ListN.{getD}
+use Rattle.bounded.proofs.Fill.{Filled, filled-none, filled-more, filled-end}
+use Rattle.words.specs.Word.{word}
+use Rattle.state_read.proofs.full_domains.Statement.{statement}
+use Rattle.state_read.proofs.full_domains.Tie as tie
+use Rattle.state_read.proofs.full_domains.Reads as reads
+use Rattle.state_read.proofs.full_domains.Lts as lts
+use Rattle.words.proofs.full.Reads as full-reads
+
+abbrev Inv-loop : tie.InvT-loop
+Inv-loop sizes domains₀ i₀ domains i = Filled 16 (λ (k : ℕ). word 16 (λ (a : ℕ). ltb a (getD sizes k 0))) domains i
+
+abbrev μ-loop : tie.MeasureT-loop
+μ-loop sizes domains₀ i₀ domains i = 16 - i
+
+loop-holds : tie.Need-loop-holds Inv-loop μ-loop
+loop-holds c = search (filled-none, needs)
+
+full-requires : tie.Need-full-requires Inv-loop μ-loop
+full-requires c κs = c .before .before .pre (c .before .loop .i)
+
+loop-again : tie.Need-loop-again Inv-loop μ-loop
+loop-again c = search (filled-more, needs)
+
+returns : tie.Need-returns Inv-loop μ-loop
+returns c = search (filled-end, needs)
+
+pub full-domains-spec : {M : Type 1} → statement M
+full-domains-spec =
+    tie.close
+    (tie.spec
+    Inv-loop
+    μ-loop
+    loop-holds
+    (λ c. search needs)
+    (λ c. search needs)
+    full-requires
+    (λ c. search needs)
+    (λ c. search needs)
+    (λ c. search needs)
+    (λ c. search needs)
+    loop-again
+    returns)

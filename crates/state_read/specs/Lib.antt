@@ -1,0 +1,2 @@
+-- Reading on lent rows.
+pub mod Parts

@@ -1,0 +1,3 @@
+-- The text that sheetcut prints.
+pub mod Text
+pub mod Printed

@@ -1,0 +1,29 @@
+-- Document 01, "The program sheetcut": the text for the bytes of a sheet, as ASCII codes.
+use mathlib.Core.List.{List, _++_}
+use Prim.Native.Nat.{ℕ}
+use lib.Dec.{eqb}
+use Rattle.bounded.specs.Bool.{if}
+use Rattle.buffers.specs.Digits.{decimal}
+use Rattle.answers.specs.Answers.{VerdictTold}
+use Rattle.state.specs.Cut.{CutTold, cutSheet}
+use Rattle.text_lines.specs.Text.{ascii, optionLines, refusedText}
+use Rattle.text_verdict.specs.Text.{verdictText}
+
+-- "OPTIONS gives n. There is one line for each option .. STEPS is the reduction's count. VERDICT .. for the reduced state." The leaders and lists are
+-- those of the reduced state.
+unfoldable pub cutText : ℕ → List ℕ → List ℕ → ℕ → VerdictTold → List ℕ
+cutText n leaders lists steps verdict =
+    ascii "OPTIONS " ++ (decimal n ++ (ascii "\n"
+    ++ (optionLines leaders lists n
+    ++ (ascii "STEPS " ++ (decimal steps ++ (ascii "\n"
+    ++ verdictText verdict n))))))
+
+unfoldable pub textAs : CutTold → List ℕ
+textAs c =
+    if (eqb (c .number) 0)
+    (cutText (c .state .n) (c .state .leaders) (c .state .domains) (c .steps) (c .verdict))
+    (refusedText (c .number) (c .place))
+
+-- "It reads standard input, reads the sheet, reduces it and prints. More than 4,101 bytes prints `REFUSED 1 AT 0`."
+unfoldable pub textOf : List ℕ → List ℕ
+textOf bytes = textAs (cutSheet bytes)

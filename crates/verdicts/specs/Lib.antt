@@ -1,3 +1,0 @@
--- The lines of a verdict in the text that sheetcut prints.
-pub mod Text
-pub mod Parts

@@ -1,0 +1,52 @@
+-- The loop's invariant: the tables whose first variable is below `i` are written.
+use mathlib.Core.Path.{_≡_}
+use Prim.Native.Nat.{_-_, _≤_}
+use native.Mathlib.Omega.{arith}
+use borrow.Author.Needs.{needs}
+use Rattle.rows.specs.Rows.{rowAt}
+use Rattle.buffers.specs.Wrote.{Wrote}
+use Rattle.write_sheet.specs.Texts.{joined, laterText, tablesText}
+use Rattle.write_sheet.proofs.Texts.{wrote-start, wrote-room, wrote-next}
+use Rattle.write_sheet.proofs.writing.write_tables.Statement.{statement}
+use Rattle.write_sheet.proofs.writing.write_tables.Tie as tie
+
+abbrev Inv-loop : tie.InvT-loop
+Inv-loop n sizes stated rows buffer₀ at next₀ i₀ buffer next i =
+    (i ≤ n) × Wrote buffer₀ buffer (joined 0 i (laterText n sizes stated (rowAt 16 rows))) at next
+
+abbrev μ-loop : tie.MeasureT-loop
+μ-loop n sizes stated rows buffer₀ at next₀ i₀ buffer next i = n - i
+
+loop-holds : tie.Need-loop-holds Inv-loop μ-loop
+unfolding tablesText
+loop-holds c = (omega arith, wrote-start _ _ _ _ (omega arith))
+
+write-later-requires : tie.Need-write-later-requires Inv-loop μ-loop
+unfolding tablesText
+write-later-requires c κs =
+    let s = c .before .before .before .before in
+    let r = wrote-room _ (s .args .n) (omega arith) (omega arith) (s .pre .1) (c .before .before .loop .inv .1) in
+    let small = s .pre .0 .1 (c .before .before .loop .i) in
+    search needs
+
+loop-again : tie.Need-loop-again Inv-loop μ-loop
+loop-again c =
+    (omega arith, wrote-next _ (omega arith) (c .before .before .before .before .before .loop .inv .1) (c .before .before .write-later .ensures))
+
+returns : tie.Need-returns Inv-loop μ-loop
+unfolding tablesText
+returns c = rw (let e : c .before .loop .i ≡ c .before .before .before .args .n = omega arith in e) at (c .before .loop .inv .1)
+
+pub write-tables-spec : {M : Type 1} → statement M
+write-tables-spec =
+    tie.close
+    (tie.spec
+    Inv-loop
+    μ-loop
+    loop-holds
+    write-later-requires
+    (λ c. search needs)
+    (λ c. search needs)
+    loop-again
+    (λ c. search needs)
+    returns)

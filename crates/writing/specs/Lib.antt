@@ -1,2 +1,0 @@
--- The parts of a text and what writing them does.
-pub mod Texts
