@@ -1,10 +1,30 @@
-/* Option sheets: the proved library for C. Build it with `rt staticlib capi`; link target/staticlib/libcapi.a.
+/* Option sheets: the proved library for C (C99 or newer) and C++ (C++11 or newer).
  *
- * Every function takes any state and any bytes; none asks anything of its caller but that a pointer and its length name memory that may be read
- * (and, for a buffer, written), and that what is written does not overlap what else is lent. A slice crosses as a pointer and a length, a state by
- * value (8 KiB, on the stack); a step and a reduction change a state in place, lent as its five arrays. `number` is the number of the cause of a
- * refusal, 0 where nothing is refused; any part of a refused answer that is not named is zero. Options count from 1 in calls and from 0 as indices
- * of arrays.
+ * Words. This header speaks the words of the trade and of document 01: option, value, list, table, live, leader, follower,
+ * build. The library's code and proofs have other words for some of them, and so have the names of two calls: `eliminate` is
+ * the follow step, `reduce` the full reduction. docs/GLOSSARY.md maps the two. Options count from 1 in calls and in `leaders`,
+ * and from 0 as indices of arrays; values count from 0.
+ *
+ * Promises. A call takes any bytes and any state, does what its comment says, and ends. That is proved of the library's
+ * source, call by call, as an equation with the definitions that docs/PROMISES.md names. The compiler, and what a caller owes
+ * (under "Memory"), are outside the proof.
+ *
+ * Refusals. `number` is 0 where a call is not refused, else the number of the cause, one of `enum sheet_cause`. Where several
+ * causes hold, the one tested first is answered. A refused call changes nothing that it is lent, and all other parts of its
+ * answer are zero, but for a place.
+ *
+ * Memory. Bytes and buffers cross as a pointer and a length: so many bytes may be read there (of a buffer, also written) until
+ * the call returns. With length 0 the pointer may be anything, NULL too: nothing is read or written through it. Any other
+ * pointer points to what its type says. What a call writes must not overlap anything else that it is lent. Nothing is
+ * allocated, and nothing is kept after a call.
+ *
+ * Stack. SHEET_STACK_BYTES are enough for any call, a state that it takes by value included; what the caller holds himself,
+ * such as an answer, is not.
+ *
+ * Threads. The library has no global state: calls on different states and buffers may run at the same time.
+ *
+ * Platform. x86-64 Linux, any such processor. `rt staticlib capi` writes target/staticlib/libcapi.a, which is
+ * position-independent and needs nothing but memcpy and memset of the C library.
  */
 #ifndef SHEET_H
 #define SHEET_H
@@ -13,117 +33,240 @@
 #include <stddef.h>
 #include <stdint.h>
 
+/* The version of these declarations: MAJOR rises where a caller has to be changed or compiled anew, MINOR where something is
+ * added. The version in byte 0 of a sheet is another number. */
+#define SHEET_VERSION_MAJOR 1
+#define SHEET_VERSION_MINOR 0
+
+#define SHEET_LARGEST_BYTES 4101 /* "The largest sheet has 4,101 bytes" */
+#define SHEET_MOST_OPTIONS 16    /* length of the arrays that hold something for each option */
+#define SHEET_MOST_VALUES 16     /* bits of a list or row that may be set */
+#define SHEET_ROWS 4096          /* SHEET_MOST_OPTIONS x SHEET_MOST_OPTIONS pairs of SHEET_MOST_VALUES rows */
+#define SHEET_TEXT_BYTES 512     /* longer than any text that sheetcut prints */
+#define SHEET_STACK_BYTES 24576  /* the object code takes at most 16,720; the rest is for memcpy and memset, and margin */
+
 #ifdef __cplusplus
 extern "C" {
 #endif
 
-/* The state of a sheet. Any contents are possible; calls refuse a state that is not sound with 9. */
-struct sheet_state {
-    size_t n;             /* how many options, 1 to 16 */
-    uint8_t sizes[16];    /* how many values each has, 1 to 16 */
-    uint16_t lists[16];   /* bit v: value v is still open */
-    uint8_t leaders[16];  /* 0 for a live option, else the number of its leader, from 1 */
-    uint16_t stated[16];  /* bit j of stated[i]: options i and j have a table */
-    uint16_t rows[4096];  /* rows[(i * 16 + j) * 16 + a], bit b: value a of i goes with value b of j; both sides are held */
+/* The causes of a refusal by their numbers, each in document 01's words. */
+enum sheet_cause {
+    SHEET_NOT_REFUSED = 0,
+    SHEET_CAUSE_LENGTH = 1,             /* "under 3 bytes, over 4,101, or not 3 plus the count" */
+    SHEET_CAUSE_VERSION = 2,            /* "version not 1" */
+    SHEET_CAUSE_OPTION_COUNT = 3,       /* "n is 0 or above 16" */
+    SHEET_CAUSE_SIZE = 4,               /* "a size is 0 or above 16" */
+    SHEET_CAUSE_TABLE_COUNT = 5,        /* "p above n(n-1)/2" */
+    SHEET_CAUSE_CUT_OFF = 6,            /* "a field is cut off, or bytes are left over" */
+    SHEET_CAUSE_PAIR = 7,               /* "a is 0, b above n, a not below b, or pair not after the one before" */
+    SHEET_CAUSE_ROW = 8,                /* "row has a bit at or above the size of b" */
+    SHEET_CAUSE_NOT_SOUND = 9,          /* "state not sound" */
+    SHEET_CAUSE_OPTION_NUMBER = 10,     /* "option number 0 or above n" */
+    SHEET_CAUSE_NOT_LIVE = 11,          /* "the two options equal, or one not live" */
+    SHEET_CAUSE_NOT_STATED = 12,        /* "pair not stated" */
+    SHEET_CAUSE_NOT_FUNCTIONAL = 13,    /* "not functional from leader to follower" */
+    SHEET_CAUSE_BUILD_LENGTH = 14,      /* "build buffer not n bytes" */
+    SHEET_CAUSE_VALUE = 15,             /* "completer: a live value not in its list; tester: a value at or above its size" */
+    SHEET_CAUSE_VALUES_FORBIDDEN = 16,  /* "completer: two live values that their stated pair does not allow" */
+    SHEET_CAUSE_BUFFER_LENGTH = 17,     /* "written sheet longer than the buffer" */
+    SHEET_CAUSE_NOT_AS_READ = 18        /* "writer: a follower exists or a list is not full" */
 };
 
-/* Reading: the number that refuses, the byte it is about, and the state, which is zero after a refusal. */
+#define SHEET_GREATEST_CAUSE SHEET_CAUSE_NOT_AS_READ
+
+/* The cause in English, for any number; never NULL. */
+static inline const char *sheet_cause_text(unsigned number) {
+    switch (number) {
+    case SHEET_NOT_REFUSED: return "not refused";
+    case SHEET_CAUSE_LENGTH: return "the sheet is under 3 bytes or over 4,101, or its count of bytes is wrong";
+    case SHEET_CAUSE_VERSION: return "the version is not 1";
+    case SHEET_CAUSE_OPTION_COUNT: return "the number of options is 0 or above 16";
+    case SHEET_CAUSE_SIZE: return "the size of an option is 0 or above 16";
+    case SHEET_CAUSE_TABLE_COUNT: return "there are more tables than pairs of options";
+    case SHEET_CAUSE_CUT_OFF: return "a field is cut off, or bytes are left over";
+    case SHEET_CAUSE_PAIR: return "the pair of a table is out of range, not ascending, or not after the one before";
+    case SHEET_CAUSE_ROW: return "a row allows a value at or above the size of its option";
+    case SHEET_CAUSE_NOT_SOUND: return "the state is not sound";
+    case SHEET_CAUSE_OPTION_NUMBER: return "an option number is 0 or above the number of options";
+    case SHEET_CAUSE_NOT_LIVE: return "the two options are equal, or one is not live";
+    case SHEET_CAUSE_NOT_STATED: return "the two options have no table";
+    case SHEET_CAUSE_NOT_FUNCTIONAL: return "the table is not functional from leader to follower";
+    case SHEET_CAUSE_BUILD_LENGTH: return "the build does not have one byte for each option";
+    case SHEET_CAUSE_VALUE: return "a value is not in the list of its live option, or at or above the size of its option";
+    case SHEET_CAUSE_VALUES_FORBIDDEN: return "a table forbids the values of two live options";
+    case SHEET_CAUSE_BUFFER_LENGTH: return "the sheet is longer than the buffer";
+    case SHEET_CAUSE_NOT_AS_READ: return "an option follows another, or a list is not full";
+    default: return "no cause has this number";
+    }
+}
+
+/* The state of a sheet. It may hold anything: a call that takes one tests first that it is sound. The zero state is not. */
+struct sheet_state {
+    size_t n;                               /* how many options, 1 to 16 */
+    uint8_t sizes[SHEET_MOST_OPTIONS];      /* how many values each has, 1 to 16 */
+    uint16_t lists[SHEET_MOST_OPTIONS];     /* bit v: value v is still open */
+    uint8_t leaders[SHEET_MOST_OPTIONS];    /* 0 for a live option, else the number of its leader */
+    uint16_t stated[SHEET_MOST_OPTIONS];    /* bit j of stated[i]: options i and j have a table */
+    uint16_t rows[SHEET_ROWS];              /* bit b of rows[(i * 16 + j) * 16 + a]: value a of i goes with value b of j */
+};
+
+/* Reading. */
 struct sheet_read_answer {
     uint8_t number;
-    size_t place;
-    struct sheet_state state;
+    size_t place;              /* the byte that a refusal is about, counted from 0; 0 where nothing is refused */
+    struct sheet_state state;  /* the state read; the zero state after a refusal */
 };
 
-/* A step or a reduction: the number that refuses, and how many steps were taken. */
+/* A follow step or a full reduction; the state is changed where it is. */
 struct sheet_step_answer {
     uint8_t number;
-    size_t steps;
+    size_t steps;  /* how many options were live before and are not now */
 };
 
-/* Writing: the number that refuses, and how many bytes the sheet has. */
+/* Writing. */
 struct sheet_write_answer {
     uint8_t number;
-    size_t length;
+    size_t length;  /* how many bytes the sheet has */
 };
 
-/* Testing: the number that refuses, and whether the bytes are a build. */
+/* The tester. */
 struct sheet_test_answer {
     uint8_t number;
-    bool agrees;
+    bool is_build;
 };
 
 /* What a verdict can be. */
-enum { SHEET_NONE = 0, SHEET_BUILT = 1, SHEET_OPEN = 2 };
+enum sheet_verdict_kind { SHEET_NONE = 0, SHEET_BUILT = 1, SHEET_OPEN = 2 };
 
-/* The verdict: the number that refuses, one of the kinds above (0 after a refusal), and the build shown, all zero unless SHEET_BUILT. */
+/* The verdict. */
 struct sheet_verdict_answer {
     uint8_t number;
-    uint8_t kind;
-    uint8_t solution[16];
+    uint8_t kind;                       /* one of enum sheet_verdict_kind */
+    uint8_t build[SHEET_MOST_OPTIONS];  /* the build shown, zero past n; all zero unless SHEET_BUILT */
 };
 
-/* Reading, the full reduction and the verdict in one: the number that refuses the sheet and the byte it is about, the steps, the kind of the verdict,
- * the build shown, and the reduced state; all but number and place is zero where the sheet is refused. */
+/* Reading, the full reduction and the verdict in one. */
 struct sheet_cut_answer {
     uint8_t number;
-    size_t place;
-    size_t steps;
-    uint8_t kind;
-    uint8_t solution[16];
-    struct sheet_state state;
+    size_t place;                       /* as in sheet_read_answer */
+    size_t steps;                       /* of the reduction */
+    uint8_t kind;                       /* of the verdict, with its build */
+    uint8_t build[SHEET_MOST_OPTIONS];
+    struct sheet_state state;           /* the reduced state; the zero state after a refusal */
 };
 
-/* The text that sheetcut prints: how many bytes, and those, with zeros past them. */
+/* What sheetcut prints. */
 struct sheet_text_answer {
     size_t length;
-    uint8_t bytes[512];
+    uint8_t bytes[SHEET_TEXT_BYTES];  /* zero past length */
 };
 
-/* Reads a sheet of any length and contents. Numbers 1 to 8. */
+/* Reads a sheet of any length and contents: full lists, no leader, and exactly the tables of the sheet are stated.
+ * Numbers 1 to 8: "Number 1 is tested first, then 2, then fields in file order; at each field 6 precedes its own number."
+ * A refusal answers its place and the zero state. */
 struct sheet_read_answer sheet_read(const uint8_t *bytes, size_t length);
 
-/* Writes the sheet of a state as just read; bytes past its end are left. Numbers 9, 18, 17; a refusal writes nothing. */
+/* Writes the sheet of a state that is as just read, and answers its length; bytes past its end are left as they were.
+ * Numbers 9, 18, 17, tested in this order. A refusal leaves the buffer as it was.
+ * Reading what was written gives the same state; writing what was read, into enough space, gives the same bytes. */
 struct sheet_write_answer sheet_write(struct sheet_state state, uint8_t *buffer, size_t length);
 
-/* Whether a state is sound. */
+/* Whether a state is sound. No numbers. */
 bool sheet_is_sound(struct sheet_state state);
 
-/* One follow step: `follower` comes to follow `leader`. The arrays are those of a state and are changed in place; no two of the five may overlap.
- * Numbers 9 to 13; a refusal changes nothing. */
-struct sheet_step_answer sheet_eliminate(size_t n, const uint8_t sizes[16], uint16_t lists[16], uint8_t leaders[16], uint16_t stated[16],
-                                         uint16_t rows[4096], size_t leader, size_t follower);
+/* One follow step, `follower` to follow `leader`, on the arrays of a state, where they are; answers 1 step.
+ * Numbers 9 to 13, tested upward. A refusal leaves the arrays as they were and answers 0 steps.
+ * The builds of the state stay the same: none is lost and none gained. */
+struct sheet_step_answer sheet_eliminate(size_t n, const uint8_t sizes[SHEET_MOST_OPTIONS], uint16_t lists[SHEET_MOST_OPTIONS],
+                                         uint8_t leaders[SHEET_MOST_OPTIONS], uint16_t stated[SHEET_MOST_OPTIONS],
+                                         uint16_t rows[SHEET_ROWS], size_t leader, size_t follower);
 
-/* The full reduction, on arrays as above. Number 9; a refusal changes nothing. */
-struct sheet_step_answer sheet_reduce(size_t n, const uint8_t sizes[16], uint16_t lists[16], uint8_t leaders[16], uint16_t stated[16],
-                                      uint16_t rows[4096]);
+/* The full reduction, on arrays as above: "takes the lowest i that has a legal j, with the lowest such j, and repeats until no
+ * step is legal". Answers how many steps it took, at most n - 1.
+ * Number 9. A refusal leaves the arrays as they were and answers 0 steps.
+ * The builds of the state stay the same. */
+struct sheet_step_answer sheet_reduce(size_t n, const uint8_t sizes[SHEET_MOST_OPTIONS], uint16_t lists[SHEET_MOST_OPTIONS],
+                                      uint8_t leaders[SHEET_MOST_OPTIONS], uint16_t stated[SHEET_MOST_OPTIONS],
+                                      uint16_t rows[SHEET_ROWS]);
 
-/* One follow step of a state, in place. */
+/* sheet_eliminate on a state, in place. */
 static inline struct sheet_step_answer sheet_eliminate_state(struct sheet_state *state, size_t leader, size_t follower) {
     return sheet_eliminate(state->n, state->sizes, state->lists, state->leaders, state->stated, state->rows, leader, follower);
 }
 
-/* The full reduction of a state, in place. */
+/* sheet_reduce on a state, in place. */
 static inline struct sheet_step_answer sheet_reduce_state(struct sheet_state *state) {
     return sheet_reduce(state->n, state->sizes, state->lists, state->leaders, state->stated, state->rows);
 }
 
-/* Whether n bytes, a value for each option, are a build. Numbers 9, 14, 15. */
-struct sheet_test_answer sheet_test(struct sheet_state state, const uint8_t *solution, size_t length);
+/* The tester, on n bytes, a value for each option: "yes exactly when each value is in its option's list and each stated pair
+ * allows its two values".
+ * Numbers 9, 14, 15, tested in this order. A refusal answers false. */
+struct sheet_test_answer sheet_test(struct sheet_state state, const uint8_t *build, size_t length);
 
-/* Reads the values of live options from n bytes and writes those of followers; the number that refuses: 9, 14, 15, 16. A refusal writes nothing. */
-uint8_t sheet_complete(struct sheet_state state, uint8_t *solution, size_t length);
+/* The completer, on n bytes: "reads the bytes of live options and writes those of followers; what the follower bytes held before
+ * does not matter". What it leaves is the only build of the state with these values of the live options. Answers the number.
+ * Numbers 9, 14, 15, 16, tested in this order. A refusal leaves the buffer as it was. */
+uint8_t sheet_complete(struct sheet_state state, uint8_t *build, size_t length);
 
-/* The verdict of a state as it is; it does not reduce first. Number 9. */
+/* The verdict of a state as it is: "NONE if some live list is empty; else BUILT if exactly one option is live, with the build in
+ * which it takes its lowest value; else OPEN. The verdict does not reduce first."
+ * Number 9. A refusal answers kind 0 (as SHEET_NONE) and no build: look at the number first. */
 struct sheet_verdict_answer sheet_verdict(struct sheet_state state);
 
-/* Reads a sheet, reduces it fully and gives the verdict; what sheet_read, sheet_reduce and sheet_verdict give one after the other. */
+/* What sheet_read, sheet_reduce and sheet_verdict answer one after the other.
+ * Numbers 1 to 8, as sheet_read. A refusal answers its place and the zero state, 0 steps, kind 0 and no build. */
 struct sheet_cut_answer sheet_cut(const uint8_t *bytes, size_t length);
 
-/* The text of sheetcut for a sheet's bytes, whatever they are. */
+/* The text that sheetcut prints for these bytes, which may be a refusal's. No numbers. */
 struct sheet_text_answer sheet_text(const uint8_t *bytes, size_t length);
 
 #ifdef __cplusplus
 }
 #endif
+
+/* The layout by which the library was compiled. */
+#if defined(__cplusplus)
+#define SHEET_HOLDS(name, fact) static_assert(fact, #name)
+#elif __STDC_VERSION__ >= 201112L
+#define SHEET_HOLDS(name, fact) _Static_assert(fact, #name)
+#else
+#define SHEET_HOLDS(name, fact) typedef char sheet_holds_##name[(fact) ? 1 : -1]
+#endif
+#define SHEET_AT(type, field, at) SHEET_HOLDS(type##_##field, offsetof(struct type, field) == (at))
+#define SHEET_HAS(type, bytes) SHEET_HOLDS(type##_whole, sizeof(struct type) == (bytes))
+
+SHEET_HOLDS(arrays, SHEET_ROWS == SHEET_MOST_OPTIONS * SHEET_MOST_OPTIONS * SHEET_MOST_VALUES);
+SHEET_AT(sheet_state, n, 0);
+SHEET_AT(sheet_state, sizes, 8);
+SHEET_AT(sheet_state, lists, 24);
+SHEET_AT(sheet_state, leaders, 56);
+SHEET_AT(sheet_state, stated, 72);
+SHEET_AT(sheet_state, rows, 104);
+SHEET_HAS(sheet_state, 8296);
+SHEET_AT(sheet_read_answer, place, 8);
+SHEET_AT(sheet_read_answer, state, 16);
+SHEET_HAS(sheet_read_answer, 8312);
+SHEET_AT(sheet_step_answer, steps, 8);
+SHEET_HAS(sheet_step_answer, 16);
+SHEET_AT(sheet_write_answer, length, 8);
+SHEET_HAS(sheet_write_answer, 16);
+SHEET_AT(sheet_test_answer, is_build, 1);
+SHEET_HAS(sheet_test_answer, 2);
+SHEET_AT(sheet_verdict_answer, kind, 1);
+SHEET_AT(sheet_verdict_answer, build, 2);
+SHEET_HAS(sheet_verdict_answer, 18);
+SHEET_AT(sheet_cut_answer, place, 8);
+SHEET_AT(sheet_cut_answer, steps, 16);
+SHEET_AT(sheet_cut_answer, kind, 24);
+SHEET_AT(sheet_cut_answer, build, 25);
+SHEET_AT(sheet_cut_answer, state, 48);
+SHEET_HAS(sheet_cut_answer, 8344);
+SHEET_AT(sheet_text_answer, bytes, 8);
+SHEET_HAS(sheet_text_answer, 520);
+
+#undef SHEET_HAS
+#undef SHEET_AT
+#undef SHEET_HOLDS
 
 #endif
