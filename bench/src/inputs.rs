@@ -1,5 +1,5 @@
 //! Sheets, states and buffers to try.
-use crate::state::State;
+use crate::proved::State;
 
 /// A small generator of random numbers (splitmix64), so that a run can be repeated.
 pub struct Random(pub u64);

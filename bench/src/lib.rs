@@ -1,5 +1,4 @@
 //! The proved library beside an independent implementation in plain Rust.
 pub mod inputs;
 pub mod plain;
-pub mod proved;
-pub mod state;
+pub use sheet as proved;

@@ -1,5 +1,5 @@
 //! Document 01 in plain Rust, written for speed: bit-parallel, in place, early ways out, no copy of a state.
-use crate::state::{State, Stepped, Tested, Verdict, Written, BUILT, NONE, OPEN};
+use crate::proved::{State, Stepped, Tested, Verdict, Written, BUILT, NONE, OPEN};
 
 const LARGEST: usize = 4101;
 
@@ -403,15 +403,11 @@ pub fn verdict(s: &State) -> Verdict {
         return Verdict {
             number: 9,
             kind: NONE,
-            solution: [0; 16],
+            build: [0; 16],
         };
     }
-    let (kind, solution) = verdict_sound(s);
-    Verdict {
-        number: 0,
-        kind,
-        solution,
-    }
+    let (kind, build) = verdict_sound(s);
+    Verdict { number: 0, kind, build }
 }
 
 /// Each stated pair of two options of `among` allows its two values, which are below 16.
@@ -428,7 +424,7 @@ fn pairs_allow(s: &State, among: u16, build: &[u8]) -> bool {
 }
 
 pub fn test(s: &State, build: &[u8]) -> Tested {
-    let answer = |number, agrees| Tested { number, agrees };
+    let answer = |number, is_build| Tested { number, is_build };
     if !is_sound(s) {
         return answer(9, false);
     }
@@ -511,7 +507,7 @@ pub struct Found {
     pub place: usize,
     pub steps: usize,
     pub kind: u8,
-    pub solution: [u8; 16],
+    pub build: [u8; 16],
 }
 
 /// Reads a sheet into `state`, reduces it and gives the verdict. A state just read is sound, and so it stays.
@@ -522,11 +518,11 @@ pub fn cut(bytes: &[u8], state: &mut State) -> Found {
         place,
         steps: 0,
         kind: NONE,
-        solution: [0; 16],
+        build: [0; 16],
     };
     if number == 0 {
         found.steps = reduce_sound(state);
-        (found.kind, found.solution) = verdict_sound(state);
+        (found.kind, found.build) = verdict_sound(state);
     }
     found
 }

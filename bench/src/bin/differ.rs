@@ -1,13 +1,13 @@
 //! Compares the proved library with plain Rust: number, place, state, buffer and text of every call. `differ [SHEETS]` sets how many sheets are made.
 use bench::inputs::*;
-use bench::state::{Cut, Read, State, Text};
-use bench::{plain, proved};
+use bench::plain;
+use bench::proved::{self, Cause, Cut, Read, State, Text};
 
 /// What was compared, and how the calls answered.
 struct Counts {
     inputs: [(&'static str, usize); 7],
     calls: [usize; CALLS.len()],
-    numbers: [[usize; 19]; CALLS.len()],
+    numbers: [[usize; NUMBERS]; CALLS.len()],
     differences: usize,
 }
 
@@ -23,6 +23,8 @@ const CALLS: [&str; 10] = [
     "cut",
     "text",
 ];
+/// The numbers that a call can answer: 0, which stands for "not refused", and those of the causes.
+const NUMBERS: usize = Cause::GREATEST as usize + 1;
 const SHEET: usize = 0;
 const DAMAGED_SHEET: usize = 1;
 const RANDOM_BYTES: usize = 2;
@@ -70,7 +72,7 @@ fn cut(bytes: &[u8], counts: &mut Counts) {
         place: found.place,
         steps: found.steps,
         kind: found.kind,
-        solution: found.solution,
+        build: found.build,
         state,
     };
     counts.note(8, one.number, &one, &other);
@@ -217,7 +219,7 @@ fn main() {
     let mut counts = Counts {
         inputs: names.map(|name| (name, 0)),
         calls: [0; CALLS.len()],
-        numbers: [[0; 19]; CALLS.len()],
+        numbers: [[0; NUMBERS]; CALLS.len()],
         differences: 0,
     };
     let mut random = Random(1);
@@ -235,7 +237,7 @@ fn report(counts: &Counts) {
     }
     println!("inputs {inputs}");
     for (call, name) in CALLS.iter().enumerate() {
-        let numbers: Vec<String> = (0..19)
+        let numbers: Vec<String> = (0..NUMBERS)
             .filter(|&k| counts.numbers[call][k] > 0)
             .map(|k| format!("{k}: {}", counts.numbers[call][k]))
             .collect();

@@ -1,7 +1,7 @@
 //! How long each call takes in the proved library and in plain Rust: nanoseconds, medians, both in one run by turns.
 use bench::inputs::{sheet, Random, Sheet, FAMILIES};
-use bench::state::State;
-use bench::{plain, proved};
+use bench::plain;
+use bench::proved::{self, State};
 use std::hint::black_box;
 use std::time::Instant;
 

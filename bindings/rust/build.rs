@@ -5,7 +5,7 @@ use std::path::Path;
 fn main() {
     // asked when it runs, so that a copy of the repository links its own library
     let here = env::var("CARGO_MANIFEST_DIR").expect("cargo names the folder");
-    let folder = Path::new(&here).join("../target/staticlib");
+    let folder = Path::new(&here).join("../../target/staticlib");
     let library = folder.join("libcapi.a");
     assert!(library.exists(), "no {}: run `rt staticlib capi` first", library.display());
     println!("cargo:rerun-if-changed={}", library.display());

@@ -1,0 +1,119 @@
+use std::error::Error;
+use std::fmt;
+
+/// The causes of a refusal, each with its number and in document 01's words.
+#[derive(Clone, Copy, PartialEq, Eq, Hash, Debug)]
+#[non_exhaustive]
+#[repr(u8)]
+pub enum Cause {
+    /// "under 3 bytes, over 4,101, or not 3 plus the count"
+    Length = 1,
+    /// "version not 1"
+    Version = 2,
+    /// "n is 0 or above 16"
+    OptionCount = 3,
+    /// "a size is 0 or above 16"
+    Size = 4,
+    /// "p above n(n-1)/2"
+    TableCount = 5,
+    /// "a field is cut off, or bytes are left over"
+    CutOff = 6,
+    /// "a is 0, b above n, a not below b, or pair not after the one before"
+    Pair = 7,
+    /// "row has a bit at or above the size of b"
+    Row = 8,
+    /// "state not sound"
+    NotSound = 9,
+    /// "option number 0 or above n"
+    OptionNumber = 10,
+    /// "the two options equal, or one not live"
+    NotLive = 11,
+    /// "pair not stated"
+    NotStated = 12,
+    /// "not functional from leader to follower"
+    NotFunctional = 13,
+    /// "build buffer not n bytes"
+    BuildLength = 14,
+    /// "completer: a live value not in its list; tester: a value at or above its size"
+    Value = 15,
+    /// "completer: two live values that their stated pair does not allow"
+    ValuesForbidden = 16,
+    /// "written sheet longer than the buffer"
+    BufferLength = 17,
+    /// "writer: a follower exists or a list is not full"
+    NotAsRead = 18,
+}
+
+use Cause::*;
+
+impl Cause {
+    /// All causes, in the order of their numbers.
+    pub const ALL: [Cause; 18] = [
+        Length,
+        Version,
+        OptionCount,
+        Size,
+        TableCount,
+        CutOff,
+        Pair,
+        Row,
+        NotSound,
+        OptionNumber,
+        NotLive,
+        NotStated,
+        NotFunctional,
+        BuildLength,
+        Value,
+        ValuesForbidden,
+        BufferLength,
+        NotAsRead,
+    ];
+
+    /// The greatest number that a call answers.
+    pub const GREATEST: u8 = Self::ALL.len() as u8;
+
+    /// The cause that has this number; none for 0, which stands for "not refused", and for what is above the greatest.
+    pub fn of(number: u8) -> Option<Cause> {
+        Self::ALL.get((number as usize).checked_sub(1)?).copied()
+    }
+
+    pub fn number(self) -> u8 {
+        self as u8
+    }
+}
+
+const _: () = {
+    let mut at = 0;
+    while at < Cause::ALL.len() {
+        assert!(Cause::ALL[at] as usize == at + 1);
+        at += 1;
+    }
+};
+
+/// The cause in English, as `sheet_cause_text` of `include/sheet.h` has it.
+impl fmt::Display for Cause {
+    fn fmt(&self, f: &mut fmt::Formatter) -> fmt::Result {
+        f.write_str(match self {
+            Length => "the sheet is under 3 bytes or over 4,101, or its count of bytes is wrong",
+            Version => "the version is not 1",
+            OptionCount => "the number of options is 0 or above 16",
+            Size => "the size of an option is 0 or above 16",
+            TableCount => "there are more tables than pairs of options",
+            CutOff => "a field is cut off, or bytes are left over",
+            Pair => "the pair of a table is out of range, not ascending, or not after the one before",
+            Row => "a row allows a value at or above the size of its option",
+            NotSound => "the state is not sound",
+            OptionNumber => "an option number is 0 or above the number of options",
+            NotLive => "the two options are equal, or one is not live",
+            NotStated => "the two options have no table",
+            NotFunctional => "the table is not functional from leader to follower",
+            BuildLength => "the build does not have one byte for each option",
+            Value => "a value is not in the list of its live option, or at or above the size of its option",
+            ValuesForbidden => "a table forbids the values of two live options",
+            BufferLength => "the sheet is longer than the buffer",
+            NotAsRead => "an option follows another, or a list is not full",
+        })
+    }
+}
+
+impl Error for Cause {}

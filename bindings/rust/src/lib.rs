@@ -1,0 +1,155 @@
+//! Option sheets: safe calls of the proved library.
+//!
+//! A call takes any bytes and any state, does what its comment says, and ends; the comments at the top of `include/sheet.h` say
+//! what is proved and what is not, and how much stack a call takes. `number` is 0 where a call is not refused, else the number
+//! of a [`Cause`]. A refused call changes nothing that it is lent, and all other parts of its answer are zero, but for a place.
+//!
+//! ```
+//! let case_a = [1, 0, 19, 3, 2, 3, 2, 2, 1, 2, 0, 1, 0, 4, 2, 3, 0, 2, 0, 1, 0, 1];
+//! let mut state = sheet::read(&case_a).state;
+//! assert_eq!(sheet::eliminate(&mut state, 1, 3).number, sheet::Cause::NotStated.number());
+//! assert_eq!(sheet::reduce(&mut state).steps, 2);
+//! let verdict = sheet::verdict(&state);
+//! assert_eq!(verdict.kind, sheet::BUILT);
+//! assert_eq!(verdict.build[..3], [0, 0, 1]);
+//!
+//! let short = sheet::read(&case_a[..4]);
+//! assert_eq!((short.number, short.place), (1, 0));
+//! assert!(sheet::Cause::of(short.number).unwrap().to_string().ends_with("its count of bytes is wrong"));
+//! ```
+mod cause;
+mod state;
+
+pub use cause::Cause;
+pub use state::*;
+
+// A slice crosses as a pointer and a length, a state by value, or as its arrays where it is changed in place.
+extern "C" {
+    fn sheet_read(bytes: *const u8, length: usize) -> Read;
+    fn sheet_write(state: State, buffer: *mut u8, length: usize) -> Written;
+    fn sheet_is_sound(state: State) -> bool;
+    fn sheet_eliminate(
+        n: usize,
+        sizes: &[u8; MOST_OPTIONS],
+        lists: &mut [u16; MOST_OPTIONS],
+        leaders: &mut [u8; MOST_OPTIONS],
+        stated: &mut [u16; MOST_OPTIONS],
+        rows: &mut Rows,
+        leader: usize,
+        follower: usize,
+    ) -> Stepped;
+    fn sheet_reduce(
+        n: usize,
+        sizes: &[u8; MOST_OPTIONS],
+        lists: &mut [u16; MOST_OPTIONS],
+        leaders: &mut [u8; MOST_OPTIONS],
+        stated: &mut [u16; MOST_OPTIONS],
+        rows: &mut Rows,
+    ) -> Stepped;
+    fn sheet_test(state: State, build: *const u8, length: usize) -> Tested;
+    fn sheet_complete(state: State, build: *mut u8, length: usize) -> u8;
+    fn sheet_verdict(state: State) -> Verdict;
+    fn sheet_cut(bytes: *const u8, length: usize) -> Cut;
+    fn sheet_text(bytes: *const u8, length: usize) -> Text;
+}
+
+// SAFETY, for every call below: the function has no `requires`, so it takes any state and any slice and keeps to what it is lent;
+// a reference or a slice lends what the type says; the types are laid out as the library was compiled (`state`).
+
+/// Reads a sheet of any length and contents: full lists, no leader, and exactly the tables of the sheet are stated.
+///
+/// Numbers 1 to 8: "Number 1 is tested first, then 2, then fields in file order; at each field 6 precedes its own number."
+/// A refusal answers its place and [`State::ZERO`].
+#[inline]
+pub fn read(bytes: &[u8]) -> Read {
+    unsafe { sheet_read(bytes.as_ptr(), bytes.len()) }
+}
+
+/// Writes the sheet of a state that is as just read, and answers its length; bytes past its end are left as they were.
+///
+/// Numbers 9, 18, 17, tested in this order. A refusal leaves the buffer as it was. Reading what was written gives the same state;
+/// writing what was read, into enough space, gives the same bytes.
+#[inline]
+pub fn write(state: &State, buffer: &mut [u8]) -> Written {
+    unsafe { sheet_write(*state, buffer.as_mut_ptr(), buffer.len()) }
+}
+
+/// Whether a state is sound. No numbers.
+#[inline]
+pub fn is_sound(state: &State) -> bool {
+    unsafe { sheet_is_sound(*state) }
+}
+
+/// One follow step, `follower` to follow `leader`, options counted from 1; answers 1 step.
+///
+/// Numbers 9 to 13, tested upward. A refusal leaves the state as it was and answers 0 steps. The builds of the state stay the
+/// same: none is lost and none gained.
+#[inline]
+pub fn eliminate(state: &mut State, leader: usize, follower: usize) -> Stepped {
+    let s = state;
+    unsafe {
+        sheet_eliminate(
+            s.n,
+            &s.sizes,
+            &mut s.lists,
+            &mut s.leaders,
+            &mut s.stated,
+            &mut s.rows,
+            leader,
+            follower,
+        )
+    }
+}
+
+/// The full reduction: "takes the lowest i that has a legal j, with the lowest such j, and repeats until no step is legal".
+/// Answers how many steps it took, at most n - 1.
+///
+/// Number 9. A refusal leaves the state as it was and answers 0 steps. The builds of the state stay the same.
+#[inline]
+pub fn reduce(state: &mut State) -> Stepped {
+    let s = state;
+    unsafe { sheet_reduce(s.n, &s.sizes, &mut s.lists, &mut s.leaders, &mut s.stated, &mut s.rows) }
+}
+
+/// The tester, on n bytes, a value for each option: "yes exactly when each value is in its option's list and each stated pair
+/// allows its two values".
+///
+/// Numbers 9, 14, 15, tested in this order. A refusal answers false.
+#[inline]
+pub fn test(state: &State, build: &[u8]) -> Tested {
+    unsafe { sheet_test(*state, build.as_ptr(), build.len()) }
+}
+
+/// The completer, on n bytes: "reads the bytes of live options and writes those of followers; what the follower bytes held
+/// before does not matter". What it leaves is the only build of the state with these values of the live options. Answers the
+/// number.
+///
+/// Numbers 9, 14, 15, 16, tested in this order. A refusal leaves the buffer as it was.
+#[inline]
+#[must_use]
+pub fn complete(state: &State, build: &mut [u8]) -> u8 {
+    unsafe { sheet_complete(*state, build.as_mut_ptr(), build.len()) }
+}
+
+/// The verdict of a state as it is: "NONE if some live list is empty; else BUILT if exactly one option is live, with the build in
+/// which it takes its lowest value; else OPEN. The verdict does not reduce first."
+///
+/// Number 9. A refusal answers kind 0 (as [`NONE`]) and no build: look at the number first.
+#[inline]
+pub fn verdict(state: &State) -> Verdict {
+    unsafe { sheet_verdict(*state) }
+}
+
+/// What [`read`], [`reduce`] and [`verdict`] answer one after the other.
+///
+/// Numbers 1 to 8, as [`read`]. A refusal answers its place and [`State::ZERO`], 0 steps, kind 0 and no build.
+#[inline]
+pub fn cut(bytes: &[u8]) -> Cut {
+    unsafe { sheet_cut(bytes.as_ptr(), bytes.len()) }
+}
+
+/// The text that sheetcut prints for these bytes, which may be a refusal's. No numbers.
+#[inline]
+pub fn text(bytes: &[u8]) -> Text {
+    unsafe { sheet_text(bytes.as_ptr(), bytes.len()) }
+}

@@ -1,0 +1,142 @@
+//! The state and the answers, laid out as in `include/sheet.h`.
+use std::mem::{offset_of, size_of};
+
+/// The largest sheet.
+pub const LARGEST_BYTES: usize = 4101;
+/// How many options a state has room for.
+pub const MOST_OPTIONS: usize = 16;
+/// How many values an option can have.
+pub const MOST_VALUES: usize = 16;
+/// Longer than any text that sheetcut prints.
+pub const TEXT_BYTES: usize = 512;
+
+/// Bit `b` of `rows[i][j][a]`: value `a` of option `i` goes with value `b` of option `j`. Options count from 0 here.
+pub type Rows = [[[u16; MOST_VALUES]; MOST_OPTIONS]; MOST_OPTIONS];
+
+/// The state of a sheet. It may hold anything: a call that takes one tests first that it is sound.
+#[repr(C)]
+#[derive(Clone, Copy, PartialEq, Eq, Debug)]
+pub struct State {
+    /// How many options, 1 to 16.
+    pub n: usize,
+    /// How many values each has, 1 to 16.
+    pub sizes: [u8; MOST_OPTIONS],
+    /// Bit `v`: value `v` is still open.
+    pub lists: [u16; MOST_OPTIONS],
+    /// 0 for a live option, else the number of its leader, counted from 1.
+    pub leaders: [u8; MOST_OPTIONS],
+    /// Bit `j` of `stated[i]`: options `i` and `j` have a table.
+    pub stated: [u16; MOST_OPTIONS],
+    pub rows: Rows,
+}
+
+impl State {
+    /// The state of a refused sheet, which is not sound.
+    pub const ZERO: State = State {
+        n: 0,
+        sizes: [0; MOST_OPTIONS],
+        lists: [0; MOST_OPTIONS],
+        leaders: [0; MOST_OPTIONS],
+        stated: [0; MOST_OPTIONS],
+        rows: [[[0; MOST_VALUES]; MOST_OPTIONS]; MOST_OPTIONS],
+    };
+}
+
+/// What [`read`](crate::read) answers.
+#[repr(C)]
+#[derive(Clone, Copy, PartialEq, Eq, Debug)]
+pub struct Read {
+    pub number: u8,
+    /// The byte that a refusal is about, counted from 0; 0 where nothing is refused.
+    pub place: usize,
+    pub state: State,
+}
+
+/// What a follow step or a full reduction answers.
+#[repr(C)]
+#[derive(Clone, Copy, PartialEq, Eq, Debug)]
+pub struct Stepped {
+    pub number: u8,
+    /// How many options were live before and are not now.
+    pub steps: usize,
+}
+
+/// What [`write`](crate::write) answers.
+#[repr(C)]
+#[derive(Clone, Copy, PartialEq, Eq, Debug)]
+pub struct Written {
+    pub number: u8,
+    /// How many bytes the sheet has.
+    pub length: usize,
+}
+
+/// What [`test`](crate::test) answers.
+#[repr(C)]
+#[derive(Clone, Copy, PartialEq, Eq, Debug)]
+pub struct Tested {
+    pub number: u8,
+    pub is_build: bool,
+}
+
+/// The kinds of a verdict: the sheet has no build,
+pub const NONE: u8 = 0;
+/// a build is shown,
+pub const BUILT: u8 = 1;
+/// or more than one option is live.
+pub const OPEN: u8 = 2;
+
+/// What [`verdict`](crate::verdict) answers.
+#[repr(C)]
+#[derive(Clone, Copy, PartialEq, Eq, Debug)]
+pub struct Verdict {
+    pub number: u8,
+    /// [`NONE`], [`BUILT`] or [`OPEN`].
+    pub kind: u8,
+    /// The build shown, zero past n; all zero unless [`BUILT`].
+    pub build: [u8; MOST_OPTIONS],
+}
+
+/// What [`cut`](crate::cut) answers.
+#[repr(C)]
+#[derive(Clone, Copy, PartialEq, Eq, Debug)]
+pub struct Cut {
+    pub number: u8,
+    /// As in [`Read`].
+    pub place: usize,
+    pub steps: usize,
+    /// As in [`Verdict`], and so is the build.
+    pub kind: u8,
+    pub build: [u8; MOST_OPTIONS],
+    /// The reduced state.
+    pub state: State,
+}
+
+/// What [`text`](crate::text) answers.
+#[repr(C)]
+#[derive(Clone, Copy, PartialEq, Eq, Debug)]
+pub struct Text {
+    pub length: usize,
+    /// Zero past `length`.
+    pub bytes: [u8; TEXT_BYTES],
+}
+
+impl Text {
+    /// The text itself.
+    pub fn as_bytes(&self) -> &[u8] {
+        &self.bytes[..self.length]
+    }
+}
+
+// the layout by which the library was compiled, as include/sheet.h has it
+const _: () = {
+    assert!(offset_of!(State, sizes) == 8 && offset_of!(State, lists) == 24 && offset_of!(State, leaders) == 56);
+    assert!(offset_of!(State, stated) == 72 && offset_of!(State, rows) == 104 && size_of::<State>() == 8296);
+    assert!(offset_of!(Read, place) == 8 && offset_of!(Read, state) == 16 && size_of::<Read>() == 8312);
+    assert!(offset_of!(Stepped, steps) == 8 && size_of::<Stepped>() == 16);
+    assert!(offset_of!(Written, length) == 8 && size_of::<Written>() == 16);
+    assert!(offset_of!(Tested, is_build) == 1 && size_of::<Tested>() == 2);
+    assert!(offset_of!(Verdict, kind) == 1 && offset_of!(Verdict, build) == 2 && size_of::<Verdict>() == 18);
+    assert!(offset_of!(Cut, place) == 8 && offset_of!(Cut, steps) == 16 && offset_of!(Cut, kind) == 24);
+    assert!(offset_of!(Cut, build) == 25 && offset_of!(Cut, state) == 48 && size_of::<Cut>() == 8344);
+    assert!(offset_of!(Text, bytes) == 8 && size_of::<Text>() == 520);
+};
