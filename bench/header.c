@@ -1,0 +1,271 @@
+/* Every call of sheet.h on case A of document 01 and on inputs that are refused, each with what document 01 says of it; and the
+ * stack that each takes. Compiled as C and as C++; prints what is wrong, and ends with 1 where something is. */
+#define _XOPEN_SOURCE 700 /* ucontext */
+#include "sheet.h"
+
+#include <stdio.h>
+#include <string.h>
+#include <ucontext.h>
+
+static int wrong = 0;
+
+#define CHECK(fact) check((fact), #fact, __LINE__)
+
+static void check(bool holds, const char *fact, int line) {
+    if (!holds) {
+        printf("header.c:%d: not so: %s\n", line, fact);
+        wrong = 1;
+    }
+}
+
+static const uint8_t CASE_A[] = {0x01, 0x00, 0x13, 0x03, 0x02, 0x03, 0x02, 0x02, 0x01, 0x02, 0x00,
+                                 0x01, 0x00, 0x04, 0x02, 0x03, 0x00, 0x02, 0x00, 0x01, 0x00, 0x01};
+#define LENGTH_A sizeof CASE_A
+
+static const char TEXT_A[] =
+    "OPTIONS 3\nLIVE 1 LIST 0003\nFOLLOWS 2 OF 1\nFOLLOWS 3 OF 1\nSTEPS 2\nVERDICT BUILT\nBUILD 0 0 1\n";
+
+/* Case A as read, after 2 follows 1, and reduced; and the zero state. */
+static struct sheet_state fresh, stepped, reduced, zero;
+
+/* Value a of option i goes with value b of option j, options counted from 1. */
+static void allow(struct sheet_state *state, int i, int a, int j, int b) {
+    i--, j--;
+    state->stated[i] = (uint16_t)(state->stated[i] | 1 << j);
+    state->stated[j] = (uint16_t)(state->stated[j] | 1 << i);
+    state->rows[(i * 16 + j) * 16 + a] = (uint16_t)(state->rows[(i * 16 + j) * 16 + a] | 1 << b);
+    state->rows[(j * 16 + i) * 16 + b] = (uint16_t)(state->rows[(j * 16 + i) * 16 + b] | 1 << a);
+}
+
+/* "(1,2) 0001 0004; (2,3) 0002 0001 0001": 3 goes with 2 at first, and with 1 once 2 follows 1. No list loses a value. */
+static void make_states(void) {
+    const uint8_t sizes[] = {2, 3, 2};
+    const uint16_t lists[] = {0x0003, 0x0007, 0x0003};
+    fresh.n = 3;
+    memcpy(fresh.sizes, sizes, sizeof sizes);
+    memcpy(fresh.lists, lists, sizeof lists);
+    allow(&fresh, 1, 0, 2, 0);
+    allow(&fresh, 1, 1, 2, 2);
+    stepped = fresh;
+    allow(&fresh, 2, 0, 3, 1);
+    allow(&fresh, 2, 1, 3, 0);
+    allow(&fresh, 2, 2, 3, 0);
+    allow(&stepped, 1, 0, 3, 1);
+    allow(&stepped, 1, 1, 3, 0);
+    stepped.leaders[1] = 1;
+    reduced = stepped;
+    reduced.leaders[2] = 1;
+}
+
+static bool same(const struct sheet_state *one, const struct sheet_state *other) {
+    return memcmp(one, other, sizeof *one) == 0;
+}
+
+static bool all_zero(const uint8_t *bytes, size_t length) {
+    while (length > 0 && bytes[length - 1] == 0) length--;
+    return length == 0;
+}
+
+static bool is_text(const struct sheet_text_answer *answer, const char *text) {
+    size_t length = strlen(text);
+    return answer->length == length && memcmp(answer->bytes, text, length) == 0 &&
+           all_zero(answer->bytes + length, sizeof answer->bytes - length);
+}
+
+/* Reading, cutting and the text of bytes that are refused with this number at this place. */
+static void refused_bytes(const uint8_t *bytes, size_t length, int number, size_t place) {
+    char text[32];
+    sprintf(text, "REFUSED %d AT %d\n", number, (int)place);
+    struct sheet_read_answer read = sheet_read(bytes, length);
+    CHECK(read.number == number && read.place == place && same(&read.state, &zero));
+    struct sheet_cut_answer cut = sheet_cut(bytes, length);
+    CHECK(cut.number == number && cut.place == place && same(&cut.state, &zero));
+    CHECK(cut.steps == 0 && cut.kind == 0 && all_zero(cut.build, sizeof cut.build));
+    struct sheet_text_answer printed = sheet_text(bytes, length);
+    CHECK(is_text(&printed, text));
+}
+
+/* Each cause of reading, by one byte of case A that is wrong. */
+static void check_bytes(void) {
+    static const struct { size_t at; uint8_t byte; int number; size_t place; } wrongs[] = {
+        {1, 0xff, 1, 0}, {0, 2, 2, 0}, {3, 0, 3, 3},  {3, 17, 3, 3}, {4, 0, 4, 4},   {6, 17, 4, 6},  {7, 4, 5, 7},
+        {7, 1, 6, 14},   {7, 3, 6, 22}, {8, 0, 7, 8}, {9, 4, 7, 8},  {14, 3, 7, 14}, {14, 1, 6, 20}, {11, 8, 8, 10},
+    };
+    struct sheet_read_answer read = sheet_read(CASE_A, LENGTH_A);
+    CHECK(read.number == SHEET_NOT_REFUSED && read.place == 0 && same(&read.state, &fresh));
+    struct sheet_cut_answer cut = sheet_cut(CASE_A, LENGTH_A);
+    CHECK(cut.number == SHEET_NOT_REFUSED && cut.place == 0 && cut.steps == 2 && same(&cut.state, &reduced));
+    CHECK(cut.kind == SHEET_BUILT && cut.build[2] == 1 && all_zero(cut.build, 2) && all_zero(cut.build + 3, 13));
+    struct sheet_text_answer printed = sheet_text(CASE_A, LENGTH_A);
+    CHECK(is_text(&printed, TEXT_A));
+    for (size_t k = 0; k < sizeof wrongs / sizeof *wrongs; k++) {
+        uint8_t bytes[LENGTH_A];
+        memcpy(bytes, CASE_A, LENGTH_A);
+        bytes[wrongs[k].at] = wrongs[k].byte;
+        refused_bytes(bytes, LENGTH_A, wrongs[k].number, wrongs[k].place);
+    }
+    refused_bytes(CASE_A, LENGTH_A - 1, SHEET_CAUSE_LENGTH, 0);
+    refused_bytes(NULL, 0, SHEET_CAUSE_LENGTH, 0);
+}
+
+static void refused_step(const struct sheet_state *given, size_t leader, size_t follower, int number) {
+    struct sheet_state state = *given;
+    struct sheet_step_answer answer = sheet_eliminate_state(&state, leader, follower);
+    CHECK(answer.number == number && answer.steps == 0 && same(&state, given));
+}
+
+static void check_steps(void) {
+    struct sheet_state s = fresh;
+    struct sheet_step_answer answer = sheet_eliminate(s.n, s.sizes, s.lists, s.leaders, s.stated, s.rows, 1, 2);
+    CHECK(answer.number == 0 && answer.steps == 1 && same(&s, &stepped));
+    answer = sheet_reduce(s.n, s.sizes, s.lists, s.leaders, s.stated, s.rows);
+    CHECK(answer.number == 0 && answer.steps == 1 && same(&s, &reduced));
+    s = fresh;
+    answer = sheet_reduce_state(&s);
+    CHECK(answer.number == 0 && answer.steps == 2 && same(&s, &reduced));
+    refused_step(&zero, 0, 0, SHEET_CAUSE_NOT_SOUND);
+    refused_step(&fresh, 0, 1, SHEET_CAUSE_OPTION_NUMBER);
+    refused_step(&fresh, 1, 4, SHEET_CAUSE_OPTION_NUMBER);
+    refused_step(&fresh, 2, 2, SHEET_CAUSE_NOT_LIVE);
+    refused_step(&stepped, 1, 2, SHEET_CAUSE_NOT_LIVE);
+    refused_step(&fresh, 1, 3, SHEET_CAUSE_NOT_STATED);
+    refused_step(&fresh, 3, 2, SHEET_CAUSE_NOT_FUNCTIONAL);
+    s = zero;
+    answer = sheet_reduce_state(&s);
+    CHECK(answer.number == SHEET_CAUSE_NOT_SOUND && answer.steps == 0 && same(&s, &zero));
+}
+
+static void check_sound_and_verdict(void) {
+    CHECK(sheet_is_sound(fresh) && sheet_is_sound(stepped) && sheet_is_sound(reduced) && !sheet_is_sound(zero));
+    struct sheet_verdict_answer answer = sheet_verdict(reduced);
+    CHECK(answer.number == 0 && answer.kind == SHEET_BUILT);
+    CHECK(answer.build[2] == 1 && all_zero(answer.build, 2) && all_zero(answer.build + 3, 13));
+    answer = sheet_verdict(fresh);
+    CHECK(answer.number == 0 && answer.kind == SHEET_OPEN && all_zero(answer.build, 16));
+    struct sheet_state none = fresh;
+    none.lists[1] = 0;
+    answer = sheet_verdict(none);
+    CHECK(answer.number == 0 && answer.kind == SHEET_NONE && all_zero(answer.build, 16));
+    answer = sheet_verdict(zero);
+    CHECK(answer.number == SHEET_CAUSE_NOT_SOUND && answer.kind == 0 && all_zero(answer.build, 16));
+}
+
+static void tested(const struct sheet_state *state, const uint8_t *build, size_t length, int number, bool is_build) {
+    struct sheet_test_answer answer = sheet_test(*state, build, length);
+    CHECK(answer.number == number && answer.is_build == is_build);
+}
+
+/* The completer answers this number and leaves this in the buffer. */
+static void completed(const struct sheet_state *state, const uint8_t *build, size_t length, int number, const uint8_t *left) {
+    uint8_t buffer[4];
+    memcpy(buffer, build, sizeof buffer);
+    CHECK(sheet_complete(*state, buffer, length) == number);
+    CHECK(memcmp(buffer, left, sizeof buffer) == 0);
+}
+
+static void check_builds(void) {
+    static const uint8_t low[] = {0, 0, 1, 7}, high[] = {1, 2, 0, 7}, other[] = {0, 1, 0, 7}, beyond[] = {2, 0, 0, 7};
+    static const uint8_t low_asked[] = {0, 9, 9, 7}, high_asked[] = {1, 9, 9, 7};
+    for (int k = 0; k < 2; k++) {
+        const struct sheet_state *state = k == 0 ? &fresh : &reduced;
+        tested(state, low, 3, 0, true);
+        tested(state, high, 3, 0, true);
+        tested(state, other, 3, 0, false);
+        tested(state, low, 2, SHEET_CAUSE_BUILD_LENGTH, false);
+        tested(state, low, 4, SHEET_CAUSE_BUILD_LENGTH, false);
+        tested(state, NULL, 0, SHEET_CAUSE_BUILD_LENGTH, false);
+        tested(state, beyond, 3, SHEET_CAUSE_VALUE, false);
+        completed(state, low, 3, 0, low);
+        completed(state, low, 4, SHEET_CAUSE_BUILD_LENGTH, low);
+        completed(state, beyond, 3, SHEET_CAUSE_VALUE, beyond);
+        CHECK(sheet_complete(*state, NULL, 0) == SHEET_CAUSE_BUILD_LENGTH);
+    }
+    completed(&reduced, low_asked, 3, 0, low);
+    completed(&reduced, high_asked, 3, 0, high);
+    completed(&fresh, other, 3, SHEET_CAUSE_VALUES_FORBIDDEN, other);
+    tested(&zero, low, 3, SHEET_CAUSE_NOT_SOUND, false);
+    completed(&zero, low, 3, SHEET_CAUSE_NOT_SOUND, low);
+}
+
+/* The writer answers this and leaves this at the start of the buffer, and the bytes past it as they were. */
+static void written(const struct sheet_state *state, size_t length, int number, size_t answered) {
+    uint8_t buffer[LENGTH_A + 2], left[LENGTH_A + 2];
+    memset(buffer, 0xee, sizeof buffer);
+    memset(left, 0xee, sizeof left);
+    memcpy(left, CASE_A, answered);
+    struct sheet_write_answer answer = sheet_write(*state, buffer, length);
+    CHECK(answer.number == number && answer.length == answered);
+    CHECK(memcmp(buffer, left, sizeof left) == 0);
+}
+
+static void check_writing(void) {
+    written(&fresh, LENGTH_A, 0, LENGTH_A);
+    written(&fresh, LENGTH_A + 1, 0, LENGTH_A);
+    written(&fresh, LENGTH_A - 1, SHEET_CAUSE_BUFFER_LENGTH, 0);
+    written(&stepped, 0, SHEET_CAUSE_NOT_AS_READ, 0);
+    written(&zero, LENGTH_A, SHEET_CAUSE_NOT_SOUND, 0);
+    struct sheet_write_answer answer = sheet_write(fresh, NULL, 0);
+    CHECK(answer.number == SHEET_CAUSE_BUFFER_LENGTH && answer.length == 0);
+}
+
+/* Each number has a text of its own. */
+static void check_texts(void) {
+    CHECK(SHEET_GREATEST_CAUSE == 18);
+    for (unsigned one = 0; one <= SHEET_GREATEST_CAUSE + 1; one++) {
+        for (unsigned other = 0; other < one; other++) {
+            CHECK(strcmp(sheet_cause_text(one), sheet_cause_text(other)) != 0);
+        }
+    }
+    CHECK(strcmp(sheet_cause_text(SHEET_CAUSE_NOT_SOUND), "the state is not sound") == 0);
+    CHECK(strcmp(sheet_cause_text(255), sheet_cause_text(SHEET_GREATEST_CAUSE + 1)) == 0);
+}
+
+/* The stack that a call takes, with what its caller here holds: on a stack of its own, how far down it wrote. */
+static uint8_t stack[16 * SHEET_STACK_BYTES];
+static uint8_t bytes[LENGTH_A];
+static struct sheet_state held;
+static ucontext_t outer, inner;
+
+static void read_it(void) { held = sheet_read(CASE_A, LENGTH_A).state; }
+static void write_it(void) { sheet_write(fresh, bytes, LENGTH_A); }
+static void sound_it(void) { bytes[0] = sheet_is_sound(reduced); }
+static void follow_it(void) { held = fresh, sheet_eliminate_state(&held, 1, 2); }
+static void reduce_it(void) { held = fresh, sheet_reduce_state(&held); }
+static void test_it(void) { bytes[0] = sheet_test(reduced, bytes, 3).number; }
+static void complete_it(void) { memset(bytes, 0, 3), sheet_complete(reduced, bytes, 3); }
+static void verdict_it(void) { bytes[0] = sheet_verdict(reduced).kind; }
+static void cut_it(void) { held = sheet_cut(CASE_A, LENGTH_A).state; }
+static void text_it(void) { bytes[0] = (uint8_t)sheet_text(CASE_A, LENGTH_A).length; }
+
+static void run_on_own_stack(void (*call)(void)) {
+    memset(stack, 0xa5, sizeof stack);
+    getcontext(&inner);
+    inner.uc_stack.ss_sp = stack;
+    inner.uc_stack.ss_size = sizeof stack;
+    inner.uc_link = &outer;
+    makecontext(&inner, call, 0);
+    swapcontext(&outer, &inner);
+}
+
+static void check_stack(void) {
+    static void (*const calls[])(void) = {read_it, write_it,    sound_it,   follow_it, reduce_it,
+                                          test_it, complete_it, verdict_it, cut_it,    text_it};
+    for (size_t k = 0; k < sizeof calls / sizeof *calls; k++) {
+        size_t untouched = 0;
+        run_on_own_stack(calls[k]);
+        while (untouched < sizeof stack && stack[untouched] == 0xa5) untouched++;
+        CHECK(untouched < sizeof stack && sizeof stack - untouched <= SHEET_STACK_BYTES);
+    }
+}
+
+int main(void) {
+    make_states();
+    check_bytes();
+    check_steps();
+    check_sound_and_verdict();
+    check_builds();
+    check_writing();
+    check_texts();
+    check_stack();
+    return wrong;
+}
