@@ -6,7 +6,7 @@ use Prim.Native.Nat.{ℕ, suc, _+_, _-_, _*_, _/_, _%_, _≤_, _<_, _^_}
 use native.Mathlib.Omega.{arith}
 use lib.Dec.{eqb, ltb}
 use lib.ListN.{length, getD}
-use borrow.Author.Tests.{lt-ltb, le-ltb, eq-eqb, ne-eqb, ltb-true, ltb-false, eqb-true, eqb-false}
+use borrow.Author.Tests.{lt-ltb, le-ltb, lt-leb, eq-eqb, ne-eqb, ltb-true, ltb-false, eqb-true, eqb-false}
 use Rattle.bounded.specs.Bool.{or, if}
 use Rattle.bounded.proofs.Bool.{by-cases, or-false-l, or-false-r, or-false-i, not-i, not-false-e, not-false-i, if-true, if-false}
 use Rattle.cause.specs.declared.Cause.{Cause}
@@ -149,6 +149,11 @@ fine-pair n previous pair h =
     let highs = or-false-i _ _ (le-ltb n (pair / 256) (omega arith)) (le-ltb n (pair % 256) (omega arith)) in
     if-false _ _ _ (or-false-i _ _ zeros highs) ∙ if-false _ _ _ (not-false-i _ (lt-ltb _ _ (h .ordered)))
     ∙ if-false _ _ _ (not-false-i _ (lt-ltb _ _ (h .after)))
+
+-- Every row below 2 to the size passes: "An all-zero row is allowed."
+pub fine-row : (size row : ℕ) → row < 2 ^ size → withinTest size row ≡ fine
+unfolding withinTest
+fine-row size row h = if-false _ _ _ (lt-leb _ _ h)
 
 -- The length of the bytes, and byte 0.
 pub record LengthFits (L : Layout) (bytes : List ℕ) : Type 0 where

@@ -72,6 +72,10 @@ run-keeps {N} {M} s (next i j l r) = keeps-trans N (eliminate N i j) M (step-kee
 pub run-sound : {N M : Network} {k : ℕ} → Sound N → Run N M k → Sound M
 run-sound s r = run-keeps s r .still-sound
 
+-- "the builds agree", whatever steps were taken.
+pub run-solves : {N M : Network} {k : ℕ} → Sound N → Run N M k → (f : ℕ → ℕ) → solves M f ≡ solves N f
+run-solves {N} s r f = run-keeps s r .same-solutions f ∙ and-true (solves N f)
+
 -- No step sets a variable free.
 pub run-free : {N M : Network} {k : ℕ} → Sound N → Run N M k → (x : ℕ) → free M x ≡ true → free N x ≡ true
 run-free s done x h = h
