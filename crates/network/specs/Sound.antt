@@ -24,23 +24,25 @@ pub record Sound (N : Network) : Type 0 where
   pub follower-only : (i l k : ℕ) → N .leader i ≡ suc l → N .stated i k ≡ true → k ≡ l
   pub follower-one : (i l a : ℕ) → N .leader i ≡ suc l → N .domain l a ≡ true → count (N .size i) (partner N l i a) ≡ 1
 
--- Nothing stands at a variable m or above, nor at a value w or above: what arrays for m variables and w values can hold.
+-- What arrays for m variables, with words of w bits, can hold: nothing stands at a variable m or above, nor at a bit w or above. A bit of `stated` is a
+-- variable's, and may be any below w.
 pub record Bounded (m w : ℕ) (N : Network) : Type 0 where
   pub size-bound : (i : ℕ) → m ≤ i → N .size i ≡ 0
   pub leader-bound : (i : ℕ) → m ≤ i → N .leader i ≡ 0
   pub domain-bound : (i a : ℕ) → N .domain i a ≡ true → (i < m) × (a < w)
-  pub stated-bound : (i j : ℕ) → N .stated i j ≡ true → (i < m) × (j < m)
+  pub stated-bound : (i j : ℕ) → N .stated i j ≡ true → (i < m) × (j < w)
   pub allows-bound : (i j a b : ℕ) → N .allows i j a b ≡ true → (i < m) × (j < m) × (a < w) × (b < w)
 
--- The test, for at most m variables of at most w values (16 and 16 today). A definition for each sentence.
-module _ (m w : ℕ) (N : Network) where
+-- The test: m is the number of variables that an array holds, w the bits of a word, k the largest size (16, 16 and 16 today). It looks at every bit of
+-- every word, whatever the sizes. A definition for each sentence.
+module _ (m w k : ℕ) (N : Network) where
   -- "n is 1 to 16"
   unfoldable pub countSound : Bool
   countSound = and (leb 1 (N .n)) (leb (N .n) m)
 
   -- "sizes are 1 to 16 .. and all entries past n are zero"
   unfoldable pub sizesSound : Bool
-  sizesSound = every m (λ (i : ℕ). if (ltb i (N .n)) (and (leb 1 (N .size i)) (leb (N .size i) w)) (eqb (N .size i) 0))
+  sizesSound = every m (λ (i : ℕ). if (ltb i (N .n)) (and (leb 1 (N .size i)) (leb (N .size i) k)) (eqb (N .size i) 0))
 
   -- "each list lies within its size"; past n the size is 0, so the list is empty
   unfoldable pub domainsSound : Bool
@@ -50,7 +52,7 @@ module _ (m w : ℕ) (N : Network) where
   unfoldable pub pairsSound : Bool
   pairsSound =
       every m (λ (i : ℕ).
-      every m (λ (j : ℕ).
+      every w (λ (j : ℕ).
       implies (N .stated i j) (and (and (ltb i (N .n)) (ltb j (N .n))) (and (not (eqb i j)) (N .stated j i)))))
 
   -- "rows lie within sizes, unstated pairs allow nothing, and a pair seen from its two options says the same"
@@ -68,7 +70,7 @@ module _ (m w : ℕ) (N : Network) where
 
   -- "a follower is stated with its leader and with no other option"
   unfoldable pub tiedTo : ℕ → ℕ → Bool
-  tiedTo i l = and (N .stated i l) (every m (λ (k : ℕ). implies (N .stated i k) (eqb k l)))
+  tiedTo i l = and (N .stated i l) (every w (λ (u : ℕ). implies (N .stated i u) (eqb u l)))
 
   -- "each value in a leader's list has exactly one allowed partner in each of its followers' lists"
   unfoldable pub determines : ℕ → ℕ → Bool

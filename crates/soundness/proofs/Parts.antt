@@ -177,7 +177,7 @@ module _ (n : ℕ) (sizes domains leaders stated rows : List ℕ) (A : Lent size
         let most : partnersAt 16 rows l i (getD domains i 0) a ≤ 1 = leb-true _ _ (and-r _ _ t) in
         omega (arith, partners-e i l a (led-e i l e .0) la (size-le b S i) (domain-e D i))
 
-  fit-sound : partsFit n sizes domains leaders stated rows ≡ true → sound 16 16 (partsView n sizes domains leaders stated rows) ≡ true
+  fit-sound : partsFit n sizes domains leaders stated rows ≡ true → sound 16 16 16 (partsView n sizes domains leaders stated rows) ≡ true
   unfolding partsFit partsView
   fit-sound h =
       let h1 = and-r _ _ h in
@@ -193,7 +193,7 @@ module _ (n : ℕ) (sizes domains leaders stated rows : List ℕ) (A : Lent size
       let most : n ≤ 16 = leb-true _ _ (and-l _ _ h1) in
       let stated-n : (i j : ℕ) → has (getD stated i 0) j ≡ true → (i < n) × (j < n) =
       λ i j s. let t = stated-e P i j s in (stated-e P j i (t .2) .0, t .0) in
-      Sound→sound 16 16 (partsView n sizes domains leaders stated rows)
+      Sound→sound 16 16 16 (partsView n sizes domains leaders stated rows)
       (record {
         some-variable = some;
         sizes = λ i l. size-e S i l (omega arith) .0;
@@ -264,18 +264,18 @@ module _ (n : ℕ) (sizes domains leaders stated rows : List ℕ) (A : Lent size
         let led : getD leaders i 0 ≡ 0 → ⊥ = eqb-false _ _ (not-e _ f) in
         follower-i i (pred (getD leaders i 0)) li (le i) (omega arith)
 
-  sound-fit : sound 16 16 (partsView n sizes domains leaders stated rows) ≡ true → partsFit n sizes domains leaders stated rows ≡ true
+  sound-fit : sound 16 16 16 (partsView n sizes domains leaders stated rows) ≡ true → partsFit n sizes domains leaders stated rows ≡ true
   unfolding partsFit partsView sound countSound sizesSound domainsSound sizesFit sizeFits domainsFit within
   sound-fit t =
       let N = partsView n sizes domains leaders stated rows in
-      let S = sound→Sound 16 16 N parts-bounded t in
+      let S = sound→Sound 16 16 16 N parts-bounded t in
       let h = and-r _ _ t in
       and-i _ _ (and-l _ _ (and-l _ _ t))
       (and-i _ _ (and-r _ _ (and-l _ _ t))
       (and-i _ _ (and-l _ _ h)
       (and-i _ _ (and-l _ _ (and-r _ _ h))
-      (and-i _ _ (pairs-i S) (and-i _ _ (rows-i S (leb-true _ _ (and-r _ _ (and-l _ _ t)))) (followers-i S (sound-size 16 16 N parts-bounded t)))))))
+      (and-i _ _ (pairs-i S) (and-i _ _ (rows-i S (leb-true _ _ (and-r _ _ (and-l _ _ t)))) (followers-i S (sound-size 16 16 16 N parts-bounded t)))))))
 
   -- The whole test of the arrays is that of the network.
-  pub parts-sound : partsFit n sizes domains leaders stated rows ≡ sound 16 16 (partsView n sizes domains leaders stated rows)
+  pub parts-sound : partsFit n sizes domains leaders stated rows ≡ sound 16 16 16 (partsView n sizes domains leaders stated rows)
   parts-sound = bool-ext _ _ fit-sound sound-fit

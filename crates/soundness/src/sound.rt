@@ -277,7 +277,7 @@ pub fn sound_parts<'a>(
     rows: &'a [u16; 4096],
 ) -> bool
     requires { ⌜ Lent (now sizes) (now domains) (now leaders) (now stated) (now rows) ⌝ }
-    ensures { λ r. ⌜ r ≡ sound 16 16 (partsView n (now (sizes .entry)) (now (domains .entry)) (now (leaders .entry)) (now (stated .entry)) (now (rows .entry))) ⌝ }
+    ensures { λ r. ⌜ r ≡ sound 16 16 16 (partsView n (now (sizes .entry)) (now (domains .entry)) (now (leaders .entry)) (now (stated .entry)) (now (rows .entry))) ⌝ }
 {
     if n < 1 {
         return false;

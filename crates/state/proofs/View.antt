@@ -21,7 +21,7 @@ use Rattle.network.specs.Sound.{Sound, Bounded, sound, countSound}
 use Rattle.network.proofs.Sound.{free-e, free-or-led, leader-n, sound→Sound, sound-n, sound-size, Sound→Bounded, Sound→sound}
 use Rattle.rows.proofs.Array.{rows-array}
 use Rattle.rows.proofs.Laws.{allows-rows, rows-allows}
-use Rattle.state.specs.View.{stateOf, view, pack, zeroState, soundState}
+use Rattle.state.specs.View.{variables, width, mostValues, stateOf, view, pack, zeroState, soundState}
 use Rattle.soundness.specs.Parts.{partsView, Lent}
 use Rattle.state.specs.declared.state.State.{State}
 use Rattle.soundness.proofs.Parts.{parts-bounded}
@@ -85,17 +85,17 @@ lent-shaped n sizes domains leaders stated rows b h =
     }
 
 -- The network of a state lies within the bounds.
-pub view-bounded : (s : State) → Shaped s → Bounded 16 16 (view s)
+pub view-bounded : (s : State) → Shaped s → Bounded variables width (view s)
 unfolding view partsView
 view-bounded s h = parts-bounded (s .n) (s .sizes) (s .domains) (s .leaders) (s .stated) (s .rows) (shaped-lent s h)
 
 -- What is told of the parts is told of the state.
-pub sound-told : (s : State) (r : Bool) → r ≡ sound 16 16 (partsView (s .n) (s .sizes) (s .domains) (s .leaders) (s .stated) (s .rows)) → r ≡ soundState s
+pub sound-told : (s : State) (r : Bool) → r ≡ sound variables width mostValues (partsView (s .n) (s .sizes) (s .domains) (s .leaders) (s .stated) (s .rows)) → r ≡ soundState s
 unfolding soundState view partsView
 sound-told s r h = h
 
 -- A network within the bounds is that of its state.
-pub view-pack : (N : Network) → Bounded 16 16 N → view (pack N) ≡ N
+pub view-pack : (N : Network) → Bounded variables width N → view (pack N) ≡ N
 unfolding view pack sets
 view-pack N B = λ i.
     record {
@@ -136,23 +136,23 @@ pack-shaped N n sizes leaders =
 -- A state is sound exactly when its network is.
 pub state-sound : (s : State) → Shaped s → soundState s ≡ true → Sound (view s)
 unfolding soundState
-state-sound s h t = sound→Sound 16 16 (view s) (view-bounded s h) t
+state-sound s h t = sound→Sound variables width mostValues (view s) (view-bounded s h) t
 
-pub state-n : (s : State) → soundState s ≡ true → view s .n ≤ 16
+pub state-n : (s : State) → soundState s ≡ true → view s .n ≤ variables
 unfolding soundState
-state-n s t = sound-n 16 16 (view s) t
+state-n s t = sound-n variables width mostValues (view s) t
 
-pub n-most : (s : State) → soundState s ≡ true → s .n ≤ 16
+pub n-most : (s : State) → soundState s ≡ true → s .n ≤ variables
 unfolding view
 n-most s t = state-n s t
 
-pub state-size : (s : State) → Shaped s → soundState s ≡ true → (i : ℕ) → view s .size i ≤ 16
+pub state-size : (s : State) → Shaped s → soundState s ≡ true → (i : ℕ) → view s .size i ≤ mostValues
 unfolding soundState
-state-size s h t = sound-size 16 16 (view s) (view-bounded s h) t
+state-size s h t = sound-size variables width mostValues (view s) (view-bounded s h) t
 
-pub sound-state : (s : State) → Sound (view s) → view s .n ≤ 16 → ((i : ℕ) → view s .size i ≤ 16) → soundState s ≡ true
+pub sound-state : (s : State) → Sound (view s) → view s .n ≤ variables → ((i : ℕ) → view s .size i ≤ mostValues) → soundState s ≡ true
 unfolding soundState
-sound-state s S below within = Sound→sound 16 16 (view s) S below within
+sound-state s S below within = Sound→sound variables width mostValues (view s) S below within
 
 -- The state of a network, sound, and holding that network.
 pub record Packed (N : Network) : Type 0 where
@@ -160,16 +160,16 @@ pub record Packed (N : Network) : Type 0 where
   pub packed-sound : soundState (pack N) ≡ true
   pub packed-shaped : Shaped (pack N)
 
--- A sound network of at most 16 variables of at most 16 values has such a state: a leader's number, counted from 1, is at most n.
-pub pack-sound : (N : Network) → Sound N → N .n ≤ 16 → ((i : ℕ) → N .size i ≤ 16) → Packed N
+-- A sound network of at most `variables` variables of at most `mostValues` values has such a state: a leader's number, counted from 1, is at most n.
+pub pack-sound : (N : Network) → Sound N → N .n ≤ variables → ((i : ℕ) → N .size i ≤ mostValues) → Packed N
 unfolding soundState
 pack-sound N S below within =
-    let same : view (pack N) ≡ N = view-pack N (Sound→Bounded 16 16 N S below within) in
-    let leader-le : (i : ℕ) → N .leader i ≤ 16 =
+    let same : view (pack N) ≡ N = view-pack N (Sound→Bounded variables width N S below (omega arith) (λ i. omega (arith, within i))) in
+    let leader-le : (i : ℕ) → N .leader i ≤ variables =
     λ i. free-or-led N i (λ t. omega (arith, free-e N i t)) (λ l e. omega (arith, leader-n N S i l e)) in
     record {
       packed-view = same;
-      packed-sound = ap (sound 16 16) same ∙ Sound→sound 16 16 N S below within;
+      packed-sound = ap (sound variables width mostValues) same ∙ Sound→sound variables width mostValues N S below within;
       packed-shaped = pack-shaped N (omega arith) (λ i. omega (arith, within i)) (λ i. omega (arith, leader-le i));
     }
 

@@ -1,7 +1,7 @@
 -- States and networks.
 use mathlib.Core.Bool.{Bool}
 use mathlib.Core.List.{List}
-use Prim.Native.Nat.{ℕ}
+use Prim.Native.Nat.{ℕ, _*_}
 use lib.ListN.{getD, replicate}
 use Rattle.bounded.specs.Table.{tabulate}
 use Rattle.words.specs.Word.{has, word}
@@ -9,6 +9,18 @@ use Rattle.network.specs.Network.{Network}
 use Rattle.network.specs.Sound.{sound}
 use Rattle.rows.specs.Rows.{allowsOf, rowsOf}
 use Rattle.state.specs.declared.state.State.{State}
+
+-- How many variables the arrays of a state hold,
+abbrev pub variables : ℕ
+variables = 16
+
+-- how many bits a word of them has: the values that a domain or a row can tell, and the variables that `stated` can,
+abbrev pub width : ℕ
+width = 16
+
+-- and how large a size may be: "sizes are 1 to 16".
+abbrev pub mostValues : ℕ
+mostValues = 16
 
 -- The state of its parts, where they are lent one by one.
 abbrev pub stateOf : ℕ → (sizes domains leaders stated rows : List ℕ) → State
@@ -24,19 +36,19 @@ view s =
       domain = λ (i a : ℕ). has (getD (s .domains) i 0) a;
       leader = λ (i : ℕ). getD (s .leaders) i 0;
       stated = λ (i j : ℕ). has (getD (s .stated) i 0) j;
-      allows = allowsOf 16 (s .rows);
+      allows = allowsOf width (s .rows);
     }
 
--- The state that holds a network of at most 16 variables of at most 16 values.
+-- The state that holds a network, where the network is within these bounds.
 unfoldable pub pack : Network → State
 pack N =
     record {
       n = N .n;
-      sizes = tabulate 16 (N .size);
-      domains = tabulate 16 (λ (i : ℕ). word 16 (N .domain i));
-      leaders = tabulate 16 (N .leader);
-      stated = tabulate 16 (λ (i : ℕ). word 16 (N .stated i));
-      rows = rowsOf 16 (N .allows);
+      sizes = tabulate variables (N .size);
+      domains = tabulate variables (λ (i : ℕ). word width (N .domain i));
+      leaders = tabulate variables (N .leader);
+      stated = tabulate variables (λ (i : ℕ). word width (N .stated i));
+      rows = rowsOf width (N .allows);
     }
 
 -- "The zero state is zero throughout, n included."
@@ -44,13 +56,13 @@ unfoldable pub zeroState : State
 zeroState =
     record {
       n = 0;
-      sizes = replicate 16 0;
-      domains = replicate 16 0;
-      leaders = replicate 16 0;
-      stated = replicate 16 0;
-      rows = replicate 4096 0;
+      sizes = replicate variables 0;
+      domains = replicate variables 0;
+      leaders = replicate variables 0;
+      stated = replicate variables 0;
+      rows = replicate (variables * variables * width) 0;
     }
 
--- "A state is sound when" its network is, with at most 16 variables of at most 16 values.
+-- "A state is sound when" its network is, by these three numbers.
 unfoldable pub soundState : State → Bool
-soundState s = sound 16 16 (view s)
+soundState s = sound variables width mostValues (view s)
