@@ -1,13 +1,13 @@
 // The program sheetcut: a sheet on standard input, its text on standard output.
 use libc::STDIN_FILENO;
 use libc::STDOUT_FILENO;
-use text_report::report;
+use text_report::INPUT;
+use text_report::report_input;
 
 fn main() {
-    // One byte more than the largest sheet, so that a longer input is seen to be longer. What comes after that is not read.
-    let mut buffer = [0u8; 4102];
-    let length = io::read_full(STDIN_FILENO, &mut buffer);
-    let text = report(&buffer[..length]);
+    let mut input = [0u8; INPUT];
+    let count = io::read_full(STDIN_FILENO, &mut input);
+    let text = report_input(input, count);
     let bytes = text.bytes;
     io::write_all(STDOUT_FILENO, &bytes[..text.length]);
 }

@@ -1,9 +1,10 @@
 -- Document 01, "The program sheetcut": the text for the bytes of a sheet, as ASCII codes.
 use mathlib.Core.List.{List, _++_}
-use Prim.Native.Nat.{ℕ}
+use Prim.Native.Nat.{ℕ, suc}
 use lib.Dec.{eqb}
 use Rattle.bounded.specs.Bool.{if}
 use Rattle.buffers.specs.Digits.{decimal}
+use Rattle.format.specs.Layout.{version1}
 use Rattle.answers.specs.Answers.{VerdictTold}
 use Rattle.state.specs.Cut.{CutTold, cutSheet}
 use Rattle.text_lines.specs.Text.{ascii, optionLines, refusedText}
@@ -27,3 +28,7 @@ textAs c =
 -- "It reads standard input, reads the sheet, reduces it and prints. More than 4,101 bytes prints `REFUSED 1 AT 0`."
 unfoldable pub textOf : List ℕ → List ℕ
 textOf bytes = textAs (cutSheet bytes)
+
+-- How many bytes of an input tell its text: one more than the largest sheet has, since a longer input is refused for its length alone.
+unfoldable pub limit : ℕ
+limit = suc (version1 .longest)

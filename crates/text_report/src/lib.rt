@@ -1,6 +1,10 @@
 // The text that sheetcut prints.
 mod cut;
+mod input;
 mod text;
 
+pub use input::INPUT;
+pub use input::Input;
+pub use input::report_input;
 pub use text::Text;
 pub use text::report;
