@@ -6,7 +6,7 @@ use mathlib.Core.Path.{_≡_, refl, sym, ap, _∙_, fun-ext}
 use Prim.Native.Nat.{ℕ, zero, suc, _≤_, _<_}
 use native.Mathlib.Omega.{arith}
 use lib.Dec.{ltb}
-use lib.ListN.{length, getD, List·getD-eq-default}
+use lib.ListN.{length, getD, replicate, List·getD-eq-default}
 use borrow.Author.Tests.{ltb-true, ltb-false}
 use Rattle.bounded.specs.Bool.{and, or, implies, not, bit, if}
 use Rattle.bounded.specs.Fold.{every, some, sum, count, first}
@@ -20,18 +20,28 @@ use Rattle.network.specs.Promise.{Keeps}
 use Rattle.network.specs.Step.{outside, refusal, legal, trimmed, third, joined, composed, eliminate}
 use Rattle.network.specs.Reduction.{freeCount, leading, reducible, nextLeader, nextFollower, advance, oneMore, reduceWithin, reduce}
 use Rattle.network.specs.Sheet.{Sheet, isFor, tabled, rowFor, networkOf}
+use Rattle.network.specs.Completion.{BUILT, follow, completed, lowest, exhausted, decided, verdict, lowestBuild, shown}
 use Rattle.network.proofs.Reduction.{reduce-run, run-keeps}
 use Rattle.format.specs.Layout.{version1, countTest, sizeTest, constraintsTest, pairTest, withinTest}
 use Rattle.format.specs.Parse.{got, bind, numberAt, judged, field, many, fields, pairOf, sizeOf, parseTable, parseTables, ended, parseBody, wrongLength, parse}
 use Rattle.rows.specs.Rows.{rowsOf}
 use Rattle.state.specs.declared.state.State.{State}
+use Rattle.answers.specs.Answers.{rules}
 use Rattle.state.specs.View.{pack}
-use Rattle.state.specs.Answers.{ReadTold}
+use Rattle.state.specs.Answers.{ReadTold, Told}
+use Rattle.state.specs.Cut.{CutTold, cutAs, cutSheet}
 use Rattle.state.specs.Read.{readSheet}
+use Rattle.state.specs.Solutions.{verdictOf}
 use Rattle.state.specs.Steps.{reduced, reducedAs}
-use Rattle.state_read.proofs.RoundTrip.{Accepted, read-got, read-sound, got-accepted}
+use Rattle.state.proofs.View.{Packed, pack-sound}
+use Rattle.state.proofs.Solutions.{verdict-of}
 use Rattle.state.proofs.Steps.{reduced-done}
-use Rattle.cases.specs.CaseA.{bytesA, bytesLast, stateLast, cutA}
+use Rattle.state_read.proofs.RoundTrip.{Accepted, read-got, read-sound, got-accepted}
+use Rattle.buffers.specs.Digits.{decimalWithin, decimal, hexDigit, hex4}
+use Rattle.text_lines.specs.Text.{ascii, pairLine, liveLine, optionLine, optionLines}
+use Rattle.text_verdict.specs.Text.{valueText, valueTexts, builtText, ruledText, verdictText}
+use Rattle.text_report.specs.Text.{cutText, textAs, textOf}
+use Rattle.cases.specs.CaseA.{bytesA, bytesLast, stateLast, reducedA, cutA, textA}
 
 sheetA : Sheet
 sheetA =
@@ -101,7 +111,7 @@ sizes-small (suc (suc (suc i))) = omega arith
 same : Bool → Bool → Bool
 same x y = and (implies x y) (implies y x)
 
--- Everything that is computed: what each pair allows, the other arrays, and the steps.
+-- Everything that is computed: what each pair allows, the other arrays, the steps, and the verdict with its build.
 record Computed : Type 0 where
   pairs : every 3 (λ (i : ℕ). every 3 (λ (j : ℕ). every 3 (λ (a : ℕ). every 3 (λ (b : ℕ).
       same (last .allows i j a b) (networkOf sheetLast .allows i j a b))))) ≡ true
@@ -110,10 +120,12 @@ record Computed : Type 0 where
   leaders : tabulate 16 (last .leader) ≡ stateLast .leaders
   stated : tabulate 16 (λ (i : ℕ). word 16 (last .stated i)) ≡ stateLast .stated
   steps : reduce (networkOf sheetA) .steps ≡ 2
+  ruled : verdict last ≡ BUILT
+  build : tabulate 16 (shown last) ≡ 0 ∷ 0 ∷ 1 ∷ replicate 13 0
 
 computed : Computed
-unfolding and or implies not bit if every some sum count first has word free partner functional outside refusal legal trimmed third joined composed eliminate freeCount leading reducible nextLeader nextFollower advance oneMore reduceWithin reduce isFor tabled rowFor networkOf sheetA sheetLast same last tabulate stateLast
-computed = record { pairs = refl; sizes = refl; domains = refl; leaders = refl; stated = refl; steps = refl }
+unfolding and or implies not bit if every some sum count first has word free partner functional outside refusal legal trimmed third joined composed eliminate freeCount leading reducible nextLeader nextFollower advance oneMore reduceWithin reduce isFor tabled rowFor networkOf sheetA sheetLast same last tabulate stateLast follow completed lowest exhausted decided verdict lowestBuild shown
+computed = record { pairs = refl; sizes = refl; domains = refl; leaders = refl; stated = refl; steps = refl; ruled = refl; build = refl }
 
 same-pair : (i j a b : ℕ) → last .allows i j a b ≡ networkOf sheetLast .allows i j a b
 unfolding same networkOf sheetA sheetLast
@@ -141,9 +153,21 @@ last-state = λ z. record {
   rows = same-rows z;
 }
 
+packed : Packed last
+unfolding networkOf sheetA
+packed =
+    let few : last .n ≤ 16 = rw (keeps .same-n) (omega arith) in
+    pack-sound last (keeps .still-sound) few (λ i. rw (keeps .same-size i) (omega (arith, sizes-small i)))
+
+verdict-A : verdictOf stateLast ≡ rules BUILT (0 ∷ 0 ∷ 1 ∷ replicate 13 0)
+verdict-A =
+    rw (← last-state) (verdict-of (pack last) (packed .packed-sound))
+    ∙ ap (λ (N : Network). rules (verdict N) (tabulate 16 (shown N))) (packed .packed-view)
+    ∙ (λ z. rules (computed .ruled z) (computed .build z))
+
 -- Case A: the sheet is accepted, and its full reduction leaves this state after 2 steps.
-pub case-A : (readSheet bytesA .number ≡ 0) × (reduced (readSheet bytesA .state) ≡ cutA)
-unfolding reducedAs cutA last
+pub case-A : (readSheet bytesA .number ≡ 0) × (reduced (readSheet bytesA .state) ≡ reducedA)
+unfolding reducedAs reducedA last
 case-A =
     let e = read-got bytesA sheetA 22 parsed-A in
     let number = ap (λ (r : ReadTold). r .number) e in
@@ -153,3 +177,21 @@ case-A =
           ∙ ap (λ (N : Network). reducedAs (reduce N)) (accepted-A .view-is)
           ∙ (λ z. record { number = 0; state = last-state z; steps = computed .steps z }),
     )
+
+-- The whole cut of case A,
+pub case-A-cut : cutSheet bytesA ≡ cutA
+unfolding cutSheet cutAs reducedA cutA
+case-A-cut =
+    ap (cutAs (readSheet bytesA)) (case-A .1)
+    ∙ (λ z. record {
+      number = case-A .0 z;
+      place = ap (λ (r : ReadTold). r .place) (read-got bytesA sheetA 22 parsed-A) z;
+      state = stateLast;
+      steps = 2;
+      verdict = verdict-A z;
+    })
+
+-- and its text, as document 01 prints it.
+pub case-A-text : textOf bytesA ≡ textA
+unfolding if decimalWithin decimal hexDigit hex4 ascii pairLine liveLine optionLine optionLines valueText valueTexts builtText ruledText verdictText cutText textAs textOf cutA stateLast textA
+case-A-text = ap textAs case-A-cut

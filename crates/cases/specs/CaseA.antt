@@ -1,10 +1,14 @@
--- Case A of document 01: the bytes of the sheet, and the state that the full reduction leaves.
+-- Case A of document 01: the bytes of the sheet, the state that the full reduction leaves, the verdict on it, and the text.
 use mathlib.Core.List.{List, [], _∷_}
 use Prim.Native.Nat.{ℕ}
 use lib.ListN.{replicate}
+use Rattle.network.specs.Completion.{BUILT}
+use Rattle.answers.specs.Answers.{rules}
 use Rattle.state.specs.declared.state.State.{State}
 use Rattle.state.specs.Answers.{Told}
+use Rattle.state.specs.Cut.{CutTold}
 use Rattle.state.specs.Read.{readSheet}
+use Rattle.text_lines.specs.Text.{ascii}
 
 -- `01 00 13 03 02 03 02 02 01 02 00 01 00 04 02 03 00 02 00 01 00 01`
 unfoldable pub bytesA : List ℕ
@@ -26,5 +30,13 @@ stateLast =
       rows = readSheet bytesLast .state .rows;
     }
 
-unfoldable pub cutA : Told
-cutA = record { number = 0; state = stateLast; steps = 2 }
+unfoldable pub reducedA : Told
+reducedA = record { number = 0; state = stateLast; steps = 2 }
+
+-- The whole cut: option 1 takes value 0, its lowest, and options 2 and 3 their partners of it.
+unfoldable pub cutA : CutTold
+cutA = record { number = 0; place = 0; state = stateLast; steps = 2; verdict = rules BUILT (0 ∷ 0 ∷ 1 ∷ replicate 13 0) }
+
+-- What "it prints" for these bytes.
+unfoldable pub textA : List ℕ
+textA = ascii "OPTIONS 3\nLIVE 1 LIST 0003\nFOLLOWS 2 OF 1\nFOLLOWS 3 OF 1\nSTEPS 2\nVERDICT BUILT\nBUILD 0 0 1\n"
