@@ -58,6 +58,28 @@ length-decimal-le (suc k) n h =
     let p : n < 10 ^ suc k * 10 = rw (← pow-suc 10 (suc k)) h in
     omega (arith, length-decimal-more n d, length-decimal-le k (n / 10) (omega arith)))
 
+within-grows : (most m n : ℕ) → m ≤ n → length (decimalWithin most m) ≤ length (decimalWithin most n)
+unfolding decimalWithin
+within-grows zero m n h = omega arith
+within-grows (suc most) m n h =
+    by-cases (ltb m 10)
+    (λ t. rw (within-one most m (ltb-true m 10 t)) (some-digit most n))
+    (λ t. let d : 10 ≤ m = ltb-false m 10 t in
+    rw (within-more most m d, within-more most n (omega arith))
+    (simp length-append (omega (arith, within-grows most (m / 10) (n / 10) (omega arith)))))
+  where
+    some-digit : (most n : ℕ) → 1 ≤ length (decimalWithin (suc most) n)
+    some-digit most n =
+        by-cases (ltb n 10)
+        (λ t. rw (within-one most n (ltb-true n 10 t)) (omega arith))
+        (λ t. rw (within-more most n (ltb-false n 10 t)) (simp length-append (omega arith)))
+
+-- The next number has no fewer digits.
+pub length-decimal-next : (n : ℕ) → length (decimal n) ≤ length (decimal (n + 1))
+unfolding decimal
+length-decimal-next n =
+    rw (within-enough (suc n) (suc (n + 1)) n (omega arith) (omega arith)) (within-grows (suc (n + 1)) n (n + 1) (omega arith))
+
 pub hex-digit-low : (d : ℕ) → d < 10 → hexDigit d ≡ 48 + d
 unfolding hexDigit
 hex-digit-low d h = if-true _ _ _ (lt-ltb d 10 h)

@@ -1,19 +1,30 @@
--- A live option, or a follower.
+-- A live option, or a follower. That there is room is shown by the digits alone, so a wrong number or title fails on the text.
 use borrow.Author.Needs.{needs}
-use Rattle.text_lines.specs.Text.{ascii}
+use native.Mathlib.Omega.{arith}
+use lib.ListN.{length-append}
+use Rattle.buffers.specs.Digits.{hex4}
+use Rattle.buffers.proofs.Digits.{length-decimal-next}
+use Rattle.text_lines.specs.Text.{ascii, pairLine, liveLine}
 use Rattle.text_lines.proofs.Laws.{option-live, option-follows}
 use Rattle.text_lines.proofs.put_option.Statement.{statement}
 use Rattle.text_lines.proofs.put_option.Tie as tie
 
 put-live-requires : tie.Need-put-live-requires
-put-live-requires c κs = let s = c .before .before .before in rw (option-live _ _ (s .args .list) (c .before .if1 .taken)) at (s .pre .1)
+unfolding liveLine hex4 ascii
+put-live-requires c κs =
+    let s = c .before .before .before in
+    let room = rw (option-live _ _ (s .args .list) (c .before .if1 .taken)) at (s .pre .1) in
+    simp length-append (omega (arith, simp length-append at room, length-decimal-next (s .args .i)))
 
 returns : tie.Need-returns
 returns c = rw (option-live _ _ _ (c .before .before .before .before .if1 .taken)) (c .before .before .put-live .ensures)
 
 put-pair-requires : tie.Need-put-pair-requires
-unfolding ascii
-put-pair-requires c κs = let s = c .before .before .before .before .before in rw (option-follows _ _ (s .args .list) (c .before .before .before .if1 .left)) at (s .pre .1)
+unfolding pairLine ascii
+put-pair-requires c κs =
+    let s = c .before .before .before .before .before in
+    let room = rw (option-follows _ _ (s .args .list) (c .before .before .before .if1 .left)) at (s .pre .1) in
+    simp length-append (omega (arith, simp length-append at room))
 
 returns-2 : tie.Need-returns-2
 unfolding ascii
