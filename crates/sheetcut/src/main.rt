@@ -1,4 +1,5 @@
 // The program sheetcut: a sheet on standard input, its text on standard output.
+use libc::STDERR_FILENO;
 use libc::STDIN_FILENO;
 use libc::STDOUT_FILENO;
 use text_report::INPUT;
@@ -9,5 +10,10 @@ fn main() {
     let count = io::read_full(STDIN_FILENO, &mut input);
     let text = report_input(input, count);
     let bytes = text.bytes;
-    io::write_all(STDOUT_FILENO, &bytes[..text.length]);
+    if !io::write_all(STDOUT_FILENO, &bytes[..text.length]) {
+        io::write_all(
+            STDERR_FILENO,
+            b"sheetcut: the text could not be written whole\n",
+        );
+    }
 }

@@ -22,4 +22,7 @@ main-spec =
     array-share-prefix-bytes
     slice-aggregate-write-all
     (λ c κs. search needs)
+    (λ c. search needs)
+    (λ c κs. search needs)
+    (λ c. search needs)
     (λ c. search needs))
