@@ -24,7 +24,7 @@ use Rattle.state.specs.Read.{readSheet}
 use Rattle.state.specs.Steps.{stepped, reduced}
 use Rattle.state.specs.Solutions.{valuesOf, tested, completeNumber, completedBuffer, verdictOf}
 
--- "Each call gets the state that the one before it handed back; a refused call hands back what it was given."
+-- "Each call gets the state that the one before it handed back; a refused call hands back what it was given, and nobody else changes it meanwhile."
 unfoldable pub handedBack : State → Call → State
 handedBack s (follow-step l f) = stepped s l f .state
 handedBack s full-reduction = reduced s .state
@@ -69,7 +69,7 @@ module _ (bytes : List ℕ) (cs : List Call) where
   unfoldable pub buildOfSheet : List ℕ → Bool
   buildOfSheet build = and (isBuildOf bytes build) (keepsTo (addedBy (readSheet bytes .state) cs) (valuesOf build))
 
-  -- "builds [told apart] by their n bytes": counted over all tuples below the sizes.
+  -- "Choices are told apart by the values of live options, builds by their n bytes": builds are counted over all tuples below the sizes.
   unfoldable pub buildCount : ℕ
   buildCount =
       countTuples (options bytes) (λ (i : ℕ). optionSize bytes (i + 1))
@@ -99,9 +99,9 @@ module _ (bytes : List ℕ) (cs : List Call) where
     pub counted : choiceCount lastNetwork ≡ buildCount
     -- "the verdict is NONE only when the sheet has no build."
     pub none-only : ruledAs NONE (verdictOf lastState) → (b : List ℕ) → buildOfSheet b ≡ false
-    -- "With exactly one live option it is NONE exactly when the sheet has no build,
+    -- "With exactly one live option it is NONE exactly when the sheet has no build"
     pub none-when : freeCount lastNetwork ≡ 1 → ((b : List ℕ) → buildOfSheet b ≡ false) → ruledAs NONE (verdictOf lastState)
-    -- and otherwise BUILT, and the first n bytes shown are a build of the sheet."
+    -- "and otherwise BUILT, and the first n bytes shown are a build of the sheet"
     pub built : freeCount lastNetwork ≡ 1 → (ruledAs NONE (verdictOf lastState) → ⊥)
         → (build : List ℕ) × (verdictOf lastState ≡ rules BUILT build) × (buildOfSheet (take (options bytes) build) ≡ true)
 

@@ -88,7 +88,7 @@ module _ (s : State) (build : List ℕ) where
   unfolding completedBuffer
   completed-buffer z = if-true _ _ _ (eq-eqb _ 0 z)
 
-  -- "A refusal changes no byte."
+  -- A refusal changes no byte.
   pub refused-buffer : 1 ≤ completeNumber s build → completedBuffer s build ≡ build
   unfolding completedBuffer
   refused-buffer h = if-false _ _ _ (ne-eqb (completeNumber s build) 0 (omega arith))

@@ -36,7 +36,7 @@ module _ (s : State) (l f : ℕ) where
   unfolding stepped
   stepped-taken e = if-true _ _ _ (eq-eqb _ 0 e)
 
-  -- "A refused call hands back what it was given", and counts no step.
+  -- "a refused call hands back what it was given", and counts no step.
   pub stepped-refused : (number : ℕ) → stepRefusal s l f ≡ number → 1 ≤ number → stepped s l f ≡ refused number s
   unfolding stepped
   stepped-refused number e h = if-false _ _ _ (ne-eqb (stepRefusal s l f) 0 (omega arith)) ∙ ap (λ (k : ℕ). refused k s) e
@@ -133,14 +133,14 @@ module _ (s : State) (h : Shaped s) (t : soundState s ≡ true) where
   pub reduced-count : freeCount (view (reduced s .state)) + reduced s .steps ≡ freeCount (view s)
   reduced-count = rw (reduced-view, reduced-steps) (reduce-count (view s) (state-sound s h t))
 
-  -- "the number of steps, which equals the number of options that were live before and are not now,
+  -- "the number of steps, which equals the number of options that were live before and are not now"
   pub reduced-taken : count (s .n) (λ (x : ℕ). and (free (view s) x) (not (free (view (reduced s .state)) x))) ≡ reduced s .steps
   unfolding view
   reduced-taken =
       ap (λ (N : Network). count (s .n) (λ (x : ℕ). and (free (view s) x) (not (free N x)))) reduced-view
       ∙ reduce-taken (view s) (state-sound s h t) ∙ sym reduced-steps
 
-  -- and is at most n - 1"
+  -- "and is at most n - 1"
   pub reduced-most : suc (reduced s .steps) ≤ s .n
   unfolding view
   reduced-most = rw reduced-steps (reduce-most (view s) (state-sound s h t))

@@ -12,7 +12,7 @@ use Rattle.state.specs.Answers.{Told}
 unfoldable pub refused : ℕ → State → Told
 refused number s = record { number = number; state = s; steps = 0 }
 
--- The number that refuses a follow step, options counted from 1: "Other calls test 9 first and then upward."
+-- The number that refuses a follow step, options counted from 1: "Other calls test 9 first and then upward".
 unfoldable pub stepRefusal : State → ℕ → ℕ → ℕ
 stepRefusal s l f = if (soundState s) (refusal (view s) l f) 9
 
@@ -26,6 +26,6 @@ stepped s l f =
 unfoldable pub reducedAs : Reduced → Told
 reducedAs r = record { number = 0; state = pack (r .network); steps = r .steps }
 
--- "It hands back the state and the number of steps." It refuses with 9 alone.
+-- "It hands back the state and the number of steps". It refuses with 9 alone.
 unfoldable pub reduced : State → Told
 reduced s = if (soundState s) (reducedAs (reduce (view s))) (refused 9 s)

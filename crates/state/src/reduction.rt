@@ -154,7 +154,7 @@ pub fn reduce_parts<'a>(
     reduce_sound(n, sizes, domains, leaders, stated, rows)
 }
 
-// "It hands back the state and the number of steps."
+// "It hands back the state and the number of steps".
 fn handed_back(n: usize, sizes: [u8; 16], worked: Worked, rows: [u16; 4096]) -> Answer
     ensures { λ r. ⌜ told r ≡ workedTold n sizes worked rows ⌝ }
 {

@@ -24,7 +24,7 @@ ledAfter i j l = if (eqb l (suc j)) (suc i) l
 unfoldable pub thirdOf : ℕ → ℕ → (ℕ → Bool) → ℕ → Bool
 thirdOf i j pairs k = and (pairs k) (and (not (eqb k i)) (not (eqb k j)))
 
--- Rule 2, for x, which was stated with `pairs`; T are the third variables: "The pair i, k becomes stated .. The pair j, k is then unstated".
+-- Rule 2, for x, which was stated with `pairs`; T are the third variables: "the pair i, k becomes stated .. The pair j, k is then unstated".
 unfoldable pub statedAfter : ℕ → ℕ → (ℕ → Bool) → ℕ → (ℕ → Bool) → ℕ → Bool
 statedAfter i j T x pairs y =
     if (or (and (eqb x i) (T y)) (and (eqb y i) (T x))) true

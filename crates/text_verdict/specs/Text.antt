@@ -7,7 +7,7 @@ use Rattle.network.specs.Completion.{Verdict, NONE, BUILT, OPEN}
 use Rattle.answers.specs.Answers.{VerdictTold, rules, no-verdict}
 use Rattle.text_lines.specs.Text.{ascii}
 
--- " " and the value,
+-- A space and the value,
 unfoldable pub valueText : ℕ → List ℕ
 valueText value = ascii " " ++ decimal value
 
