@@ -55,11 +55,11 @@ sixteen-lt rows at ha hb hc hd a l =
     (four-fours (λ (k : ℕ). getD rows k 0 < 65536) at ha hb hc hd (a / 4) (a % 4) (omega arith) (omega arith))
 
 -- Four words stored one after the other.
-pub sixteen-put : (r0 r1 r2 r3 r4 : List ℕ) (at : ℕ) (x : Block) → r1 ≡ putFour r0 at (x .a) → r2 ≡ putFour r1 (at + 4) (x .b)
+pub sixteen-put : (r0 : List ℕ) {r1 r2 r3 r4 : List ℕ} (at : ℕ) (x : Block) → r1 ≡ putFour r0 at (x .a) → r2 ≡ putFour r1 (at + 4) (x .b)
     → r3 ≡ putFour r2 (at + 8) (x .c) → r4 ≡ putFour r3 (at + 12) (x .d)
     → r4 ≡ putSixteen r0 at x
 unfolding putSixteen
-sixteen-put r0 r1 r2 r3 r4 at x e1 e2 e3 e4 = rw (sym e1, sym e2, sym e3) e4
+sixteen-put r0 at x e1 e2 e3 e4 = rw (sym e1, sym e2, sym e3) e4
 
 -- ---- a row of a block
 

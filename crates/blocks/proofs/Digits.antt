@@ -61,26 +61,26 @@ or-none : (a : Bool) → or a false ≡ a
 unfolding or
 or-none a = or-comm a false
 
-or-first : (a b c d : Bool) → b ≡ false → c ≡ false → d ≡ false → or (or (or a b) c) d ≡ a
-or-first a b c d p q r = rw (p, q, r) (or-none _ ∙ or-none _ ∙ or-none a)
+or-first : {a b c d : Bool} → b ≡ false → c ≡ false → d ≡ false → or (or (or a b) c) d ≡ a
+or-first {a} p q r = rw (p, q, r) (or-none _ ∙ or-none _ ∙ or-none a)
 
-or-second : (a b c d : Bool) → a ≡ false → c ≡ false → d ≡ false → or (or (or a b) c) d ≡ b
+or-second : {a b c d : Bool} → a ≡ false → c ≡ false → d ≡ false → or (or (or a b) c) d ≡ b
 unfolding or
-or-second a b c d p q r = rw (p, q, r) (or-none _ ∙ or-none b)
+or-second {b} p q r = rw (p, q, r) (or-none _ ∙ or-none b)
 
-or-third : (a b c d : Bool) → a ≡ false → b ≡ false → d ≡ false → or (or (or a b) c) d ≡ c
+or-third : {a b c d : Bool} → a ≡ false → b ≡ false → d ≡ false → or (or (or a b) c) d ≡ c
 unfolding or
-or-third a b c d p q r = rw (p, q, r) (or-none c)
+or-third {c} p q r = rw (p, q, r) (or-none c)
 
-or-fourth : (a b c d : Bool) → a ≡ false → b ≡ false → c ≡ false → or (or (or a b) c) d ≡ d
+or-fourth : {a b c d : Bool} → a ≡ false → b ≡ false → c ≡ false → or (or (or a b) c) d ≡ d
 unfolding or
-or-fourth a b c d p q r = rw (p, q, r)
+or-fourth p q r = rw (p, q, r)
 
 has-or-four : (x y z u k : ℕ) → has (bitOr (bitOr (bitOr x y) z) u) k ≡ or (or (or (has x k) (has y k)) (has z k)) (has u k)
 has-or-four x y z u k = rw (has-or (bitOr (bitOr x y) z) u k, has-or (bitOr x y) z k, has-or x y k)
 
 -- The rows f 0 to f 3.
-module _ (f : ℕ → ℕ) (a b c d : ℕ) (ea : a ≡ f 0) (eb : b ≡ f 1) (ec : c ≡ f 2) (ed : d ≡ f 3)
+module _ (f : ℕ → ℕ) {a b c d : ℕ} (ea : a ≡ f 0) (eb : b ≡ f 1) (ec : c ≡ f 2) (ed : d ≡ f 3)
     (la : a < 2 ^ 16) (lb : b < 2 ^ 16) (lc : c < 2 ^ 16) (ld : d < 2 ^ 16) where
   -- Which of the four has digit v of row q.
   four-at : (q v : ℕ) → q < 4 → v < 16
@@ -88,21 +88,17 @@ module _ (f : ℕ → ℕ) (a b c d : ℕ) (ea : a ≡ f 0) (eb : b ≡ f 1) (ec
       (has (d * 2 ^ 48 % 2 ^ 64) (16 * q + v))
       ≡ has (f q) v
   four-at zero v l m =
-      or-first (has a (16 * 0 + v)) _ _ _
-      (lane-other b 1 0 v lb l m (λ e. omega arith)) (lane-other c 2 0 v lc l m (λ e. omega arith)) (lane-other d 3 0 v ld l m (λ e. omega arith))
+      or-first (lane-other b 1 0 v lb l m (λ e. omega arith)) (lane-other c 2 0 v lc l m (λ e. omega arith)) (lane-other d 3 0 v ld l m (λ e. omega arith))
       ∙ ap (has a) (let e : 16 * 0 + v ≡ v = omega arith in e)
       ∙ ap (λ (n : ℕ). has n v) ea
   four-at (suc zero) v l m =
-      or-second _ _ _ _
-      (has-past 16 a _ la (omega arith)) (lane-other c 2 1 v lc l m (λ e. omega arith)) (lane-other d 3 1 v ld l m (λ e. omega arith))
+      or-second (has-past 16 a _ la (omega arith)) (lane-other c 2 1 v lc l m (λ e. omega arith)) (lane-other d 3 1 v ld l m (λ e. omega arith))
       ∙ lane-same b 1 v l m ∙ ap (λ (n : ℕ). has n v) eb
   four-at (suc (suc zero)) v l m =
-      or-third _ _ _ _
-      (has-past 16 a _ la (omega arith)) (lane-other b 1 2 v lb l m (λ e. omega arith)) (lane-other d 3 2 v ld l m (λ e. omega arith))
+      or-third (has-past 16 a _ la (omega arith)) (lane-other b 1 2 v lb l m (λ e. omega arith)) (lane-other d 3 2 v ld l m (λ e. omega arith))
       ∙ lane-same c 2 v l m ∙ ap (λ (n : ℕ). has n v) ec
   four-at (suc (suc (suc zero))) v l m =
-      or-fourth _ _ _ _
-      (has-past 16 a _ la (omega arith)) (lane-other b 1 3 v lb l m (λ e. omega arith)) (lane-other c 2 3 v lc l m (λ e. omega arith))
+      or-fourth (has-past 16 a _ la (omega arith)) (lane-other b 1 3 v lb l m (λ e. omega arith)) (lane-other c 2 3 v lc l m (λ e. omega arith))
       ∙ lane-same d 3 v l m ∙ ap (λ (n : ℕ). has n v) ed
   four-at (suc (suc (suc (suc q)))) v l m = absurd (let x : ⊥ = omega arith in x)
 

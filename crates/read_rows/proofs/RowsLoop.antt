@@ -36,7 +36,7 @@ rows-none bytes from i j count size rows h =
       within = omega arith;
       place-is = omega arith;
       parsed = rw (let z : count - 0 ≡ count = omega arith in z) (fields-begin _ _ _ _ _);
-      stored = record { filled = filled-none 16 rows i j _; small = λ a l. absurd (let x : ⊥ = omega arith in x); ends = h };
+      stored = record { filled = filled-none 16; small = λ a l. absurd (let x : ⊥ = omega arith in x); ends = h };
     }
 
 pub tabulate-more : (n : ℕ) (f : ℕ → ℕ) → tabulate (suc n) f ≡ tabulate n f ++ (f n ∷ [])
@@ -66,7 +66,7 @@ module _
               (fields-go-on 2 (withinTest size) bytes _ _ (count - a) at (so-far .parsed) (count - suc a) (omega arith) v next e);
           stored =
               record {
-                filled = filled-more 16 before rows after i j _ a v li lj (omega arith) len (so-far .stored .filled) s here;
+                filled = filled-more 16 li lj (omega arith) len (so-far .stored .filled) s here;
                 small = λ c l. below-suc a c (rw (← add-one a) l) (λ q. rw (q, ← here) (within-passed size v (g .passed))) (so-far .stored .small c);
                 ends = g .inside;
               };

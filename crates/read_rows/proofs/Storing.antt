@@ -212,8 +212,7 @@ module _ (bytes : List ℕ) (from count : ℕ) (x : Block) (read : BlockIn bytes
         one = one;
         filled = one-side i j before one put none;
         mirrored =
-            mirror-is one after i j x y
-            (λ a v l m. sym (has-word 16 (hasIn x a) v m) ∙ ap (λ (n : ℕ). has n v) (sym (put .side a l))) turned other;
+            mirror-is x y (λ a v l m. sym (has-word 16 (hasIn x a) v m) ∙ ap (λ (n : ℕ). has n v) (sym (put .side a l))) turned other;
       }
 
   pub sides-at-once : (i j size : ℕ) (before one after : List ℕ) (y : Block) (union : ℕ) → from + 32 ≤ length bytes

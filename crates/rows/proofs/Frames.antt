@@ -13,18 +13,18 @@ use Rattle.rows.proofs.Laws.{place-lt, rowAt-same, rowAt-other}
 
 -- ---- the rows of a pair, one after the other
 
-pub filled-none : (w : ℕ) (rows : List ℕ) (i j : ℕ) (f : ℕ → ℕ) → Filled w rows rows i j f 0
-filled-none w rows i j f = record {
+pub filled-none : (w : ℕ) {rows : List ℕ} {i j : ℕ} {f : ℕ → ℕ} → Filled w rows rows i j f 0
+filled-none w = record {
   side = λ a l. absurd (let x : ⊥ = omega arith in x);
   rest = λ x y c lx ly lc o. refl;
   size = refl;
   words = λ g k. k;
 }
 
-pub filled-more : (w : ℕ) (before now after : List ℕ) (i j : ℕ) (f : ℕ → ℕ) (n v : ℕ) → i < 16 → j < 16 → n < w → length before ≡ 16 * 16 * w
+pub filled-more : (w : ℕ) {before now after : List ℕ} {i j : ℕ} {f : ℕ → ℕ} {n v : ℕ} → i < 16 → j < 16 → n < w → length before ≡ 16 * 16 * w
     → Filled w before now i j f n → after ≡ set now (place w i j n) v → v ≡ f n
     → Filled w before after i j f (n + 1)
-filled-more w before now after i j f n v li lj ln e h s q =
+filled-more w {now} {i} {j} {n} {v} li lj ln e h s q =
     let b : place w i j n < length now = omega (arith, place-lt w i j n li lj ln, h .size) in
     rw (s, add-one n)
     (record {

@@ -42,6 +42,6 @@ unfolding every
 test-joins p r t n e h = rw (e, h, add-one n) (machine-and (every n p) (p n))
 
 -- One more digit of a word: `|` with it, moved to its place.
-pub digit-joins : (m : ℕ) (p : ℕ → Bool) (r d n : ℕ) → 2 ^ suc n ≤ m → r ≡ word n p → d ≡ bit (p n) → bitOr r (d * 2 ^ n % m) ≡ word (n + 1) p
-digit-joins m p r d n l e h =
+pub digit-joins : (m : ℕ) (p : ℕ → Bool) {r d : ℕ} (n : ℕ) → 2 ^ suc n ≤ m → r ≡ word n p → d ≡ bit (p n) → bitOr r (d * 2 ^ n % m) ≡ word (n + 1) p
+digit-joins m p n l e h =
     rw (e, h, moved-kept m n (p n) l, add-one n) (or-shifted-r (bit (p n)) n (word n p) (word-lt n p) ∙ sym (word-suc n p))

@@ -36,7 +36,7 @@ some-member w x h =
     (λ t. rw (t, eqb-true x 0 t) (sym (some-none w (has 0) (λ v l. has-zero v))))
     (λ t. rw t (sym (nonempty w x h (eqb-false x 0 t))))
 
-module _ (w : ℕ) (rows : List ℕ) (i j dj a x y : ℕ) (is-row : x ≡ rowAt w rows i j a) (is-cut : y ≡ word w (λ (b : ℕ). and (has dj b) (has x b))) where
+module _ (w : ℕ) (rows : List ℕ) (i j dj a : ℕ) {x y : ℕ} (is-row : x ≡ rowAt w rows i j a) (is-cut : y ≡ word w (λ (b : ℕ). and (has dj b) (has x b))) where
   partner : (b : ℕ) → b < w → has y b ≡ and (has dj b) (has (rowAt w rows i j a) b)
   partner b l = has-cut w dj x y b is-cut l ∙ ap (λ (n : ℕ). and (has dj b) (has n b)) is-row
 
@@ -45,18 +45,18 @@ module _ (w : ℕ) (rows : List ℕ) (i j dj a x y : ℕ) (is-row : x ≡ rowAt 
   unfolding partnersAt
   partners-counted = count-cong w _ _ partner
 
-  pub partners-tested : (di least most n : ℕ) (m : Bool) → n ≡ count w (has y) → m ≡ has di a
+  pub partners-tested : (di least most : ℕ) {n : ℕ} {m : Bool} → n ≡ count w (has y) → m ≡ has di a
       → not m || (leb least n && leb n most)
       ≡ implies (has di a) (and (leb least (partnersAt w rows i j dj a)) (leb (partnersAt w rows i j dj a) most))
-  partners-tested di least most n m e h = rw (h, e, partners-counted) (machine-implies (has di a) _ _)
+  partners-tested di least most e h = rw (h, e, partners-counted) (machine-implies (has di a) _ _)
 
   -- It is other than 0 where there is a partner.
   pub partner-found : boolByte (not (eqb y 0)) ≡ bit (some w (λ (b : ℕ). and (has dj b) (has (rowAt w rows i j a) b)))
   partner-found = byte-bit _ ∙ ap bit (some-member w y (rw is-cut (word-lt w _)) ∙ some-cong w _ _ partner)
 
 -- The values with a partner, cut with the list of i.
-pub supported-cut : (w : ℕ) (rows : List ℕ) (i j di dj x y : ℕ)
+pub supported-cut : (w : ℕ) (rows : List ℕ) (i j di dj : ℕ) {x y : ℕ}
     → x ≡ word w (λ (a : ℕ). some w (λ (b : ℕ). and (has dj b) (has (rowAt w rows i j a) b))) → y ≡ word w (λ (a : ℕ). and (has di a) (has x a))
     → y ≡ supportedAt w rows i j di dj
 unfolding supportedAt
-supported-cut w rows i j di dj x y e f = f ∙ word-cong w _ _ (λ a l. ap (λ (t : Bool). and (has di a) t) (ap (λ (n : ℕ). has n a) e ∙ has-word w _ a l))
+supported-cut w rows i j di dj e f = f ∙ word-cong w _ _ (λ a l. ap (λ (t : Bool). and (has di a) t) (ap (λ (n : ℕ). has n a) e ∙ has-word w _ a l))

@@ -36,10 +36,10 @@ unfolding rowAt
 block-lt rows i j at e h a l = subst (λ (k : ℕ). getD rows k 0 < 65536) (ap (λ (n : ℕ). n + a) e ∙ place-from i j a) (h a l)
 
 -- One side of a pair, transposed, is the other exactly when the pair is mirrored.
-pub mirrored-is : (rows : List ℕ) (i j : ℕ) (x y z : Block) (r : Bool) → BlockOf rows i j x → Turned x y → BlockOf rows j i z
+pub mirrored-is : (rows : List ℕ) (i j : ℕ) (x y z : Block) {r : Bool} → BlockOf rows i j x → Turned x y → BlockOf rows j i z
     → ((a : ℕ) → a < 16 → rowAt 16 rows j i a < 2 ^ 16) → (r ≡ true → Same y z) × (Same y z → r ≡ true)
     → r ≡ mirroredAt 16 rows i j
-mirrored-is rows i j x y z r hx hy hz f e =
+mirrored-is rows i j x y z hx hy hz f e =
     bool-ext _ _
     (λ t. mirrored-rows 16 rows i j f (λ a b l m. sym (hx a b l m) ∙ sym (hy b a m l) ∙ e .0 t b a m l ∙ hz b a m l))
     (λ t. e .1 (λ a v l m. hy a v l m ∙ hx v a m l ∙ mirrored-e 16 rows i j t v a m l ∙ sym (hz a v l m)))
@@ -69,11 +69,10 @@ fours-put before now after i j x w n li lj lw p e h s =
     let v2 : y / 2 ^ 16 % 2 ^ 16 ≡ f (n + 1) = row-of x w 1 (omega arith) ∙ ap f (let t : 4 * w + 1 ≡ n + 1 = omega arith in t) in
     let v3 : y / 2 ^ 32 % 2 ^ 16 ≡ f (n + 2) = row-of x w 2 (omega arith) ∙ ap f (let t : 4 * w + 2 ≡ n + 2 = omega arith in t) in
     let v4 : y / 2 ^ 48 % 2 ^ 16 ≡ f (n + 3) = row-of x w 3 (omega arith) ∙ ap f (let t : 4 * w + 3 ≡ n + 3 = omega arith in t) in
-    let h1 = filled-more 16 before now _ i j f n _ li lj (omega arith) e h refl v1 in
-    let h2 = filled-more 16 before _ _ i j f (n + 1) _ li lj (omega arith) e h1 refl v2 in
-    let h3 = filled-more 16 before _ _ i j f (n + 2) _ li lj (omega arith) e (rw (let t : n + 1 + 1 ≡ n + 2 = omega arith in t) at h2) refl v3 in
-    let h4 = filled-more 16 before _ after i j f (n + 3) _ li lj (omega arith) e (rw (let t : n + 2 + 1 ≡ n + 3 = omega arith in t) at h3)
-    (s ∙ stores now i j n y) v4 in
+    let h1 = filled-more 16 li lj (omega arith) e h refl v1 in
+    let h2 = filled-more 16 li lj (omega arith) e h1 refl v2 in
+    let h3 = filled-more 16 li lj (omega arith) e (rw (let t : n + 1 + 1 ≡ n + 2 = omega arith in t) at h2) refl v3 in
+    let h4 = filled-more 16 li lj (omega arith) e (rw (let t : n + 2 + 1 ≡ n + 3 = omega arith in t) at h3) (s ∙ stores now i j n y) v4 in
     rw (let t : n + 3 + 1 ≡ n + 4 = omega arith in t) at h4
 
 -- The four words of a block, one after the other.
@@ -84,7 +83,7 @@ block-put r0 r4 i j x li lj e s =
     let r1 = putFour r0 (place 16 i j 0) (x .a) in
     let r2 = putFour r1 (place 16 i j 0 + 4) (x .b) in
     let r3 = putFour r2 (place 16 i j 0 + 8) (x .c) in
-    let h1 = fours-put r0 r0 r1 i j x 0 0 li lj (omega arith) refl e (filled-none 16 r0 i j (rowOf x)) refl in
+    let h1 = fours-put r0 r0 r1 i j x 0 0 li lj (omega arith) refl e (filled-none 16) refl in
     let h2 = fours-put r0 r1 r2 i j x 1 4 li lj (omega arith) refl e h1 (ap (λ (k : ℕ). putFour r1 k (x .b)) (place-from i j 4)) in
     let h3 = fours-put r0 r2 r3 i j x 2 8 li lj (omega arith) refl e h2 (ap (λ (k : ℕ). putFour r2 k (x .c)) (place-from i j 8)) in
     fours-put r0 r3 r4 i j x 3 12 li lj (omega arith) refl e h3 (s ∙ ap (λ (k : ℕ). putFour r3 k (x .d)) (place-from i j 12))
@@ -104,6 +103,6 @@ column-of : (rows : List ℕ) (i j : ℕ) (x y : Block) → BlockOf rows i j x �
 unfolding rowOf columnAt
 column-of rows i j x y hx hy b l = word-cong 16 _ _ (λ a m. hy b a l m ∙ hx a b m l)
 
-pub mirror-is : (before after : List ℕ) (i j : ℕ) (x y : Block) → BlockOf before i j x → Turned x y
+pub mirror-is : {before after : List ℕ} {i j : ℕ} (x y : Block) → BlockOf before i j x → Turned x y
     → Filled 16 before after j i (rowOf y) 16 → Mirrored 16 before after i j
-mirror-is before after i j x y hx hy h = filled-cong 16 before after j i _ _ 16 (column-of before i j x y hx hy) h
+mirror-is {before} {after} {i} {j} x y hx hy h = filled-cong 16 before after j i _ _ 16 (column-of before i j x y hx hy) h

@@ -17,9 +17,9 @@ returns c =
     let third = c .before .before .wide3 in
     let fourth = c .wide4 in
     let e : first .result ≡ f 0 = first .ensures .0 ∙ ap (λ (k : ℕ). getD (args .rows .now) k 0) (sym (add-zero (args .at))) in (
-      has-four f _ _ _ _ e (second .ensures .0) (third .ensures .0) (fourth .ensures .0)
+      has-four f e (second .ensures .0) (third .ensures .0) (fourth .ensures .0)
           (first .ensures .1) (second .ensures .1) (third .ensures .1) (fourth .ensures .1),
-      four-lt f _ _ _ _ e (second .ensures .0) (third .ensures .0) (fourth .ensures .0)
+      four-lt f e (second .ensures .0) (third .ensures .0) (fourth .ensures .0)
           (first .ensures .1) (second .ensures .1) (third .ensures .1) (fourth .ensures .1),
     )
 

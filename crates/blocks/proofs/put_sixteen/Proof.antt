@@ -7,7 +7,7 @@ use Rattle.blocks.proofs.put_sixteen.Tie as tie
 returns : tie.Need-returns
 returns c =
     let a = c .before .before .before .before .before .before .before .before .args in
-    sixteen-put _ _ _ _ _ (a .at) (a .x)
+    sixteen-put _ (a .at) (a .x)
     (c .before .before .before .before .before .before .put-four .ensures) (c .before .before .before .before .put-four2 .ensures)
     (c .before .before .put-four3 .ensures) (c .put-four4 .ensures)
 

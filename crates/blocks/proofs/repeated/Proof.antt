@@ -9,7 +9,7 @@ returns : tie.Need-returns
 returns c =
     let x = c .args .x in
     let l = c .fits .x .fits in
-    has-four (λ (q : ℕ). x) x x x x refl refl refl refl l l l l
+    has-four (λ (q : ℕ). x) refl refl refl refl l l l l
 
 pub repeated-spec : {M : Type 1} → statement M
 repeated-spec = tie.close (tie.spec returns)

@@ -6,7 +6,7 @@ use Rattle.rows.proofs.mirrored.Tie as tie
 
 returns : tie.Need-returns
 returns c =
-    mirrored-is _ _ _ _ _ _ _ (c .before .before .before .block-at .ensures .0) (c .before .before .transposed .ensures)
+    mirrored-is _ _ _ _ _ _ (c .before .before .before .block-at .ensures .0) (c .before .before .transposed .ensures)
     (c .before .block-at2 .ensures .0) (c .before .block-at2 .ensures .1) (c .same .ensures)
 
 pub mirrored-spec : {M : Type 1} → statement M

@@ -29,7 +29,7 @@ loop-again : tie.Need-loop-again Inv-loop μ-loop
 loop-again c = (
   omega arith,
   test-joins _ _ _ _ (c .before .before .before .before .before .loop .inv .1)
-      (partners-tested 16 _ _ _ _ _ _ _ (c .before .before .before .row .ensures) (c .before .before .both .ensures) _ _ _ _ _
+      (partners-tested 16 _ _ _ _ _ (c .before .before .before .row .ensures) (c .before .before .both .ensures) _ _ _
       (c .before .count .ensures) (c .member .ensures)),
 )
 

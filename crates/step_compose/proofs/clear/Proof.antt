@@ -15,13 +15,12 @@ abbrev μ-loop : tie.MeasureT-loop
 μ-loop rows₀ i j a₀ rows a = 16 - a
 
 loop-holds : tie.Need-loop-holds Inv-loop μ-loop
-loop-holds c = (omega arith, filled-none 16 _ _ _ _)
+loop-holds c = (omega arith, filled-none 16)
 
 loop-again : tie.Need-loop-again Inv-loop μ-loop
 loop-again c = (
   omega arith,
-  filled-more 16 _ _ _ _ _ _ _ _ (omega arith) (omega arith) (omega arith) (omega arith) (c .before .before .before .loop .inv .1)
-      (c .put .ensures) refl,
+  filled-more 16 (omega arith) (omega arith) (omega arith) (omega arith) (c .before .before .before .loop .inv .1) (c .put .ensures) refl,
 )
 
 returns : tie.Need-returns Inv-loop μ-loop

@@ -15,13 +15,13 @@ abbrev μ-loop : tie.MeasureT-loop
 μ-loop rows₀ i j k ti dj dk was members c₀ rows c = 16 - c
 
 loop-holds : tie.Need-loop-holds Inv-loop μ-loop
-loop-holds c = (omega arith, filled-none 16 _ _ _ _)
+loop-holds c = (omega arith, filled-none 16)
 
 loop-again : tie.Need-loop-again Inv-loop μ-loop
 loop-again c =
     let at = c .before .before .before .before in (
       omega arith,
-      filled-more 16 _ _ _ _ _ _ _ _ (omega arith) (omega arith) (omega arith) (omega arith) (at .loop .inv .1) (c .put .ensures)
+      filled-more 16 (omega arith) (omega arith) (omega arith) (omega arith) (at .loop .inv .1) (c .put .ensures)
           (c .before .row-of .ensures ∙ at .before .made .ensures (at .loop .c) (omega arith)),
     )
 

@@ -27,12 +27,12 @@ loop-holds c = (omega arith, sym (word-zero _))
 loop-again : tie.Need-loop-again Inv-loop μ-loop
 loop-again c = (
   omega arith,
-  digit-joins 65536 _ _ _ _ (pow-mono {j = 16} (omega arith)) (c .before .before .before .loop .inv .1)
-      (partner-found 16 _ _ _ _ _ _ _ (c .before .row .ensures) (c .both .ensures)),
+  digit-joins 65536 _ _ (pow-mono {j = 16} (omega arith)) (c .before .before .before .loop .inv .1)
+      (partner-found 16 _ _ _ _ _ (c .before .row .ensures) (c .both .ensures)),
 )
 
 returns : tie.Need-returns Inv-loop μ-loop
-returns c = supported-cut 16 _ _ _ _ _ _ _
+returns c = supported-cut 16 _ _ _ _ _
     (rw (let e : c .before .before .loop .a ≡ 16 = omega arith in e) at (c .before .before .loop .inv .1))
     (c .both2 .ensures)
 

@@ -14,7 +14,7 @@ returns c =
     let f : ℕ → ℕ = λ q. twoAt (args .bytes .now) (args .at + 2 * q) in
     let first = c .before .before .before .two in
     let e : first .result ≡ f 0 = first .ensures .0 ∙ ap (twoAt (args .bytes .now)) (let z : args .at ≡ args .at + 2 * 0 = omega arith in z) in
-    has-four f _ _ _ _ e (c .before .before .two2 .ensures .0) (c .before .two3 .ensures .0) (c .two4 .ensures .0)
+    has-four f e (c .before .before .two2 .ensures .0) (c .before .two3 .ensures .0) (c .two4 .ensures .0)
     (first .ensures .1) (c .before .before .two2 .ensures .1) (c .before .two3 .ensures .1) (c .two4 .ensures .1)
 
 pub eight-spec : {M : Type 1} → statement M

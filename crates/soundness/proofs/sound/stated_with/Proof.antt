@@ -22,7 +22,7 @@ loop-holds : tie.Need-loop-holds Inv-loop μ-loop
 loop-holds c = (omega arith, sym (word-zero _))
 
 loop-again : tie.Need-loop-again Inv-loop μ-loop
-loop-again c = (omega arith, digit-joins 65536 _ _ _ _ (pow-mono {j = 16} (omega arith)) (c .before .before .loop .inv .1) (digit-of _ _))
+loop-again c = (omega arith, digit-joins 65536 _ _ (pow-mono {j = 16} (omega arith)) (c .before .before .loop .inv .1) (digit-of _ _))
 
 returns : tie.Need-returns Inv-loop μ-loop
 unfolding statedWith
