@@ -24,13 +24,13 @@ use Rattle.read_field.specs.Fields.{readAs, readOf, rangeTest}
 
 -- ---- any parse that came to an answer
 
-pub read-got : (p : Parse ℕ) (r : Read) (v next : ℕ) → p ≡ readOf r → r ≡ Value v next → p ≡ got v next
+pub read-got : {p : Parse ℕ} {r : Read} {v next : ℕ} → p ≡ readOf r → r ≡ Value v next → p ≡ got v next
 unfolding readOf
-read-got p r v next e q = e ∙ ap readOf q
+read-got e q = e ∙ ap readOf q
 
-pub read-bad : (p : Parse ℕ) (r : Read) (c : Cause) (at : ℕ) → p ≡ readOf r → r ≡ Refused c at → p ≡ bad c at
+pub read-bad : {p : Parse ℕ} {r : Read} {c : Cause} {at : ℕ} → p ≡ readOf r → r ≡ Refused c at → p ≡ bad c at
 unfolding readOf
-read-bad p r c at e q = e ∙ ap readOf q
+read-bad e q = e ∙ ap readOf q
 
 pub as-got : {A : Type 0} (p : Parse A) (r : Read) (x : A) (v next : ℕ) → p ≡ readAs r x → r ≡ Value v next → p ≡ got x next
 unfolding readAs
@@ -61,35 +61,35 @@ module _ (k : ℕ) (test : ℕ → Test) (bytes : List ℕ) (at : ℕ) where
   unfolding field readOf
   field-cut h = if-true _ _ _ (lt-ltb _ _ h)
 
-  pub field-fault : (v : ℕ) (c : Cause) → v ≡ numberAt k bytes at → at + k ≤ length bytes → test v ≡ fault c
+  pub field-fault : {v : ℕ} {c : Cause} → v ≡ numberAt k bytes at → at + k ≤ length bytes → test v ≡ fault c
       → field k test bytes at ≡ readOf (Refused c at)
   unfolding field judged readOf
-  field-fault v c e h t = rw (le-ltb _ _ h, ← e, t) (if-false false _ _ refl)
+  field-fault e h t = rw (le-ltb _ _ h, ← e, t) (if-false false _ _ refl)
 
-  pub field-fine : (v next : ℕ) → v ≡ numberAt k bytes at → next ≡ at + k → next ≤ length bytes → test v ≡ fine
+  pub field-fine : {v next : ℕ} → v ≡ numberAt k bytes at → next ≡ at + k → next ≤ length bytes → test v ≡ fine
       → field k test bytes at ≡ readOf (Value v next)
   unfolding field judged readOf
-  field-fine v next e p h t = rw (p, le-ltb (length bytes) (at + k) (rw p at h), ← e, t) (if-false false _ _ refl)
+  field-fine e p h t = rw (p, le-ltb (length bytes) (at + k) (rw p at h), ← e, t) (if-false false _ _ refl)
 
-  judged-got : (t : Test) (v u next : ℕ) → judged t v at k ≡ got u next → (t ≡ fine) × (v ≡ u) × (at + k ≡ next)
-  unfolding judged
-  judged-got fine v u next e = (refl, cc, cc)
-  judged-got (fault c) v u next e = absurd (let z : _≡_ {A = ℕ} 0 1 = cc in let x : ⊥ = omega arith in x)
+judged-got : (t : Test) (v at k : ℕ) {u next : ℕ} → judged t v at k ≡ got u next → (t ≡ fine) × (v ≡ u) × (at + k ≡ next)
+unfolding judged
+judged-got fine v at k e = (refl, cc, cc)
+judged-got (fault c) v at k e = absurd (let z : _≡_ {A = ℕ} 0 1 = cc in let x : ⊥ = omega arith in x)
 
-  -- A field that was parsed is the number in its bytes, passed its test, and ends within the bytes.
-  pub field-got : (v next : ℕ) → field k test bytes at ≡ got v next → FieldGot k test bytes at v next
-  unfolding field readOf
-  field-got v next e =
-      by-cases (ltb (length bytes) (at + k))
-      (λ t. absurd (let z : _≡_ {A = ℕ} 0 1 = cc (field-cut (ltb-true _ _ t)) in let x : ⊥ = omega arith in x))
-      (λ t.
-      let j = judged-got _ _ v next (sym (if-false _ _ _ t) ∙ e) in
-      record {
-        value = sym (j .1);
-        passed = ap test (sym (j .1)) ∙ j .0;
-        ends = sym (j .2);
-        inside = omega (arith, ltb-false (length bytes) (at + k) t, j .2);
-      })
+-- A field that was parsed is the number in its bytes, passed its test, and ends within the bytes.
+pub field-got : {k : ℕ} {test : ℕ → Test} {bytes : List ℕ} {at v next : ℕ} → field k test bytes at ≡ got v next → FieldGot k test bytes at v next
+unfolding field readOf
+field-got {k} {test} {bytes} {at} e =
+    by-cases (ltb (length bytes) (at + k))
+    (λ t. absurd (let z : _≡_ {A = ℕ} 0 1 = cc (field-cut k test bytes at (ltb-true _ _ t)) in let x : ⊥ = omega arith in x))
+    (λ t.
+    let j = judged-got _ _ at k (sym (if-false _ _ _ t) ∙ e) in
+    record {
+      value = sym (j .1);
+      passed = ap test (sym (j .1)) ∙ j .0;
+      ends = sym (j .2);
+      inside = omega (arith, ltb-false (length bytes) (at + k) t, j .2);
+    })
 
 -- The number in one byte, and in two.
 pub number-one : (bytes : List ℕ) (at : ℕ) → getD bytes at 0 ≡ numberAt 1 bytes at
@@ -121,9 +121,9 @@ unfolding or
 or-machine true b = refl
 or-machine false b = refl
 
-pub range-fault : (least most v : ℕ) (c : Cause) → ltb v least || ltb most v ≡ true → rangeTest least most c v ≡ fault c
+pub range-fault : (least most v : ℕ) {c : Cause} → ltb v least || ltb most v ≡ true → rangeTest least most c v ≡ fault c
 unfolding rangeTest
-range-fault least most v c h = if-true _ _ _ (sym (or-machine _ _) ∙ h)
+range-fault least most v h = if-true _ _ _ (sym (or-machine _ _) ∙ h)
 
 pub range-fine : (least most v : ℕ) (c : Cause) → ltb v least || ltb most v ≡ false → rangeTest least most c v ≡ fine
 unfolding rangeTest

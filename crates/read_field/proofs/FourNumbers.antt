@@ -42,26 +42,11 @@ from-high q v l m = eqb-true _ _ (and-l _ _ (every-e 8 _ (every-e 4 _ exchange q
 from-low : (q v : ℕ) → q < 4 → v < 8 → swapFrom 8 0x00ff00ff00ff00ff (16 * q + (8 + v)) ≡ 16 * q + v
 from-low q v l m = eqb-true _ _ (and-r _ _ (every-e 8 _ (every-e 4 _ exchange q l) v m))
 
-module _ (bytes : List ℕ) (at x r : ℕ) (known : (k : ℕ) → Fits w8 (getD bytes k 0))
+module _ {bytes : List ℕ} {at : ℕ} (x : ℕ) {r : ℕ} (known : (k : ℕ) → Fits w8 (getD bytes k 0))
     (eight : (q v : ℕ) → q < 4 → v < 16 → has x (16 * q + v) ≡ has (twoAt bytes (at + 2 * q)) v)
     (swapped : (k : ℕ) → k < 64 → has r k ≡ has x (swapFrom 8 0x00ff00ff00ff00ff k)) where
-  low-digit : (q v : ℕ) → q < 4 → v < 8 → has r (16 * q + v) ≡ has (numberAt 2 bytes (at + 2 * q)) v
-  unfolding twoAt
-  low-digit q v l m =
-      swapped _ (omega arith) ∙ ap (has x) (from-high q v l m) ∙ eight q (8 + v) l (omega arith)
-      ∙ high-byte _ _ v (omega (arith, known (at + 2 * q)))
-      ∙ sym (low-byte (getD bytes (at + 2 * q) 0) _ v (omega (arith, known (at + 2 * q + 1))) m)
-      ∙ ap (λ (n : ℕ). has n v) (number-two bytes (at + 2 * q))
-
-  high-digit : (q v : ℕ) → q < 4 → v < 8 → has r (16 * q + (8 + v)) ≡ has (numberAt 2 bytes (at + 2 * q)) (8 + v)
-  unfolding twoAt
-  high-digit q v l m =
-      swapped _ (omega arith) ∙ ap (has x) (from-low q v l m) ∙ eight q v l (omega arith)
-      ∙ low-byte (getD bytes (at + 2 * q + 1) 0) _ v (omega (arith, known (at + 2 * q))) m
-      ∙ sym (high-byte _ (getD bytes (at + 2 * q + 1) 0) v (omega (arith, known (at + 2 * q + 1))))
-      ∙ ap (λ (n : ℕ). has n (8 + v)) (number-two bytes (at + 2 * q))
-
   pub four-is : FourAt bytes at r
+  unfolding twoAt
   four-is = record {
     words = λ q l. rw (number-two bytes (at + 2 * q)) at (two-lt bytes (at + 2 * q) known (at + 2 * q + 1));
     digits = λ q v l m.
@@ -69,3 +54,17 @@ module _ (bytes : List ℕ) (at x r : ℕ) (known : (k : ℕ) → Fits w8 (getD 
         (λ t. low-digit q v l (ltb-true v 8 t))
         (λ t. let e : 8 + (v - 8) ≡ v = omega (arith, ltb-false v 8 t) in rw e at (high-digit q (v - 8) l (omega arith)));
   }
+    where
+      low-digit : (q v : ℕ) → q < 4 → v < 8 → has r (16 * q + v) ≡ has (numberAt 2 bytes (at + 2 * q)) v
+      low-digit q v l m =
+          swapped _ (omega arith) ∙ ap (has x) (from-high q v l m) ∙ eight q (8 + v) l (omega arith)
+          ∙ high-byte _ _ v (omega (arith, known (at + 2 * q)))
+          ∙ sym (low-byte (getD bytes (at + 2 * q) 0) _ v (omega (arith, known (at + 2 * q + 1))) m)
+          ∙ ap (λ (n : ℕ). has n v) (number-two bytes (at + 2 * q))
+
+      high-digit : (q v : ℕ) → q < 4 → v < 8 → has r (16 * q + (8 + v)) ≡ has (numberAt 2 bytes (at + 2 * q)) (8 + v)
+      high-digit q v l m =
+          swapped _ (omega arith) ∙ ap (has x) (from-low q v l m) ∙ eight q v l (omega arith)
+          ∙ low-byte (getD bytes (at + 2 * q + 1) 0) _ v (omega (arith, known (at + 2 * q))) m
+          ∙ sym (high-byte _ (getD bytes (at + 2 * q + 1) 0) v (omega (arith, known (at + 2 * q + 1))))
+          ∙ ap (λ (n : ℕ). has n (8 + v)) (number-two bytes (at + 2 * q))

@@ -45,18 +45,18 @@ tabulate-more zero f = refl
 tabulate-more (suc n) f = ap (λ l. f 0 ∷ l) (tabulate-more n (λ k. f (suc k)))
 
 -- A row fits its word.
-pub row-fits : (bytes : List ℕ) (at size v next : ℕ) → size ≤ 16 → field 2 (withinTest size) bytes at ≡ got v next → Fits w16 v
-row-fits bytes at size v next h e = omega (arith, within-passed size v (field-got _ _ _ _ v next e .passed), pow-mono h)
+pub row-fits : (bytes : List ℕ) (at : ℕ) {size v next : ℕ} → size ≤ 16 → field 2 (withinTest size) bytes at ≡ got v next → Fits w16 v
+row-fits bytes at {size} {v} h e = omega (arith, within-passed size v (field-got e .passed), pow-mono h)
 
 module _
-    (bytes : List ℕ) (from i j count size : ℕ) (before rows : List ℕ) (at a : ℕ) (so-far : RowsSoFar bytes from i j count size before rows at a)
+    {bytes : List ℕ} {from i j count size : ℕ} {before rows : List ℕ} {at a : ℕ} (so-far : RowsSoFar bytes from i j count size before rows at a)
     (one-left : a < count)
   where
-    pub rows-more : i < 16 → j < 16 → count ≤ 16 → length before ≡ 4096 → (v next : ℕ) → field 2 (withinTest size) bytes at ≡ got v next
-        → (after : List ℕ) → after ≡ set rows (place 16 i j a) v → RowsSoFar bytes from i j count size before after next (a + 1)
+    pub rows-more : i < 16 → j < 16 → count ≤ 16 → length before ≡ 4096 → {v next : ℕ} → field 2 (withinTest size) bytes at ≡ got v next
+        → {after : List ℕ} → after ≡ set rows (place 16 i j a) v → RowsSoFar bytes from i j count size before after next (a + 1)
     unfolding rowIn
-    rows-more li lj lc len v next e after s =
-        let g = field-got _ _ _ _ v next e in
+    rows-more li lj lc len {v} {next} e s =
+        let g = field-got e in
         let here : v ≡ numberAt 2 bytes (from + 2 * a) = g .value ∙ ap (numberAt 2 bytes) (so-far .place-is) in
         record {
           within = omega arith;
@@ -72,10 +72,10 @@ module _
               };
         }
 
-    pub rows-refused : (c : Cause) (place : ℕ) → field 2 (withinTest size) bytes at ≡ bad c place
+    pub rows-refused : {c : Cause} {place : ℕ} → field 2 (withinTest size) bytes at ≡ bad c place
         → RowsRead bytes from i j count size before rows (Refused c place)
     unfolding readAs
-    rows-refused c place e =
+    rows-refused {c} {place} e =
         record {
           parsed = fields-stop 2 (withinTest size) bytes _ _ (count - a) at (so-far .parsed) (count - suc a) (omega arith) c place e;
           stored = λ v next. no-value c place v next;

@@ -57,11 +57,11 @@ module _ (x first count q v : ℕ) (lq : q < 4) (lv : v < 16) where
       ∙ and-comm _ _)
 
 -- The rows kept of four numbers.
-pub word-in : (bytes : List ℕ) (from count first x r : ℕ) → FourAt bytes (from + 2 * first) x
+pub word-in : {bytes : List ℕ} {from count first x r : ℕ} → FourAt bytes (from + 2 * first) x
     → ((q v : ℕ) → q < 4 → v < 16 → has r (16 * q + v) ≡ and (ltb (first + q) count) (has x (16 * q + v)))
     → WordIn bytes from count first r
 unfolding rowIn
-word-in bytes from count first x r read kept =
+word-in {bytes} {from} {count} {first} read kept =
     let e : (q : ℕ) → numberAt 2 bytes (from + 2 * first + 2 * q) ≡ numberAt 2 bytes (from + 2 * (first + q)) =
     λ q. ap (numberAt 2 bytes) (let z : from + 2 * first + 2 * q ≡ from + 2 * (first + q) = omega arith in z) in
     record {
@@ -70,7 +70,7 @@ word-in bytes from count first x r read kept =
     }
 
 module _
-    (bytes : List ℕ) (from count a b c d : ℕ)
+    {bytes : List ℕ} {from count a b c d : ℕ}
     (ha : WordIn bytes from count 0 a) (hb : WordIn bytes from count 4 b) (hc : WordIn bytes from count 8 c) (hd : WordIn bytes from count 12 d)
   where
     each-word : (w : ℕ) → w < 4 → WordIn bytes from count (4 * w) (wordOf (record { a = a; b = b; c = c; d = d }) w)
@@ -140,8 +140,7 @@ module _ (bytes : List ℕ) (from count size : ℕ) (there : from + 2 * count �
   row-got : (a : ℕ) → a < count → field 2 (withinTest size) bytes (from + 2 * a) ≡ got (rowIn bytes from a) (from + 2 * suc a)
   unfolding readOf rowIn
   row-got a l =
-      field-fine 2 (withinTest size) bytes (from + 2 * a) (rowIn bytes from a) (from + 2 * suc a) refl (omega arith) (omega arith)
-      (within-below size _ (small a l))
+      field-fine 2 (withinTest size) bytes (from + 2 * a) refl (omega arith) (omega arith) (within-below size _ (small a l))
 
   some-got : (a : ℕ) → a ≤ count
       → fields 2 (withinTest size) count bytes from
@@ -159,7 +158,7 @@ module _ (bytes : List ℕ) (from count size : ℕ) (there : from + 2 * count �
 
 -- ---- both sides
 
-module _ (bytes : List ℕ) (from count : ℕ) (x : Block) (read : BlockIn bytes from count x) (few : count ≤ 16) where
+module _ {bytes : List ℕ} {from count : ℕ} {x : Block} (read : BlockIn bytes from count x) (few : count ≤ 16) where
   -- A union within the size has every row within it.
   union-within : (union size : ℕ) → ((a v : ℕ) → a < 16 → v < 16 → hasIn x a v ≡ true → has union v ≡ true)
       → every 16 (λ (v : ℕ). implies (has union v) (ltb v size)) ≡ true
@@ -215,13 +214,13 @@ module _ (bytes : List ℕ) (from count : ℕ) (x : Block) (read : BlockIn bytes
             mirror-is x y (λ a v l m. sym (has-word 16 (hasIn x a) v m) ∙ ap (λ (n : ℕ). has n v) (sym (put .side a l))) turned other;
       }
 
-  pub sides-at-once : (i j size : ℕ) (before one after : List ℕ) (y : Block) (union : ℕ) → from + 32 ≤ length bytes
+  pub sides-at-once : {i j size : ℕ} {before one after : List ℕ} (y : Block) (union : ℕ) → from + 32 ≤ length bytes
       → ((a v : ℕ) → a < 16 → v < 16 → hasIn x a v ≡ true → has union v ≡ true)
       → every 16 (λ (v : ℕ). implies (has union v) (ltb v size)) ≡ true
       → Filled 16 before one i j (rowOf x) 16 → Turned x y → Filled 16 one after j i (rowOf y) 16
       → SidesRead bytes from i j count size before after (Value count (from + 2 * count))
   unfolding readAs
-  sides-at-once i j size before one after y union there covers t put turned other =
+  sides-at-once {i} {j} {size} {before} {one} {after} y union there covers t put turned other =
       let small = union-within union size covers t in
       let ends : from + 2 * count ≤ length bytes = omega arith in
       record {
@@ -233,14 +232,14 @@ module _ (bytes : List ℕ) (from count : ℕ) (x : Block) (read : BlockIn bytes
 -- ---- one by one
 
 module _
-    (bytes : List ℕ) (from i j count size : ℕ) (before one : List ℕ) (r : Read) (read : RowsRead bytes from i j count size before one r)
+    {bytes : List ℕ} {from i j count size : ℕ} {before one : List ℕ} {r : Read} (read : RowsRead bytes from i j count size before one r)
   where
-    pub sides-refused : (c : Cause) (place : ℕ) → r ≡ Refused c place → SidesRead bytes from i j count size before one (Refused c place)
-    sides-refused c place q = record { parsed = rw q at (read .parsed); stored = λ v next. no-value c place v next }
+    pub sides-refused : {c : Cause} {place : ℕ} → r ≡ Refused c place → SidesRead bytes from i j count size before one (Refused c place)
+    sides-refused {c} {place} q = record { parsed = rw q at (read .parsed); stored = λ v next. no-value c place v next }
 
-    pub sides-walked : (v end : ℕ) → r ≡ Value v end → (after : List ℕ) → Mirrored 16 one after i j
+    pub sides-walked : {v end : ℕ} → r ≡ Value v end → {after : List ℕ} → Mirrored 16 one after i j
         → SidesRead bytes from i j count size before after (Value v end)
-    sides-walked v end q after mirrored =
+    sides-walked {v} {end} q {after} mirrored =
         let s = read .stored v end q in
         record {
           parsed = rw q at (read .parsed);

@@ -85,10 +85,10 @@ no-member p h = empty 16 (word 16 p) (word-lt 16 p) (λ v l. has-word 16 p v l �
 -- ---- the stated pairs
 
 -- What `mark` stores.
-pub mark-stores : (stated : List ℕ) (i j one joined : ℕ) → one ≡ word 16 (λ (v : ℕ). eqb v j)
+pub mark-stores : (stated : List ℕ) (i j : ℕ) {one joined : ℕ} → one ≡ word 16 (λ (v : ℕ). eqb v j)
     → joined ≡ word 16 (λ (v : ℕ). or (has (getD stated i 0) v) (has one v)) → set stated i joined ≡ marked stated i j
 unfolding marked
-mark-stores stated i j one joined e d = ap (set stated i) (d ∙ word-cong 16 _ _ (λ v l. rw (e, has-word 16 (λ (v : ℕ). eqb v j) v l)))
+mark-stores stated i j e d = ap (set stated i) (d ∙ word-cong 16 _ _ (λ v l. rw (e, has-word 16 (λ (v : ℕ). eqb v j) v l)))
 
 marked-length : (stated : List ℕ) (i j : ℕ) → length (marked stated i j) ≡ length stated
 unfolding marked

@@ -38,7 +38,7 @@ sizes-held n sizes sized few =
     (λ k l. by-cases (ltb k n)
     (λ h. sym (getD-take n sizes k 0 (ltb-true k n h)))
     (λ h. sized .past k (ltb-false k n h)
-    ∙ sym (List·getD-eq-default (take n sizes) 0 (omega (arith, taken-length n sizes sized few, ltb-false k n h)))))
+    ∙ sym (List·getD-eq-default (take n sizes) 0 (omega (arith, taken-length sized few, ltb-false k n h)))))
 
 -- An array that has a rule's row at every place is the rule's array.
 rows-held : (w : ℕ) (rows : List ℕ) (p : ℕ → ℕ → ℕ → ℕ → Bool) → length rows ≡ 16 * 16 * w
@@ -116,57 +116,57 @@ pub record Tabled (bytes : List ℕ) (n : ℕ) (sizes stated rows : List ℕ) (e
   pub left : parseBody version1 bytes ≡ afterTables bytes (take n sizes) tables end
 
 module _ (bytes : List ℕ) where
-  pub no-count : (c : Cause) (place : ℕ) → field 1 (rangeTest 1 16 VariableCount) bytes 3 ≡ bad c place
-      → (sizes stated rows : List ℕ) → SheetRead (parseBody version1 bytes) sizes stated rows (Refused c place)
+  pub no-count : {c : Cause} {place : ℕ} → field 1 (rangeTest 1 16 VariableCount) bytes 3 ≡ bad c place
+      → {sizes stated rows : List ℕ} → SheetRead (parseBody version1 bytes) sizes stated rows (Refused c place)
   unfolding parseBody bind
-  no-count c place e sizes stated rows = sheet-refused _ sizes stated rows c place (rw (count-range, e))
+  no-count {c} {place} e {sizes} {stated} {rows} = sheet-refused _ sizes stated rows c place (rw (count-range, e))
 
-  pub counted : (n next : ℕ) → field 1 (rangeTest 1 16 VariableCount) bytes 3 ≡ got n next → Counted bytes n
+  pub counted : {n next : ℕ} → field 1 (rangeTest 1 16 VariableCount) bytes 3 ≡ got n next → Counted bytes n
   unfolding parseBody bind version1 afterSizes afterConstraints afterTables
-  counted n next e =
-      let g = field-got _ _ _ _ n next e in
+  counted {n} e =
+      let g = field-got e in
       let r = range-passed 1 16 n VariableCount (g .passed) in
       record { some = r .0; few = r .1; left = rw (count-range, e, g .ends) }
 
-  module _ (n : ℕ) (so-far : Counted bytes n) (sizes : List ℕ) (r : Read) (read : SizesRead bytes n sizes r) where
-    pub no-sizes : (c : Cause) (place : ℕ) → r ≡ Refused c place → (stated rows : List ℕ) → SheetRead (parseBody version1 bytes) sizes stated rows (Refused c place)
+  module _ {n : ℕ} (so-far : Counted bytes n) {sizes : List ℕ} {r : Read} (read : SizesRead bytes n sizes r) where
+    pub no-sizes : {c : Cause} {place : ℕ} → r ≡ Refused c place → {stated rows : List ℕ} → SheetRead (parseBody version1 bytes) sizes stated rows (Refused c place)
     unfolding bind
-    no-sizes c place q stated rows =
+    no-sizes {c} {place} q {stated} {rows} =
         sheet-refused _ sizes stated rows c place (so-far .left ∙ rw (as-bad _ r _ c place (read .parsed) q))
 
-    pub listed : (v next : ℕ) → r ≡ Value v next → Listed bytes n sizes next
+    pub listed : {v next : ℕ} → r ≡ Value v next → Listed bytes n sizes next
     unfolding bind afterSizes
-    listed v next q =
+    listed {v} {next} q =
         record { some = so-far .some; few = so-far .few; sized = read .sized; left = so-far .left ∙ rw (as-got _ r _ v next (read .parsed) q) }
 
-  module _ (n : ℕ) (sizes : List ℕ) (next : ℕ) (so-far : Listed bytes n sizes next) where
-    pub no-constraints : (c : Cause) (place : ℕ) → field 1 (rangeTest 0 (n * (n - 1) / 2) ConstraintCount) bytes next ≡ bad c place
-        → (stated rows : List ℕ) → SheetRead (parseBody version1 bytes) sizes stated rows (Refused c place)
+  module _ {n : ℕ} {sizes : List ℕ} {next : ℕ} (so-far : Listed bytes n sizes next) where
+    pub no-constraints : {c : Cause} {place : ℕ} → field 1 (rangeTest 0 (n * (n - 1) / 2) ConstraintCount) bytes next ≡ bad c place
+        → {stated rows : List ℕ} → SheetRead (parseBody version1 bytes) sizes stated rows (Refused c place)
     unfolding bind
-    no-constraints c place e stated rows = sheet-refused _ sizes stated rows c place (so-far .left ∙ rw (constraints-range n, e))
+    no-constraints {c} {place} e {stated} {rows} = sheet-refused _ sizes stated rows c place (so-far .left ∙ rw (constraints-range n, e))
 
-    pub constrained : (p from : ℕ) → field 1 (rangeTest 0 (n * (n - 1) / 2) ConstraintCount) bytes next ≡ got p from
+    pub constrained : {p from : ℕ} → field 1 (rangeTest 0 (n * (n - 1) / 2) ConstraintCount) bytes next ≡ got p from
         → Constrained bytes n sizes p from
     unfolding bind afterConstraints
-    constrained p from e =
+    constrained e =
         record {
           few = so-far .few;
           sized = so-far .sized;
-          inside = field-got _ _ _ _ p from e .inside;
+          inside = field-got e .inside;
           left = so-far .left ∙ rw (constraints-range n, e);
         }
 
   module _
-      (n : ℕ) (sizes : List ℕ) (p from : ℕ) (so-far : Constrained bytes n sizes p from)
-      (stated rows : List ℕ) (r : Read) (read : TablesRead bytes from n p sizes stated rows r)
+      {n : ℕ} {sizes : List ℕ} {p from : ℕ} (so-far : Constrained bytes n sizes p from)
+      {stated rows : List ℕ} {r : Read} (read : TablesRead bytes from n p sizes stated rows r)
     where
-      pub no-tables : (c : Cause) (place : ℕ) → r ≡ Refused c place → SheetRead (parseBody version1 bytes) sizes stated rows (Refused c place)
+      pub no-tables : {c : Cause} {place : ℕ} → r ≡ Refused c place → SheetRead (parseBody version1 bytes) sizes stated rows (Refused c place)
       unfolding bind
-      no-tables c place q = sheet-refused _ sizes stated rows c place (so-far .left ∙ rw (as-bad _ r _ c place (read .parsed) q))
+      no-tables {c} {place} q = sheet-refused _ sizes stated rows c place (so-far .left ∙ rw (as-bad _ r _ c place (read .parsed) q))
 
-      pub tabled-all : (v end : ℕ) → r ≡ Value v end → Tabled bytes n sizes stated rows end
+      pub tabled-all : {v end : ℕ} → r ≡ Value v end → Tabled bytes n sizes stated rows end
       unfolding bind
-      tabled-all v end q =
+      tabled-all {v} {end} q =
           record {
             few = so-far .few;
             sized = so-far .sized;
@@ -176,7 +176,7 @@ module _ (bytes : List ℕ) where
             left = so-far .left ∙ rw (as-got _ r _ v end (read .parsed) q);
           }
 
-  module _ (n : ℕ) (sizes stated rows : List ℕ) (end : ℕ) (so-far : Tabled bytes n sizes stated rows end) where
+  module _ {n : ℕ} {sizes stated rows : List ℕ} {end : ℕ} (so-far : Tabled bytes n sizes stated rows end) where
     pub left-over : end < length bytes → SheetRead (parseBody version1 bytes) sizes stated rows (Refused LeftOver end)
     unfolding afterTables ended
     left-over h = sheet-refused _ sizes stated rows LeftOver end (so-far .left ∙ if-true _ _ _ (lt-ltb _ _ h))
@@ -187,34 +187,34 @@ module _ (bytes : List ℕ) where
         record {
           sheet = record { sizes = take n sizes; tables = so-far .tables };
           parsed = so-far .left ∙ if-false _ _ _ (le-ltb _ _ h);
-          count-is = λ w x. value-is (λ w _. w ≡ length (take n sizes)) n end w x (sym (taken-length n sizes (so-far .sized) (so-far .few)));
+          count-is = λ w x. value-is (λ w _. w ≡ length (take n sizes)) n end w x (sym (taken-length (so-far .sized) (so-far .few)));
           holds = λ w x d. sheet-held n (so-far .last) sizes (so-far .tables) stated rows (so-far .sized) (so-far .few) (so-far .held);
         }
 
 -- ---- the whole sheet
 
-module _ (bytes sizes stated rows : List ℕ) where
+-- Where the length is right there is a byte 0.
+pub some-byte : (bytes : List ℕ) → wrongLength version1 bytes ≡ false → 0 < length bytes
+unfolding wrongLength
+some-byte bytes right = omega (arith, ltb-false (length bytes) 3 (or-false-l _ _ right))
+
+module _ (bytes : List ℕ) {sizes stated rows : List ℕ} where
   -- 1 before all else.
   pub into-wrong-length : wrongLength version1 bytes ≡ true → SheetRead (parse version1 bytes) sizes stated rows (Refused Length 0)
   unfolding parse
   into-wrong-length h = sheet-refused _ sizes stated rows Length 0 (if-true _ _ _ h)
 
   module _ (right : wrongLength version1 bytes ≡ false) where
-    -- There is a byte 0.
-    pub some-byte : 0 < length bytes
-    unfolding wrongLength
-    some-byte = omega (arith, ltb-false (length bytes) 3 (or-false-l _ _ right))
-
     -- Then 2.
     pub into-wrong-version : (getD bytes 0 0 ≡ 1 → ⊥) → SheetRead (parse version1 bytes) sizes stated rows (Refused Version 0)
     unfolding parse version1
     into-wrong-version h = sheet-refused _ sizes stated rows Version 0 (if-false _ _ _ right ∙ if-true _ _ _ (not-i _ (ne-eqb _ _ h)))
 
     -- Then the fields.
-    pub into-body : getD bytes 0 0 ≡ 1 → (r : Read) → SheetRead (parseBody version1 bytes) sizes stated rows r
+    pub into-body : getD bytes 0 0 ≡ 1 → {r : Read} → SheetRead (parseBody version1 bytes) sizes stated rows r
         → SheetRead (parse version1 bytes) sizes stated rows r
     unfolding parse version1
-    into-body version r body =
+    into-body version body =
         record {
           sheet = body .sheet;
           parsed = if-false _ _ _ right ∙ (if-false _ _ _ (not-false-i _ (eq-eqb _ _ version)) ∙ body .parsed);

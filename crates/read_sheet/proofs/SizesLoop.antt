@@ -54,8 +54,8 @@ sizes-none bytes n sizes e =
     }
 
 -- A size fits a byte.
-pub size-fits : (bytes : List ℕ) (at v next : ℕ) → field 1 (rangeTest 1 16 Size) bytes at ≡ got v next → Fits w8 v
-size-fits bytes at v next e = omega (arith, range-passed 1 16 v Size (field-got _ _ _ _ v next e .passed))
+pub size-fits : (bytes : List ℕ) (at : ℕ) {v next : ℕ} → field 1 (rangeTest 1 16 Size) bytes at ≡ got v next → Fits w8 v
+size-fits bytes at {v} e = omega (arith, range-passed 1 16 v Size (field-got e .passed))
 
 -- What stands at k after a store at i.
 stored : (P : ℕ → Type 0) (l : List ℕ) (i k v : ℕ) → i < length l → (k ≡ i → P v) → ((k ≡ i → ⊥) → P (getD l k 0)) → P (getD (set l i v) k 0)
@@ -65,12 +65,12 @@ stored P l i k v h f g =
     (λ t. rw (if-true (eqb k i) v (getD l k 0) t) (f (eqb-true k i t)))
     (λ t. rw (if-false (eqb k i) v (getD l k 0) t) (g (eqb-false k i t))))
 
-module _ (bytes : List ℕ) (n : ℕ) (sizes : List ℕ) (at i : ℕ) (before : SizesSoFar bytes n sizes at i) where
-  pub sizes-more : i < n → n ≤ 16 → (v next : ℕ) → field 1 (rangeTest 1 16 Size) bytes at ≡ got v next
+module _ {bytes : List ℕ} {n : ℕ} {sizes : List ℕ} {at i : ℕ} (before : SizesSoFar bytes n sizes at i) where
+  pub sizes-more : i < n → n ≤ 16 → {v next : ℕ} → field 1 (rangeTest 1 16 Size) bytes at ≡ got v next
       → SizesSoFar bytes n (set sizes i v) next (i + 1)
-  sizes-more l m v next e =
+  sizes-more l m {v} {next} e =
       let room : i < length sizes = omega (arith, before .sized .length-is) in
-      let passed : (1 ≤ v) × (v ≤ 16) = range-passed 1 16 v Size (field-got _ _ _ _ v next e .passed) in
+      let passed : (1 ≤ v) × (v ≤ 16) = range-passed 1 16 v Size (field-got e .passed) in
       record {
         within = omega arith;
         parsed =
@@ -94,10 +94,10 @@ module _ (bytes : List ℕ) (n : ℕ) (sizes : List ℕ) (at i : ℕ) (before : 
         sized = rw e at (before .sized);
       }
 
-  pub sizes-refused : i < n → (c : Cause) (place : ℕ) → field 1 (rangeTest 1 16 Size) bytes at ≡ bad c place
+  pub sizes-refused : i < n → {c : Cause} {place : ℕ} → field 1 (rangeTest 1 16 Size) bytes at ≡ bad c place
       → SizesRead bytes n sizes (Refused c place)
   unfolding readAs
-  sizes-refused l c place e =
+  sizes-refused l {c} {place} e =
       record {
         parsed = fields-stop 1 (sizeTest 16) bytes _ _ (n - i) at (before .parsed) (n - suc i) (omega arith) c place (rw (size-range 16) e);
         sized =

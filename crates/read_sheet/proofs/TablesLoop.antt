@@ -34,10 +34,10 @@ pub record PairIn (bytes : List ℕ) (n previous : ℕ) (sizes : List ℕ) (pair
   pub first-small : getD sizes (pair / 256 - 1) 0 ≤ 16
   pub second-small : getD sizes (pair % 256 - 1) 0 ≤ 16
 
-pub pair-in : (bytes : List ℕ) (at n previous : ℕ) (sizes : List ℕ) (pair next : ℕ) → Sized n sizes
+pub pair-in : {bytes : List ℕ} (at : ℕ) {n previous : ℕ} {sizes : List ℕ} {pair next : ℕ} → Sized n sizes
     → field 2 (pairTest n previous) bytes at ≡ got pair next → PairIn bytes n previous sizes pair next
-pair-in bytes at n previous sizes pair next sized e =
-    let g = field-got _ _ _ _ pair next e in
+pair-in at {n} {previous} {pair} sized e =
+    let g = field-got e in
     let p = pair-passed n previous pair (g .passed) in
     record {
       first-in = p .0;
@@ -59,7 +59,7 @@ tableAt bytes from sizes pair =
     }
 
 -- The array of sizes serves as the list of the first n.
-module _ (n : ℕ) (sizes : List ℕ) (sized : Sized n sizes) (few : n ≤ 16) where
+module _ {n : ℕ} {sizes : List ℕ} (sized : Sized n sizes) (few : n ≤ 16) where
   pub taken-length : length (take n sizes) ≡ n
   taken-length = length-take n sizes ∙ omega (arith, sized .length-is)
 
@@ -69,34 +69,34 @@ module _ (n : ℕ) (sizes : List ℕ) (sized : Sized n sizes) (few : n ≤ 16) w
 
   module _ (bytes : List ℕ) (at previous : ℕ) where
     -- The pair is refused.
-    pub table-no-pair : (c : Cause) (place : ℕ) → field 2 (pairTest n previous) bytes at ≡ bad c place
-        → (stated rows : List ℕ) → TableRead bytes at n previous sizes stated rows stated rows (Refused c place)
+    pub table-no-pair : {c : Cause} {place : ℕ} → field 2 (pairTest n previous) bytes at ≡ bad c place
+        → {stated rows : List ℕ} → TableRead bytes at n previous sizes stated rows stated rows (Refused c place)
     unfolding parseTable bind readAs
-    table-no-pair c place e stated rows =
+    table-no-pair {c} {place} e =
         record {
           table = no-table;
           parsed = rw (taken-length, e);
           stored = λ w x. no-value c place w x;
         }
 
-    module _ (pair next : ℕ) (e : field 2 (pairTest n previous) bytes at ≡ got pair next) where
+    module _ {pair next : ℕ} (e : field 2 (pairTest n previous) bytes at ≡ got pair next) where
       table-is : parseTable version1 (take n sizes) previous bytes at
           ≡ bind (fields 2 (withinTest (getD sizes (pair % 256 - 1) 0)) (getD sizes (pair / 256 - 1) 0) bytes next)
           (λ rows end. got (record { first = pair / 256; second = pair % 256; rows = rows }) end)
       unfolding parseTable bind version1
       table-is =
-          let p = pair-in bytes at n previous sizes pair next sized e in
+          let p = pair-in at sized e in
           rw (taken-length, e, taken-size (pair / 256) (p .first-in) (omega arith), taken-size (pair % 256) (omega arith) (p .second-in))
 
       module _
-          (rows rows′ : List ℕ) (r : Read)
+          {rows rows′ : List ℕ} {r : Read}
           (body : SidesRead bytes next (pair / 256 - 1) (pair % 256 - 1) (getD sizes (pair / 256 - 1) 0) (getD sizes (pair % 256 - 1) 0) rows rows′ r)
         where
           -- A row is refused.
-          pub table-no-rows : (c : Cause) (place : ℕ) → r ≡ Refused c place
-              → (stated : List ℕ) → TableRead bytes at n previous sizes stated rows stated rows′ (Refused c place)
+          pub table-no-rows : {c : Cause} {place : ℕ} → r ≡ Refused c place
+              → {stated : List ℕ} → TableRead bytes at n previous sizes stated rows stated rows′ (Refused c place)
           unfolding bind readAs
-          table-no-rows c place q stated =
+          table-no-rows {c} {place} q =
               record {
                 table = no-table;
                 parsed = table-is ∙ rw (as-bad _ r _ c place (body .parsed) q);
@@ -104,12 +104,12 @@ module _ (n : ℕ) (sizes : List ℕ) (sized : Sized n sizes) (few : n ≤ 16) w
               }
 
           -- The table is read, and its pair stated from both sides.
-          pub table-read : (v end : ℕ) → r ≡ Value v end → (stated stated₁ stated₂ : List ℕ)
+          pub table-read : {v end : ℕ} → r ≡ Value v end → {stated stated₁ stated₂ : List ℕ}
               → stated₁ ≡ marked stated (pair / 256 - 1) (pair % 256 - 1) → stated₂ ≡ marked stated₁ (pair % 256 - 1) (pair / 256 - 1)
               → TableRead bytes at n previous sizes stated rows stated₂ rows′ (Value pair end)
           unfolding bind readAs pairOf tableAt
-          table-read v end q stated stated₁ stated₂ e₁ e₂ =
-              let p = pair-in bytes at n previous sizes pair next sized e in
+          table-read {v} {end} q {stated} {stated₂} e₁ e₂ =
+              let p = pair-in at sized e in
               let b = body .stored v end q in
               record {
                 table = tableAt bytes next sizes pair;
@@ -154,7 +154,7 @@ tables-none bytes from n count sizes stated rows h e d =
     }
 
 module _
-    (bytes : List ℕ) (from n count : ℕ) (sizes stated rows : List ℕ) (at previous t : ℕ)
+    {bytes : List ℕ} {from n count : ℕ} {sizes stated rows : List ℕ} {at previous t : ℕ}
     (so-far : TablesSoFar bytes from n count sizes stated rows at previous t)
   where
     pub tables-end : count ≤ t → TablesRead bytes from n count sizes stated rows (Value count at)
@@ -167,10 +167,10 @@ module _
           held = λ v next q. so-far .held;
         }
 
-    module _ (one-left : t < count) (stated′ rows′ : List ℕ) (r : Read) (read : TableRead bytes at n previous sizes stated rows stated′ rows′ r) where
-      pub tables-more : (pair next : ℕ) → r ≡ Value pair next → TablesSoFar bytes from n count sizes stated′ rows′ next pair (t + 1)
+    module _ (one-left : t < count) {stated′ rows′ : List ℕ} {r : Read} (read : TableRead bytes at n previous sizes stated rows stated′ rows′ r) where
+      pub tables-more : {pair next : ℕ} → r ≡ Value pair next → TablesSoFar bytes from n count sizes stated′ rows′ next pair (t + 1)
       unfolding parseTables readAs
-      tables-more pair next q =
+      tables-more {pair} {next} q =
           let s = read .stored pair next q in
           record {
             done = so-far .done ++ (read .table ∷ []);
@@ -183,9 +183,9 @@ module _
             held = s .held (so-far .done) (so-far .held);
           }
 
-      pub tables-refused : (c : Cause) (place : ℕ) → r ≡ Refused c place → TablesRead bytes from n count sizes stated′ rows′ (Refused c place)
+      pub tables-refused : {c : Cause} {place : ℕ} → r ≡ Refused c place → TablesRead bytes from n count sizes stated′ rows′ (Refused c place)
       unfolding parseTables readAs
-      tables-refused c place q =
+      tables-refused {c} {place} q =
           record {
             tables = [];
             parsed =

@@ -6,7 +6,7 @@ use Rattle.read_rows.proofs.block_in.Tie as tie
 
 returns : tie.Need-returns
 returns c =
-    block-in _ _ _ _ _ _ _ (c .before .before .before .word-in .ensures) (c .before .before .word-in2 .ensures) (c .before .word-in3 .ensures)
+    block-in (c .before .before .before .word-in .ensures) (c .before .before .word-in2 .ensures) (c .before .word-in3 .ensures)
     (c .word-in4 .ensures)
 
 pub block-in-spec : {M : Type 1} → statement M

@@ -11,7 +11,7 @@ returns-2 c =
     let put = c .before .before .before in
     let taken = put .before .before in
     let read = taken .before .before .before in
-    sides-at-once _ _ _ _ (read .block-in .ensures) (omega arith) _ _ _ _ _ _ _ _ (omega arith) (taken .before .before .union-of .ensures)
+    sides-at-once (read .block-in .ensures) (omega arith) _ _ (omega arith) (taken .before .before .union-of .ensures)
     (sym (taken .before .within .ensures) ∙ taken .if2 .taken) (put .put-block .ensures) (c .before .transposed .ensures) (c .put-block2 .ensures)
 
 pub read-sides-spec : {M : Type 1} → statement M

@@ -19,19 +19,17 @@ loop-holds c = search (rows-none, needs)
 returns : tie.Need-returns Inv-loop μ-loop
 returns c =
     rw (c .enum-told .given .1)
-    (rows-refused _ _ _ _ _ _ _ _ _ _ (c .before .before .before .before .loop .inv) (omega arith) _ _
-    (read-bad _ _ _ _ (c .before .before .row-field .ensures) (c .enum-told .given .1)))
+    (rows-refused (c .before .before .before .before .loop .inv) (omega arith)
+    (read-bad (c .before .before .row-field .ensures) (c .enum-told .given .1)))
 
 cast-put : tie.Need-cast-put Inv-loop μ-loop
-cast-put c =
-    row-fits _ _ _ _ _ (omega arith) (read-got _ _ _ _ (c .before .before .before .before .row-field .ensures) (c .before .before .row .given .1))
+cast-put c = row-fits _ _ (omega arith) (read-got (c .before .before .before .before .row-field .ensures) (c .before .before .row .given .1))
 
 loop-again : tie.Need-loop-again Inv-loop μ-loop
 loop-again c =
     let read = c .before .before .before .before .before in
-    rows-more _ _ _ _ _ _ _ _ _ _ (read .before .before .loop .inv) (omega arith) (omega arith) (omega arith) (omega arith) (omega arith) _ _
-    (read-got _ _ _ _ (read .row-field .ensures) (c .before .before .before .row .given .1))
-    _ (c .put .ensures)
+    rows-more (read .before .before .loop .inv) (omega arith) (omega arith) (omega arith) (omega arith) (omega arith)
+    (read-got (read .row-field .ensures) (c .before .before .before .row .given .1)) (c .put .ensures)
 
 returns-2 : tie.Need-returns-2 Inv-loop μ-loop
 returns-2 c = search (rows-end, needs)

@@ -6,8 +6,7 @@ use Rattle.read_rows.proofs.walk_sides.Statement.{statement}
 use Rattle.read_rows.proofs.walk_sides.Tie as tie
 
 returns : tie.Need-returns
-returns c =
-    rw (c .enum-told .given .1) (sides-refused _ _ _ _ _ _ _ _ _ (c .before .before .walk-rows .ensures) _ _ (c .enum-told .given .1))
+returns c = rw (c .enum-told .given .1) (sides-refused (c .before .before .walk-rows .ensures) (c .enum-told .given .1))
 
 mirror-requires : tie.Need-mirror-requires
 mirror-requires c κs =
@@ -15,8 +14,7 @@ mirror-requires c κs =
 
 returns-2 : tie.Need-returns-2
 returns-2 c =
-    sides-walked _ _ _ _ _ _ _ _ _ (c .before .before .before .before .before .walk-rows .ensures) _ _ (c .before .before .before .body .given .1)
-    _ (c .mirror .ensures)
+    sides-walked (c .before .before .before .before .before .walk-rows .ensures) (c .before .before .before .body .given .1) (c .mirror .ensures)
 
 pub walk-sides-spec : {M : Type 1} → statement M
 walk-sides-spec =

@@ -5,7 +5,7 @@ use Rattle.read_rows.proofs.word_in.Statement.{statement}
 use Rattle.read_rows.proofs.word_in.Tie as tie
 
 returns : tie.Need-returns
-returns c = word-in _ _ _ _ _ _ (c .before .four-numbers .ensures) (c .kept .ensures)
+returns c = word-in (c .before .four-numbers .ensures) (c .kept .ensures)
 
 pub word-in-spec : {M : Type 1} → statement M
 word-in-spec =

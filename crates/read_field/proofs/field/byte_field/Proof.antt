@@ -13,10 +13,10 @@ cast-value : tie.Need-cast-value
 cast-value c = search (byte-fits, needs)
 
 returns-2 : tie.Need-returns-2
-returns-2 c = field-fault _ _ _ _ _ _ (number-one _ _) (omega arith) (range-fault _ _ _ _ (c .if2 .taken))
+returns-2 c = field-fault _ _ _ _ (number-one _ _) (omega arith) (range-fault _ _ _ (c .if2 .taken))
 
 returns-3 : tie.Need-returns-3
-returns-3 c = field-fine _ _ _ _ _ _ (number-one _ _) refl (omega arith) (range-fine _ _ _ _ (c .if2 .left))
+returns-3 c = field-fine _ _ _ _ (number-one _ _) refl (omega arith) (range-fine _ _ _ _ (c .if2 .left))
 
 pub byte-field-spec : {M : Type 1} → statement M
 byte-field-spec =

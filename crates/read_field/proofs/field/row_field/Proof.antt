@@ -10,10 +10,10 @@ returns : tie.Need-returns
 returns c = field-cut _ _ _ _ (omega arith)
 
 returns-2 : tie.Need-returns-2
-returns-2 c = field-fault _ _ _ _ _ _ (c .before .number .ensures .0) (omega arith) (within-fault _ _ _ (omega arith) (omega arith) (c .if2 .taken))
+returns-2 c = field-fault _ _ _ _ (c .before .number .ensures .0) (omega arith) (within-fault _ _ _ (omega arith) (omega arith) (c .if2 .taken))
 
 returns-3 : tie.Need-returns-3
-returns-3 c = field-fine _ _ _ _ _ _ (c .before .number .ensures .0) refl (omega arith) (within-fine _ _ _ (omega arith) (omega arith) (c .if2 .left))
+returns-3 c = field-fine _ _ _ _ (c .before .number .ensures .0) refl (omega arith) (within-fine _ _ _ (omega arith) (omega arith) (c .if2 .left))
 
 pub row-field-spec : {M : Type 1} → statement M
 row-field-spec =

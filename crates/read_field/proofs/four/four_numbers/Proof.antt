@@ -14,7 +14,7 @@ unfolding every not and has
 swapped-requires c κs = (omega arith, refl)
 
 returns : tie.Need-returns
-returns c = four-is _ _ _ _ (c .before .before .shared-slice-known .given) (c .before .eight .ensures) (c .swapped .ensures)
+returns c = four-is _ (c .before .before .shared-slice-known .given) (c .before .eight .ensures) (c .swapped .ensures)
 
 pub four-numbers-spec : {M : Type 1} → statement M
 four-numbers-spec = tie.close (tie.spec (λ c κs. search needs) swapped-requires returns)

@@ -10,11 +10,11 @@ use Rattle.read_sheet.proofs.read.read_body.Tie as tie
 returns : tie.Need-returns
 returns c =
     rw (c .enum-told .given .1)
-    (no-count _ _ _ (read-bad _ _ _ _ (c .before .before .byte-field .ensures) (c .enum-told .given .1)) _ _ _)
+    (no-count _ (read-bad (c .before .before .byte-field .ensures) (c .enum-told .given .1)))
 
 -- n is read.
 at-n : (c : tie.After-known-told) → Counted (now (c .before .before .before .before .before .args .bytes)) (c .before .count .given .0 .0)
-at-n c = counted _ _ _ (read-got _ _ _ _ (c .before .before .before .byte-field .ensures) (c .before .count .given .1))
+at-n c = counted _ (read-got (c .before .before .before .byte-field .ensures) (c .before .count .given .1))
 
 read-sizes-requires : tie.Need-read-sizes-requires
 read-sizes-requires c κs = (at-n (c .before) .few, c .before .before .before .before .before .before .pre .0)
@@ -22,7 +22,7 @@ read-sizes-requires c κs = (at-n (c .before) .few, c .before .before .before .b
 returns-2 : tie.Need-returns-2
 returns-2 c =
     rw (c .enum-told2 .given .1)
-    (no-sizes _ _ (at-n (c .before .before .before .before)) _ _ (c .before .before .read-sizes .ensures) _ _ (c .enum-told2 .given .1) _ _)
+    (no-sizes _ (at-n (c .before .before .before .before)) (c .before .before .read-sizes .ensures) (c .enum-told2 .given .1))
 
 -- The sizes are read.
 at-sizes : (c : tie.After-known-told2)
@@ -32,7 +32,7 @@ at-sizes : (c : tie.After-known-told2)
     (c .before .listed .given .0 .1 .0))
 at-sizes c =
     let sizes = c .before .before .before in
-    listed _ _ (at-n (sizes .before .before)) _ _ (sizes .read-sizes .ensures) _ _ (c .before .listed .given .1)
+    listed _ (at-n (sizes .before .before)) (sizes .read-sizes .ensures) (c .before .listed .given .1)
 
 sub-byte-field : tie.Need-sub-byte-field
 sub-byte-field c = at-sizes c .some
@@ -43,8 +43,7 @@ mul-byte-field c = pairs-fit _ (at-sizes c .few)
 returns-3 : tie.Need-returns-3
 returns-3 c =
     rw (c .enum-told3 .given .1)
-    (no-constraints _ _ _ _ (at-sizes (c .before .before .before)) _ _
-    (read-bad _ _ _ _ (c .before .before .byte-field2 .ensures) (c .enum-told3 .given .1)) _ _)
+    (no-constraints _ (at-sizes (c .before .before .before)) (read-bad (c .before .before .byte-field2 .ensures) (c .enum-told3 .given .1)))
 
 -- p is read.
 at-p : (c : tie.After-known-told3)
@@ -53,8 +52,8 @@ at-p : (c : tie.After-known-told3)
     Constrained (now (n .before .before .before .before .args .bytes)) (n .count .given .0 .0) (sizes .read-sizes .last .1 .1 .0)
     (c .before .constraints .given .0 .0) (c .before .constraints .given .0 .1 .0))
 at-p c =
-    constrained _ _ _ _ (at-sizes (c .before .before .before .before)) _ _
-    (read-got _ _ _ _ (c .before .before .before .byte-field2 .ensures) (c .before .constraints .given .1))
+    constrained _ (at-sizes (c .before .before .before .before))
+    (read-got (c .before .before .before .byte-field2 .ensures) (c .before .constraints .given .1))
 
 read-tables-requires : tie.Need-read-tables-requires
 read-tables-requires c κs =
@@ -66,7 +65,7 @@ returns-4 : tie.Need-returns-4
 returns-4 c =
     let tables = c .before .before in
     rw (c .enum-told4 .given .1)
-    (no-tables _ _ _ _ _ (at-p (tables .before .before .before .before)) _ _ _ (tables .read-tables .ensures) _ _ (c .enum-told4 .given .1))
+    (no-tables _ (at-p (tables .before .before .before .before)) (tables .read-tables .ensures) (c .enum-told4 .given .1))
 
 -- The tables are read.
 at-end : (c : tie.After-known-told4)
@@ -77,13 +76,13 @@ at-end : (c : tie.After-known-told4)
     (tables .read-tables .last .1 .1 .1 .1 .1 .0) (tables .read-tables .last .1 .1 .1 .1 .1 .1 .0) (c .before .all .given .0 .1 .0))
 at-end c =
     let tables = c .before .before .before in
-    tabled-all _ _ _ _ _ (at-p (tables .before .before .before .before)) _ _ _ (tables .read-tables .ensures) _ _ (c .before .all .given .1)
+    tabled-all _ (at-p (tables .before .before .before .before)) (tables .read-tables .ensures) (c .before .all .given .1)
 
 returns-5 : tie.Need-returns-5
-returns-5 c = left-over _ _ _ _ _ _ (at-end (c .before)) (c .if1 .taken)
+returns-5 c = left-over _ (at-end (c .before)) (c .if1 .taken)
 
 returns-6 : tie.Need-returns-6
-returns-6 c = body-read _ _ _ _ _ _ (at-end (c .before)) (c .if1 .left)
+returns-6 c = body-read _ (at-end (c .before)) (c .if1 .left)
 
 pub read-body-spec : {M : Type 1} → statement M
 read-body-spec =

@@ -1,6 +1,5 @@
 -- The length first, then the version, then the body.
 use mathlib.Core.Bool.{false}
-use mathlib.Core.List.{[]}
 use mathlib.Core.Path.{_≡_, sym, _∙_}
 use denote.Ref.{now}
 use Rattle.format.specs.Layout.{version1}
@@ -15,18 +14,18 @@ right-length : (c : tie.Else1) → wrongLength version1 (now (c .before .before 
 right-length c = sym (c .before .wrong-length .ensures) ∙ c .if1 .left
 
 returns : tie.Need-returns
-returns c = into-wrong-length _ _ _ _ (sym (c .before .wrong-length .ensures) ∙ c .if1 .taken)
+returns c = into-wrong-length _ (sym (c .before .wrong-length .ensures) ∙ c .if1 .taken)
 
 shared-slice-read-if2 : tie.Need-shared-slice-read-if2
-shared-slice-read-if2 c = some-byte _ [] [] [] (right-length (c .before))
+shared-slice-read-if2 c = some-byte _ (right-length (c .before))
 
 returns-2 : tie.Need-returns-2
-returns-2 c = into-wrong-version _ _ _ _ (right-length (c .before .before)) (c .if2 .taken)
+returns-2 c = into-wrong-version _ (right-length (c .before .before)) (c .if2 .taken)
 
 returns-3 : tie.Need-returns-3
 returns-3 c =
     let version = c .before .before .before .before in
-    into-body _ _ _ _ (right-length (version .before .before)) (version .if2 .left) _ (c .read-body .ensures)
+    into-body _ (right-length (version .before .before)) (version .if2 .left) (c .read-body .ensures)
 
 pub read-into-spec : {M : Type 1} → statement M
 read-into-spec =

@@ -19,17 +19,16 @@ loop-holds c = search (sizes-none, needs)
 returns : tie.Need-returns Inv-loop μ-loop
 returns c =
     rw (c .enum-told .given .1)
-    (sizes-refused _ _ _ _ _ (c .before .before .before .before .loop .inv) (omega arith) _ _
-    (read-bad _ _ _ _ (c .before .before .byte-field .ensures) (c .enum-told .given .1)))
+    (sizes-refused (c .before .before .before .before .loop .inv) (omega arith)
+    (read-bad (c .before .before .byte-field .ensures) (c .enum-told .given .1)))
 
 cast-sizes : tie.Need-cast-sizes Inv-loop μ-loop
-cast-sizes c =
-    size-fits _ _ _ _ (read-got _ _ _ _ (c .before .before .before .byte-field .ensures) (c .before .size .given .1))
+cast-sizes c = size-fits _ _ (read-got (c .before .before .before .byte-field .ensures) (c .before .size .given .1))
 
 loop-again : tie.Need-loop-again Inv-loop μ-loop
 loop-again c =
-    sizes-more _ _ _ _ _ (c .before .before .before .before .before .loop .inv) (omega arith) (omega arith) _ _
-    (read-got _ _ _ _ (c .before .before .before .byte-field .ensures) (c .before .size .given .1))
+    sizes-more (c .before .before .before .before .before .loop .inv) (omega arith) (omega arith)
+    (read-got (c .before .before .before .byte-field .ensures) (c .before .size .given .1))
 
 returns-2 : tie.Need-returns-2 Inv-loop μ-loop
 returns-2 c = search (sizes-end, needs)

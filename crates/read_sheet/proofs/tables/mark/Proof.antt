@@ -5,7 +5,7 @@ use Rattle.read_sheet.proofs.tables.mark.Statement.{statement}
 use Rattle.read_sheet.proofs.tables.mark.Tie as tie
 
 returns : tie.Need-returns
-returns c = mark-stores _ _ _ _ _ (c .before .single .ensures) (c .either .ensures)
+returns c = mark-stores _ _ _ (c .before .single .ensures) (c .either .ensures)
 
 pub mark-spec : {M : Type 1} → statement M
 mark-spec =

@@ -13,21 +13,21 @@ use Rattle.read_sheet.proofs.tables.read_table.Tie as tie
 returns : tie.Need-returns
 returns c =
     rw (c .enum-told .given .1)
-    (table-no-pair _ _ (c .before .before .before .before .pre .3) (omega arith) _ _ _ _ _
-    (read-bad _ _ _ _ (c .before .before .pair-field .ensures) (c .enum-told .given .1)) _ _)
+    (table-no-pair (c .before .before .before .before .pre .3) (omega arith) _ _ _
+    (read-bad (c .before .before .pair-field .ensures) (c .enum-told .given .1)))
 
 -- The pair is read; what is known of it.
 pair-read : (c : tie.After-known-told)
     → (let start = c .before .before .before .before .before in
     field 2 (pairTest (start .args .n) (start .args .previous)) (now (start .args .bytes)) (start .args .at)
     ≡ got (c .before .head .given .0 .0) (c .before .head .given .0 .1 .0))
-pair-read c = read-got _ _ _ _ (c .before .before .before .pair-field .ensures) (c .before .head .given .1)
+pair-read c = read-got (c .before .before .before .pair-field .ensures) (c .before .head .given .1)
 
 pair-known : (c : tie.After-known-told)
     → (let start = c .before .before .before .before .before in
     PairIn (now (start .args .bytes)) (start .args .n) (start .args .previous) (now (start .args .sizes))
     (c .before .head .given .0 .0) (c .before .head .given .0 .1 .0))
-pair-known c = pair-in _ _ _ _ _ _ _ (c .before .before .before .before .before .pre .3) (pair-read c)
+pair-known c = pair-in _ (c .before .before .before .before .before .pre .3) (pair-read c)
 
 sub-i : tie.Need-sub-i
 sub-i c = omega (arith, pair-known c)
@@ -55,8 +55,8 @@ returns-2 c =
     let body = c .before .before in
     let pair = body .before .before .before .before in
     rw (c .enum-told2 .given .1)
-    (table-no-rows _ _ (pair .before .before .before .before .before .pre .3) (omega arith) _ _ _ _ _ (pair-read pair)
-    _ _ _ (body .read-sides .ensures) _ _ (c .enum-told2 .given .1) _)
+    (table-no-rows (pair .before .before .before .before .before .pre .3) (omega arith) _ _ _ (pair-read pair)
+    (body .read-sides .ensures) (c .enum-told2 .given .1))
 
 mark-requires : tie.Need-mark-requires
 mark-requires c κs = omega (arith, pair-known (c .before .before .before .before .before .before .before .before))
@@ -69,8 +69,8 @@ returns-3 c =
     let told = c .before .before .before .before in
     let body = told .before .before .before in
     let pair = body .before .before .before .before in
-    table-read _ _ (pair .before .before .before .before .before .pre .3) (omega arith) _ _ _ _ _ (pair-read pair)
-    _ _ _ (body .read-sides .ensures) _ _ (told .before .body .given .1) _ _ _ (c .before .before .mark .ensures) (c .mark2 .ensures)
+    table-read (pair .before .before .before .before .before .pre .3) (omega arith) _ _ _ (pair-read pair)
+    (body .read-sides .ensures) (told .before .body .given .1) (c .before .before .mark .ensures) (c .mark2 .ensures)
 
 pub read-table-spec : {M : Type 1} → statement M
 read-table-spec =

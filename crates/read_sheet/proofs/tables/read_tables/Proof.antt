@@ -21,14 +21,12 @@ returns : tie.Need-returns Inv-loop μ-loop
 returns c =
     let read = c .before .before in
     rw (c .enum-told .given .1)
-    (tables-refused _ _ _ _ _ _ _ _ _ _ (read .before .before .before .before .loop .inv) (omega arith)
-    _ _ _ (read .read-table .ensures) _ _ (c .enum-told .given .1))
+    (tables-refused (read .before .before .before .before .loop .inv) (omega arith) (read .read-table .ensures) (c .enum-told .given .1))
 
 loop-again : tie.Need-loop-again Inv-loop μ-loop
 loop-again c =
     let read = c .before .before .before in
-    tables-more _ _ _ _ _ _ _ _ _ _ (read .before .before .before .before .loop .inv) (omega arith)
-    _ _ _ (read .read-table .ensures) _ _ (c .before .table .given .1)
+    tables-more (read .before .before .before .before .loop .inv) (omega arith) (read .read-table .ensures) (c .before .table .given .1)
 
 returns-2 : tie.Need-returns-2 Inv-loop μ-loop
 returns-2 c = search (tables-end, needs)
