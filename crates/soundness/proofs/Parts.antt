@@ -32,19 +32,20 @@ within-i : (x k : ℕ) → ((v : ℕ) → has x v ≡ true → v < k) → within
 unfolding within
 within-i x k h = every-i 16 _ (λ v _. implies-i _ _ (λ m. lt-ltb _ _ (h v m)))
 
-module _ (n : ℕ) (sizes domains leaders stated rows : List ℕ) (A : Lent sizes domains leaders stated rows) where
-  -- The network of the parts lies within the bounds.
-  pub parts-bounded : Bounded 16 16 (partsView n sizes domains leaders stated rows)
-  unfolding partsView
-  parts-bounded =
-      record {
-        size-bound = array-past 16 (2 ^ 8) sizes (A .sizes-lent);
-        leader-bound = array-past 16 (2 ^ 8) leaders (A .leaders-lent);
-        domain-bound = member-within 16 16 domains (A .domains-lent);
-        stated-bound = member-within 16 16 stated (A .stated-lent);
-        allows-bound = allowed-within 16 rows (A .rows-lent);
-      }
+-- The network of the parts lies within the bounds.
+pub parts-bounded : (n : ℕ) (sizes domains leaders stated rows : List ℕ) → Lent sizes domains leaders stated rows
+    → Bounded 16 16 (partsView n sizes domains leaders stated rows)
+unfolding partsView
+parts-bounded n sizes domains leaders stated rows A =
+    record {
+      size-bound = array-past 16 (2 ^ 8) sizes (A .sizes-lent);
+      leader-bound = array-past 16 (2 ^ 8) leaders (A .leaders-lent);
+      domain-bound = member-within 16 16 domains (A .domains-lent);
+      stated-bound = member-within 16 16 stated (A .stated-lent);
+      allows-bound = allowed-within 16 rows (A .rows-lent);
+    }
 
+module _ (n : ℕ) {sizes domains leaders stated rows : List ℕ} (A : Lent sizes domains leaders stated rows) where
   -- ---- from the tests to the facts
 
   size-e : sizesFit n sizes ≡ true → (i : ℕ) → i < n → i < 16 → (1 ≤ getD sizes i 0) × (getD sizes i 0 ≤ 16)
@@ -268,13 +269,14 @@ module _ (n : ℕ) (sizes domains leaders stated rows : List ℕ) (A : Lent size
   unfolding partsFit partsView sound countSound sizesSound domainsSound sizesFit sizeFits domainsFit within
   sound-fit t =
       let N = partsView n sizes domains leaders stated rows in
-      let S = sound→Sound 16 16 16 N parts-bounded t in
+      let B = parts-bounded n sizes domains leaders stated rows A in
+      let S = sound→Sound 16 16 16 N B t in
       let h = and-r _ _ t in
       and-i _ _ (and-l _ _ (and-l _ _ t))
       (and-i _ _ (and-r _ _ (and-l _ _ t))
       (and-i _ _ (and-l _ _ h)
       (and-i _ _ (and-l _ _ (and-r _ _ h))
-      (and-i _ _ (pairs-i S) (and-i _ _ (rows-i S (leb-true _ _ (and-r _ _ (and-l _ _ t)))) (followers-i S (sound-size 16 16 16 N parts-bounded t)))))))
+      (and-i _ _ (pairs-i S) (and-i _ _ (rows-i S (leb-true _ _ (and-r _ _ (and-l _ _ t)))) (followers-i S (sound-size 16 16 16 N B t)))))))
 
   -- The whole test of the arrays is that of the network.
   pub parts-sound : partsFit n sizes domains leaders stated rows ≡ sound 16 16 16 (partsView n sizes domains leaders stated rows)

@@ -16,8 +16,8 @@ use Rattle.rows.specs.Search.{Bars}
 use Rattle.soundness.specs.Parts.{sizeFits, within, statedWith, variableFits, followerFits, freeOrFits}
 
 -- The bound of a word's members, known by another name.
-pub within-same : (r : Bool) (x k k′ : ℕ) → r ≡ within x k → k ≡ k′ → r ≡ within x k′
-within-same r x k k′ h e = rw e at h
+pub within-same : {r : Bool} (x : ℕ) {k k′ : ℕ} → r ≡ within x k → k ≡ k′ → r ≡ within x k′
+within-same x h e = rw e at h
 
 -- ---- a size
 
@@ -71,7 +71,7 @@ module _ (stated : Bool) (p : ℕ → Bool) where
 
 -- ---- a follower
 
-module _ (n : ℕ) (domains leaders stated rows : List ℕ) (i l : ℕ) where
+module _ {n : ℕ} (domains leaders stated rows : List ℕ) (i : ℕ) {l : ℕ} where
   pub leader-past : n ≤ l → false ≡ followerFits n domains leaders stated rows i l
   unfolding followerFits
   leader-past h = sym (and-fails _ _ (le-ltb l n h))
@@ -95,7 +95,7 @@ module _ (n : ℕ) (domains leaders stated rows : List ℕ) (i : ℕ) where
   unfolding freeOrFits
   variable-free h = sym (implies-false _ _ (not-false-i _ (eq-eqb _ 0 h)))
 
-  pub variable-led : (l : ℕ) → (getD leaders i 0 ≡ 0 → ⊥) → l ≡ pred (getD leaders i 0)
+  pub variable-led : {l : ℕ} → (getD leaders i 0 ≡ 0 → ⊥) → l ≡ pred (getD leaders i 0)
       → followerFits n domains leaders stated rows i l ≡ freeOrFits n domains leaders stated rows i
   unfolding freeOrFits
-  variable-led l h e = rw e (sym (implies-true _ _ (not-i _ (ne-eqb _ 0 h))))
+  variable-led h e = rw e (sym (implies-true _ _ (not-i _ (ne-eqb _ 0 h))))

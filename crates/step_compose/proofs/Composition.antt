@@ -83,9 +83,9 @@ module _ (rows : List ℕ) (i j k dj : ℕ) where
       (c a : ℕ) → c < 16 → a < 16
       → hasIn x c a ≡ some n (λ (b : ℕ). and (and (has dj b) (has (rowAt 16 rows k j c) b)) (has (rowAt 16 rows j i b) a))
 
-  pub reached-none : (x : Block) → x .a ≡ 0 → x .b ≡ 0 → x .c ≡ 0 → x .d ≡ 0 → Reached 0 x
+  pub reached-none : {x : Block} → x .a ≡ 0 → x .b ≡ 0 → x .c ≡ 0 → x .d ≡ 0 → Reached 0 x
   unfolding some hasIn
-  reached-none x pa pb pc pd c a l m = ap (λ (w : ℕ). has w (16 * (c % 4) + a)) (no-word x pa pb pc pd (c / 4)) ∙ has-zero (16 * (c % 4) + a)
+  reached-none {x} pa pb pc pd c a l m = ap (λ (w : ℕ). has w (16 * (c % 4) + a)) (no-word x pa pb pc pd (c / 4)) ∙ has-zero (16 * (c % 4) + a)
 
   -- A value outside the list joins nothing.
   pub reached-skips : (n : ℕ) (x : Block) → has dj n ≡ false → Reached n x → Reached (n + 1) x
@@ -96,12 +96,12 @@ module _ (rows : List ℕ) (i j k dj : ℕ) where
       (some n (λ (b : ℕ). and (and (has dj b) (has (rowAt 16 rows k j c) b)) (has (rowAt 16 rows j i b) a)))) p))
 
   -- One in the list joins its row where it goes with the value of k. `others` has the rows of k against j, lowered by n.
-  pub reached-joins : (n y : ℕ) (block others x r : Block) → n < 16 → has dj n ≡ true → BlockOf rows k j block → Lowered block n others
+  pub reached-joins : {n y : ℕ} (block others x r : Block) → n < 16 → has dj n ≡ true → BlockOf rows k j block → Lowered block n others
       → y ≡ rowAt 16 rows j i n
       → ((c a : ℕ) → c < 16 → a < 16 → hasIn r c a ≡ or (hasIn x c a) (and (hasIn others c 0) (has y a)))
       → Reached n x → Reached (n + 1) r
   unfolding some and
-  reached-joins n y block others x r t p o u e f h c a l m =
+  reached-joins {n} block others x r t p o u e f h c a l m =
       rw (add-one n) (f c a l m ∙ rw (h c a l m, lowered-in block others n c u, o c n l t, e, p) (or-comm _ _))
 
   -- So do all the values from n on, where none of them is in the list.
@@ -111,10 +111,10 @@ module _ (rows : List ℕ) (i j k dj : ℕ) where
       let e : n + 1 + m ≡ n + suc m = omega arith in
       subst (λ (q : ℕ). Reached q x) e (reached-past m (n + 1) x (λ v l. p v (omega arith)) (reached-skips n x (p n (omega arith)) h))
 
-  pub reached-all : (n : ℕ) (x : Block) → n ≤ 16 → ((v : ℕ) → n ≤ v → has dj v ≡ false) → Reached n x
+  pub reached-all : {n : ℕ} (x : Block) → n ≤ 16 → ((v : ℕ) → n ≤ v → has dj v ≡ false) → Reached n x
       → (c : ℕ) → c < 16 → rowOf x c ≡ reach 16 rows i j k dj c
   unfolding rowOf reach
-  reached-all n x t p h c l =
+  reached-all {n} x t p h c l =
       let e : n + (16 - n) ≡ 16 = omega arith in
       word-cong 16 _ _ (λ a m. subst (λ (q : ℕ). Reached q x) e (reached-past (16 - n) n x p h) c a l m)
 
@@ -181,9 +181,9 @@ composed-lt w rows i j k ti dj dk was c = word-lt w _
 -- ---- the frames
 
 -- All values from k, and then the other side.
-pub composed-both : (w : ℕ) (before now after : List ℕ) (i j k ti dj dk : ℕ) (was : Bool) → i < 16 → k < 16 → (k ≡ i → ⊥)
+pub composed-both : (w : ℕ) {before now after : List ℕ} {i j k ti dj dk : ℕ} {was : Bool} → i < 16 → k < 16 → (k ≡ i → ⊥)
     → Composing w before now i j k ti dj dk was w → Mirrored w now after k i → Composed w before after i j k ti dj dk was
-composed-both w before now after i j k ti dj dk was li lk d h m =
+composed-both w {before} {now} {i} {j} {k} {ti} {dj} {dk} {was} li lk d h m =
     record {
       done-k = λ v l. m .rest k i v lk li l (λ q _ _. d q) ∙ h .side v l;
       done-i = λ a v l n. ap (λ (x : ℕ). has x v) (m .side a l) ∙ has-column w now k i a v n ∙ ap (λ (x : ℕ). has x a) (h .side v n);

@@ -18,7 +18,7 @@ abbrev μ-loop : tie.MeasureT-loop
 μ-loop rows i j k dj others₀ reached₀ rest₀ b₀ others reached rest b = 16 - b
 
 loop-holds : tie.Need-loop-holds Inv-loop μ-loop
-loop-holds c = (omega arith, c .before .fits .dj .fits, rest-none _, lowered-none _, reached-none _ _ _ _ _ _ refl refl refl refl)
+loop-holds c = (omega arith, c .before .fits .dj .fits, rest-none _, lowered-none _, reached-none _ _ _ _ _ refl refl refl refl)
 
 -- In the loop there are values left.
 below : (c : tie.In-loop Inv-loop μ-loop) → c .before .loop .b < 16
@@ -42,7 +42,7 @@ one-more c =
     let e : 0 + at .loop .b ≡ at .loop .b = omega arith in
     let d = sym (ap (has (a .dj)) e) ∙ sym (i .2 0) ∙ sym (m .member .ensures) in
     ⊎-elim
-    (λ w. rw (w .3) (reached-joins _ _ _ _ _ _ _ _ _ _ _ (below (m .before)) (d ∙ w .0 .taken) (at .before .block-at .ensures .0) (i .3)
+    (λ w. rw (w .3) (reached-joins _ _ _ _ _ _ _ _ _ (below (m .before)) (d ∙ w .0 .taken) (at .before .block-at .ensures .0) (i .3)
     (w .1 .ensures) (w .2 .ensures) (i .4)))
     (λ w. rw (w .1) (reached-skips _ _ _ _ _ _ _ (d ∙ w .0 .left) (i .4)))
     (c .if1 .came)
@@ -60,7 +60,7 @@ loop-again c =
 returns : tie.Need-returns Inv-loop μ-loop
 returns c =
     let i = c .before .loop .inv in
-    reached-all _ _ _ _ _ _ _ (i .0) (rest-empty _ _ (rw (c .loop-test .left) at (i .2))) (i .4)
+    reached-all _ _ _ _ _ _ (i .0) (rest-empty _ _ (rw (c .loop-test .left) at (i .2))) (i .4)
 
 pub reaches-spec : {M : Type 1} → statement M
 reaches-spec =

@@ -6,18 +6,18 @@ use Rattle.soundness.proofs.sound.follower_sound.Statement.{statement}
 use Rattle.soundness.proofs.sound.follower_sound.Tie as tie
 
 returns : tie.Need-returns
-returns c = leader-past _ _ _ _ _ _ _ (c .if1 .taken)
+returns c = leader-past _ _ _ _ _ (c .if1 .taken)
 
 returns-2 : tie.Need-returns-2
-returns-2 c = leader-led _ _ _ _ _ _ _ (c .before .before .if1 .left) (c .if2 .taken)
+returns-2 c = leader-led _ _ _ _ _ (c .before .before .if1 .left) (c .if2 .taken)
 
 returns-3 : tie.Need-returns-3
-returns-3 c = follower-loose _ _ _ _ _ _ _ (c .before .before .before .before .before .if1 .left) (c .before .before .before .if2 .left)
+returns-3 c = follower-loose _ _ _ _ _ (c .before .before .before .before .before .if1 .left) (c .before .before .before .if2 .left)
     (λ e. c .if3 .taken (e ∙ sym (c .before .single .ensures)))
 
 returns-4 : tie.Need-returns-4
 returns-4 c = c .partners-within .ensures
-    ∙ follower-tied _ _ _ _ _ _ _ (c .before .before .before .before .before .before .before .before .if1 .left) (c .before .before .before .before .before .before .if2 .left)
+    ∙ follower-tied _ _ _ _ _ (c .before .before .before .before .before .before .before .before .if1 .left) (c .before .before .before .before .before .before .if2 .left)
     (c .before .before .before .if3 .left ∙ c .before .before .before .before .single .ensures)
 
 pub follower-sound-spec : {M : Type 1} → statement M

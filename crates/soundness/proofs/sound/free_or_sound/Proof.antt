@@ -10,7 +10,7 @@ returns : tie.Need-returns
 returns c = variable-free _ _ _ _ _ _ (c .if1 .taken)
 
 returns-2 : tie.Need-returns-2
-returns-2 c = c .follower-sound .ensures ∙ variable-led _ _ _ _ _ _ _ (c .before .before .if1 .left) (omega (arith, c .before .wide .ensures))
+returns-2 c = c .follower-sound .ensures ∙ variable-led _ _ _ _ _ _ (c .before .before .if1 .left) (omega (arith, c .before .wide .ensures))
 
 pub free-or-sound-spec : {M : Type 1} → statement M
 free-or-sound-spec =

@@ -13,14 +13,14 @@ returns : tie.Need-returns
 unfolding partsFit
 returns c = sym
     (and-fails _ _ (lt-leb _ _ (c .if1 .taken)))
-    ∙ parts-sound _ _ _ _ _ _ (c .before .pre)
+    ∙ parts-sound _ (c .before .pre)
 
 returns-2 : tie.Need-returns-2
 unfolding partsFit
 returns-2 c = sym
     (and-holds _ _ (le-leb _ _ (c .before .if1 .left))
     ∙ and-fails _ _ (lt-leb _ _ (c .if2 .taken)))
-    ∙ parts-sound _ _ _ _ _ _ (c .before .before .pre)
+    ∙ parts-sound _ (c .before .before .pre)
 
 returns-3 : tie.Need-returns-3
 unfolding partsFit
@@ -28,10 +28,10 @@ returns-3 c = sym
     (and-holds _ _ (le-leb _ _ (c .before .before .before .if1 .left))
     ∙ and-holds _ _ (le-leb _ _ (c .before .before .if2 .left))
     ∙ and-fails _ _ (sym (c .before .sizes-sound .ensures) ∙ not-true _ (c .if3 .taken)))
-    ∙ parts-sound _ _ _ _ _ _ (c .before .before .before .before .pre)
+    ∙ parts-sound _ (c .before .before .before .before .pre)
 
 domains-sound-requires : tie.Need-domains-sound-requires
-domains-sound-requires c κs = size-le _ _ _ _ _ _ (c .before .before .before .before .pre) (c .before .before .if2 .left) (sym (c .before .sizes-sound .ensures) ∙ not-false _ (c .if3 .left))
+domains-sound-requires c κs = size-le _ (c .before .before .before .before .pre) (c .before .before .if2 .left) (sym (c .before .sizes-sound .ensures) ∙ not-false _ (c .if3 .left))
 
 returns-4 : tie.Need-returns-4
 unfolding partsFit
@@ -40,7 +40,7 @@ returns-4 c = sym
     ∙ and-holds _ _ (le-leb _ _ (c .before .before .before .before .if2 .left))
     ∙ and-holds _ _ (sym (c .before .before .before .sizes-sound .ensures) ∙ not-false _ (c .before .before .if3 .left))
     ∙ and-fails _ _ (sym (c .before .domains-sound .ensures) ∙ not-true _ (c .if4 .taken)))
-    ∙ parts-sound _ _ _ _ _ _ (c .before .before .before .before .before .before .pre)
+    ∙ parts-sound _ (c .before .before .before .before .before .before .pre)
 
 returns-5 : tie.Need-returns-5
 unfolding partsFit
@@ -50,12 +50,12 @@ returns-5 c = sym
     ∙ and-holds _ _ (sym (c .before .before .before .before .before .sizes-sound .ensures) ∙ not-false _ (c .before .before .before .before .if3 .left))
     ∙ and-holds _ _ (sym (c .before .before .before .domains-sound .ensures) ∙ not-false _ (c .before .before .if4 .left))
     ∙ and-fails _ _ (sym (c .before .pairs-sound .ensures) ∙ not-true _ (c .if5 .taken)))
-    ∙ parts-sound _ _ _ _ _ _ (c .before .before .before .before .before .before .before .before .pre)
+    ∙ parts-sound _ (c .before .before .before .before .before .before .before .before .pre)
 
 rows-sound-requires : tie.Need-rows-sound-requires
 rows-sound-requires c κs = (
   omega arith,
-  size-le _ _ _ _ _ _ (c .before .before .before .before .before .before .before .before .pre) (c .before .before .before .before .before .before .if2 .left) (sym (c .before .before .before .before .before .sizes-sound .ensures) ∙ not-false _ (c .before .before .before .before .if3 .left)),
+  size-le _ (c .before .before .before .before .before .before .before .before .pre) (c .before .before .before .before .before .before .if2 .left) (sym (c .before .before .before .before .before .sizes-sound .ensures) ∙ not-false _ (c .before .before .before .before .if3 .left)),
 )
 
 returns-6 : tie.Need-returns-6
@@ -67,7 +67,7 @@ returns-6 c = sym
     ∙ and-holds _ _ (sym (c .before .before .before .before .before .domains-sound .ensures) ∙ not-false _ (c .before .before .before .before .if4 .left))
     ∙ and-holds _ _ (sym (c .before .before .before .pairs-sound .ensures) ∙ not-false _ (c .before .before .if5 .left))
     ∙ and-fails _ _ (sym (c .before .rows-sound .ensures) ∙ not-true _ (c .if6 .taken)))
-    ∙ parts-sound _ _ _ _ _ _ (c .before .before .before .before .before .before .before .before .before .before .pre)
+    ∙ parts-sound _ (c .before .before .before .before .before .before .before .before .before .before .pre)
 
 returns-7 : tie.Need-returns-7
 unfolding partsFit
@@ -79,7 +79,7 @@ returns-7 c = c .followers-sound .ensures
     ∙ and-holds _ _ (sym (c .before .before .before .before .before .before .domains-sound .ensures) ∙ not-false _ (c .before .before .before .before .before .if4 .left))
     ∙ and-holds _ _ (sym (c .before .before .before .before .pairs-sound .ensures) ∙ not-false _ (c .before .before .before .if5 .left))
     ∙ and-holds _ _ (sym (c .before .before .rows-sound .ensures) ∙ not-false _ (c .before .if6 .left)))
-    ∙ parts-sound _ _ _ _ _ _ (c .before .before .before .before .before .before .before .before .before .before .before .pre)
+    ∙ parts-sound _ (c .before .before .before .before .before .before .before .before .before .before .before .pre)
 
 pub sound-parts-spec : {M : Type 1} → statement M
 sound-parts-spec =
