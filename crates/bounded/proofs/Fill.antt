@@ -15,12 +15,12 @@ pub record Filled (n : ℕ) (f : ℕ → ℕ) (l : List ℕ) (i : ℕ) : Type 0 
   pub whole : length l ≡ n
   pub done : (k : ℕ) → k < i → getD l k 0 ≡ f k
 
-module _ (n : ℕ) (f : ℕ → ℕ) (l : List ℕ) where
+module _ (n : ℕ) {f : ℕ → ℕ} {l : List ℕ} where
   pub filled-none : length l ≡ n → Filled n f l 0
   filled-none e = record { whole = e; done = λ k h. absurd (let x : ⊥ = omega arith in x) }
 
-  pub filled-more : (i v : ℕ) → Filled n f l i → i < n → v ≡ f i → Filled n f (set l i v) (i + 1)
-  filled-more i v F h e =
+  pub filled-more : {i v : ℕ} → Filled n f l i → i < n → v ≡ f i → Filled n f (set l i v) (i + 1)
+  filled-more {i} {v} F h e =
       record {
         whole = length-set l i v ∙ F .whole;
         done =
@@ -35,5 +35,5 @@ module _ (n : ℕ) (f : ℕ → ℕ) (l : List ℕ) where
       below : (k : ℕ) → (k ≡ i → ⊥) → k < i + 1 → k < i
       below k d m = omega arith
 
-  pub filled-end : (i : ℕ) → Filled n f l i → n ≤ i → l ≡ tabulate n f
-  filled-end i F h = is-table n f l 0 (F .whole) (λ k m. F .done k (omega arith))
+  pub filled-end : {i : ℕ} → Filled n f l i → n ≤ i → l ≡ tabulate n f
+  filled-end F h = is-table n f l 0 (F .whole) (λ k m. F .done k (omega arith))

@@ -55,11 +55,11 @@ leaders-led i j leaders after l e =
 pub has-ruled : (x : ℕ) (p : ℕ → Bool) → x ≡ word 16 p → (v : ℕ) → v < 16 → has x v ≡ p v
 has-ruled x p e v l = ap (λ (n : ℕ). has n v) e ∙ has-word 16 p v l
 
-pub thirds-found : (pairs i j si sj y r : ℕ) → si ≡ word 16 (λ (u : ℕ). eqb u i) → sj ≡ word 16 (λ (u : ℕ). eqb u j)
+pub thirds-found : (pairs i j : ℕ) {si sj y r : ℕ} → si ≡ word 16 (λ (u : ℕ). eqb u i) → sj ≡ word 16 (λ (u : ℕ). eqb u j)
     → y ≡ word 16 (λ (u : ℕ). and (has pairs u) (not (has si u))) → r ≡ word 16 (λ (u : ℕ). and (has y u) (not (has sj u)))
     → r ≡ word 16 (thirdOf i j (has pairs))
 unfolding thirdOf
-thirds-found pairs i j si sj y r ei ej e f =
+thirds-found pairs i j {si} {sj} {y} ei ej e f =
     f ∙ word-cong 16 _ _ (λ v l. rw (has-ruled y _ e v l, has-ruled si _ ei v l, has-ruled sj _ ej v l) (and-assoc (has pairs v) _ _))
 
 or-true : (a : Bool) → or a true ≡ true
@@ -115,26 +115,26 @@ module _ (i j : ℕ) (T pairs : ℕ → Bool) (d : i ≡ j → ⊥) (ti : T i �
       sym (table .elsewhere x y (record { left-i = λ e. absurd (p e); right-i = λ e. t; left-j = λ e. absurd (q e); right-j = λ e. t }))
 
 -- The same of words.
-module _ (i j x thirds pairs : ℕ) (d : i ≡ j → ⊥) (ti : has thirds i ≡ false) (tj : has thirds j ≡ false) where
-  pub pairs-i : (r : ℕ) → x ≡ i → r ≡ word 16 (λ (u : ℕ). or (has pairs u) (has thirds u)) → r ≡ word 16 (statedAfter i j (has thirds) x (has pairs))
-  pairs-i r e f = rw e (f ∙ word-cong 16 _ _ (λ y l. stated-i i j (has thirds) (has pairs) d ti tj y))
+module _ {i j : ℕ} (x thirds pairs : ℕ) (d : i ≡ j → ⊥) (ti : has thirds i ≡ false) (tj : has thirds j ≡ false) where
+  pub pairs-i : {r : ℕ} → x ≡ i → r ≡ word 16 (λ (u : ℕ). or (has pairs u) (has thirds u)) → r ≡ word 16 (statedAfter i j (has thirds) x (has pairs))
+  pairs-i e f = rw e (f ∙ word-cong 16 _ _ (λ y l. stated-i i j (has thirds) (has pairs) d ti tj y))
 
-  pub pairs-j : (r : ℕ) → x ≡ j → r ≡ word 16 (λ (u : ℕ). and (has pairs u) (not (has thirds u)))
+  pub pairs-j : {r : ℕ} → x ≡ j → r ≡ word 16 (λ (u : ℕ). and (has pairs u) (not (has thirds u)))
       → r ≡ word 16 (statedAfter i j (has thirds) x (has pairs))
-  pairs-j r e f = rw e (f ∙ word-cong 16 _ _ (λ y l. stated-j i j (has thirds) (has pairs) d ti tj y))
+  pairs-j e f = rw e (f ∙ word-cong 16 _ _ (λ y l. stated-j i j (has thirds) (has pairs) d ti tj y))
 
   pub pairs-other : pairs < 2 ^ 16 → (x ≡ i → ⊥) → (x ≡ j → ⊥) → has thirds x ≡ false → pairs ≡ word 16 (statedAfter i j (has thirds) x (has pairs))
   pairs-other b p q t = is-word 16 pairs _ b (λ y l. stated-other i j (has thirds) (has pairs) d ti tj x y p q t)
 
-  pub pairs-k : (si sj y r : ℕ) → has thirds x ≡ true → si ≡ word 16 (λ (u : ℕ). eqb u i) → sj ≡ word 16 (λ (u : ℕ). eqb u j)
+  pub pairs-k : {si sj y r : ℕ} → has thirds x ≡ true → si ≡ word 16 (λ (u : ℕ). eqb u i) → sj ≡ word 16 (λ (u : ℕ). eqb u j)
       → y ≡ word 16 (λ (u : ℕ). or (has pairs u) (has si u)) → r ≡ word 16 (λ (u : ℕ). and (has y u) (not (has sj u)))
       → r ≡ word 16 (statedAfter i j (has thirds) x (has pairs))
-  pairs-k si sj y r t ei ej e f =
+  pairs-k {si} {sj} {y} t ei ej e f =
       f ∙ word-cong 16 _ _ (λ v l. rw (has-ruled y _ e v l, has-ruled si _ ei v l, has-ruled sj _ ej v l)
       (stated-k i j (has thirds) (has pairs) d ti tj x v t))
 
 -- Neither i nor j is a third variable.
-module _ (i j pairs thirds : ℕ) (are : thirds ≡ word 16 (thirdOf i j (has pairs))) where
+module _ (i j pairs : ℕ) {thirds : ℕ} (are : thirds ≡ word 16 (thirdOf i j (has pairs))) where
   pub leader-no-third : i < 16 → has thirds i ≡ false
   unfolding thirdOf
   leader-no-third l =

@@ -64,21 +64,21 @@ module _ (before mid late after domains : List ℕ) (pairs i j ti k : ℕ) (T : 
       }
 
 -- The same of a word of third variables.
-pub third-none : (rows domains : List ℕ) (pairs thirds i j ti k : ℕ) → has thirds k ≡ false
+pub third-none : {rows : List ℕ} (domains : List ℕ) (pairs thirds : ℕ) {i j : ℕ} (ti k : ℕ) → has thirds k ≡ false
     → MovedRows rows rows i j (thirdAt thirds k) (madeRow rows domains pairs i j ti)
 unfolding thirdAt
-third-none rows domains pairs thirds i j ti k h = none-moved rows i j _ _ (λ x t. clash (and-l _ _ t) h)
+third-none {rows} domains pairs thirds {i} {j} ti k h = none-moved rows i j _ _ (λ x t. clash (and-l _ _ t) h)
 
 -- A third variable is neither i nor j.
 pub third-apart : (thirds k p : ℕ) → has thirds k ≡ true → has thirds p ≡ false → k ≡ p → ⊥
 third-apart thirds k p t n e = clash t (ap (has thirds) e ∙ n)
 
-pub third-moved : (before mid late after domains : List ℕ) (pairs thirds i j ti k : ℕ) (was : Bool)
+pub third-moved : {before mid late after : List ℕ} (domains : List ℕ) (pairs thirds : ℕ) {i j ti k : ℕ} {was : Bool}
     → i < 16 → j < 16 → k < 16 → (i ≡ j → ⊥) → has thirds i ≡ false → has thirds j ≡ false → has thirds k ≡ true → was ≡ has pairs k
     → Composed 16 before mid i j k ti (getD domains j 0) (getD domains k 0) was → Cleared 16 mid late j k → Cleared 16 late after k j
     → MovedRows before after i j (thirdAt thirds k) (madeRow before domains pairs i j ti)
 unfolding thirdAt
-third-moved before mid late after domains pairs thirds i j ti k was li lj lk d ni nj t w composed jk kj =
+third-moved {before} {mid} {late} {after} domains pairs thirds {i} {j} {ti} {k} {was} li lj lk d ni nj t w composed jk kj =
     one-moved before mid late after domains pairs i j ti k _ was li lj lk d (λ e. third-apart thirds k j t nj (sym e)) (third-apart thirds k i t ni)
     (λ x u. eqb-true x k (and-r _ _ u)) (and-i _ _ t (eq-eqb k k refl)) w composed jk kj
 
@@ -176,12 +176,12 @@ module _ (thirds k : ℕ) where
   not-at p h = not-true→false _ (λ t. clash (and-l _ _ t) (sym (ap (has thirds) (third-e p t)) ∙ h))
 
 -- Before the first turn and after one more.
-module _ (rows domains : List ℕ) (pairs thirds i j ti : ℕ) where
+module _ {rows : List ℕ} (domains : List ℕ) (pairs thirds : ℕ) {i j : ℕ} (ti : ℕ) where
   pub first-turn : MovedRows rows rows i j (thirdsBelow thirds 0) (madeRow rows domains pairs i j ti)
   unfolding thirdsBelow
   first-turn = none-moved rows i j _ _ (λ x t. let l : x < 0 = ltb-true x 0 (and-l _ _ t) in let b : ⊥ = omega arith in b)
 
-  module _ (mid after : List ℕ) (k : ℕ) (li : i < 16) (lj : j < 16) (ni : has thirds i ≡ false) (nj : has thirds j ≡ false)
+  module _ {mid : List ℕ} (k : ℕ) (li : i < 16) (lj : j < 16) (ni : has thirds i ≡ false) (nj : has thirds j ≡ false)
       (done : MovedRows rows mid i j (thirdsBelow thirds k) (madeRow rows domains pairs i j ti)) where
     -- What rule 2 reads for a third variable that is still to come is as at first.
     unread : (x y : ℕ) → thirdsBelow thirds k x ≡ false → thirdsBelow thirds k y ≡ false → Stays i j (thirdsBelow thirds k) x y
@@ -196,20 +196,20 @@ module _ (rows domains : List ℕ) (pairs thirds i j ti : ℕ) where
         (λ b l. done .kept j i b (unread j i (not-below thirds k j nj) (not-below thirds k i ni)) lj li l)
         (done .kept x i c (unread x i nx (not-below thirds k i ni)) lx li lc)
 
-    pub next-turn : MovedRows mid after i j (thirdAt thirds k) (madeRow mid domains pairs i j ti)
+    pub next-turn : {after : List ℕ} → MovedRows mid after i j (thirdAt thirds k) (madeRow mid domains pairs i j ti)
         → MovedRows rows after i j (thirdsBelow thirds (k + 1)) (madeRow rows domains pairs i j ti)
-    next-turn more =
+    next-turn {after} more =
         rw (add-one k)
         (more-moved rows mid after i j (thirdsBelow thirds k) (thirdAt thirds k) (thirdsBelow thirds (suc k)) _ _ li lj
         (not-below thirds k i ni) (not-below thirds k j nj) (not-at thirds k i ni) (not-at thirds k j nj)
         (below-not-at thirds k) (below-or-at thirds k) same-made done more)
 
-  -- After the last turn.
-  pub last-turn : (after : List ℕ) (k : ℕ) → thirds < 2 ^ 16 → 16 ≤ k
-      → MovedRows rows after i j (thirdsBelow thirds k) (madeRow rows domains pairs i j ti)
-      → MovedRows rows after i j (has thirds) (madeRow rows domains pairs i j ti)
-  unfolding thirdsBelow
-  last-turn after k b l done =
-      subst (λ (T : ℕ → Bool). MovedRows rows after i j T (madeRow rows domains pairs i j ti))
-      (fun-ext λ x. bool-ext _ _ (and-r _ _) (λ t. and-i _ _ (lt-ltb x k (omega (arith, has-below 16 thirds x t b))) t))
-      done
+-- After the last turn.
+pub last-turn : {rows after : List ℕ} (domains : List ℕ) (pairs : ℕ) {thirds i j : ℕ} (ti : ℕ) {k : ℕ} → thirds < 2 ^ 16 → 16 ≤ k
+    → MovedRows rows after i j (thirdsBelow thirds k) (madeRow rows domains pairs i j ti)
+    → MovedRows rows after i j (has thirds) (madeRow rows domains pairs i j ti)
+unfolding thirdsBelow
+last-turn {rows} {after} domains pairs {thirds} {i} {j} ti {k} b l done =
+    subst (λ (T : ℕ → Bool). MovedRows rows after i j T (madeRow rows domains pairs i j ti))
+    (fun-ext λ x. bool-ext _ _ (and-r _ _) (λ t. and-i _ _ (lt-ltb x k (omega (arith, has-below 16 thirds x t b))) t))
+    done

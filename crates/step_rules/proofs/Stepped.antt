@@ -9,7 +9,7 @@ use Rattle.rows.specs.Rows.{supportedAt}
 use Rattle.step_rules.specs.StepParts.{leaderAfter, thirdOf, statedAfter, madeRow, MovedRows}
 use Rattle.step_rules.specs.Stepped.{trimmedWord, thirdsWord, Stepped}
 
-module _ (domains leaders stated rows : List ℕ) (i j ti thirds : ℕ) (leaders′ stated′ after : List ℕ) where
+module _ {domains leaders stated rows : List ℕ} {i j ti thirds : ℕ} {leaders′ stated′ after : List ℕ} where
   pub stepped : ti ≡ supportedAt 16 rows i j (getD domains i 0) (getD domains j 0) → thirds ≡ word 16 (thirdOf i j (has (getD stated j 0)))
       → MovedRows rows after i j (has thirds) (madeRow rows domains (getD stated i 0) i j ti)
       → leaders′ ≡ tabulate 16 (λ (x : ℕ). leaderAfter i j x (getD leaders x 0))

@@ -7,7 +7,7 @@ use Rattle.step_rules.proofs.arrays.move_third.Statement.{statement}
 use Rattle.step_rules.proofs.arrays.move_third.Tie as tie
 
 returns : tie.Need-returns
-returns c = third-none _ _ _ _ _ _ _ _ (sym (c .before .member .ensures) ∙ not-true _ (c .if1 .taken))
+returns c = third-none _ _ _ _ _ (sym (c .before .member .ensures) ∙ not-true _ (c .if1 .taken))
 
 compose-requires : tie.Need-compose-requires
 compose-requires c κs =
@@ -22,7 +22,7 @@ returns-2 c =
     let w = m .before .before .before .before in
     let e = w .before in
     let p = e .before .before .pre in
-    third-moved _ _ _ _ _ _ _ _ _ _ _ _ (p .0) (p .1) (p .2) (p .3) (p .4) (p .5) (sym (e .before .member .ensures) ∙ not-false _ (e .if1 .left))
+    third-moved _ _ _ (p .0) (p .1) (p .2) (p .3) (p .4) (p .5) (sym (e .before .member .ensures) ∙ not-false _ (e .if1 .left))
     (w .member2 .ensures) (m .compose .ensures) (c .before .before .clear .ensures) (c .clear2 .ensures)
 
 pub move-third-spec : {M : Type 1} → statement M

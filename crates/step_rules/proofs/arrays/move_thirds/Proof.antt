@@ -15,7 +15,7 @@ abbrev μ-loop : tie.MeasureT-loop
 μ-loop rows₀ domains pairs thirds i j ti k₀ rows k = 16 - k
 
 loop-holds : tie.Need-loop-holds Inv-loop μ-loop
-loop-holds c = (omega arith, first-turn _ _ _ _ _ _ _)
+loop-holds c = (omega arith, first-turn _ _ _ _)
 
 move-third-requires : tie.Need-move-third-requires Inv-loop μ-loop
 move-third-requires c κs =
@@ -25,10 +25,10 @@ move-third-requires c κs =
 loop-again : tie.Need-loop-again Inv-loop μ-loop
 loop-again c =
     let p = c .before .before .before .before .pre in
-    (omega arith, next-turn _ _ _ _ _ _ _ _ _ _ (p .0) (p .1) (p .3) (p .4) (c .before .before .before .loop .inv .1) (c .move-third .ensures))
+    (omega arith, next-turn _ _ _ _ _ (p .0) (p .1) (p .3) (p .4) (c .before .before .before .loop .inv .1) (c .move-third .ensures))
 
 returns : tie.Need-returns Inv-loop μ-loop
-returns c = last-turn _ _ _ _ _ _ _ _ _ (c .before .before .fits .thirds .fits) (c .loop-test .left) (c .before .loop .inv .1)
+returns c = last-turn _ _ _ (c .before .before .fits .thirds .fits) (c .loop-test .left) (c .before .loop .inv .1)
 
 pub move-thirds-spec : {M : Type 1} → statement M
 move-thirds-spec =

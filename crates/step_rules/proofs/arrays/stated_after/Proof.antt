@@ -16,13 +16,13 @@ abbrev μ-loop : tie.MeasureT-loop
 μ-loop stated thirds i j after₀ x₀ after x = 16 - x
 
 loop-holds : tie.Need-loop-holds Inv-loop μ-loop
-loop-holds c = (omega arith, filled-none 16 _ _ (search needs))
+loop-holds c = (omega arith, filled-none 16 (search needs))
 
 loop-again : tie.Need-loop-again Inv-loop μ-loop
-loop-again c = (omega arith, filled-more 16 _ _ _ _ (c .before .before .before .loop .inv .1) (c .before .before .loop-test .taken) (c .pairs-after .ensures))
+loop-again c = (omega arith, filled-more 16 (c .before .before .before .loop .inv .1) (c .before .before .loop-test .taken) (c .pairs-after .ensures))
 
 returns : tie.Need-returns Inv-loop μ-loop
-returns c = filled-end 16 _ _ _ (c .before .loop .inv .1) (c .loop-test .left)
+returns c = filled-end 16 (c .before .loop .inv .1) (c .loop-test .left)
 
 pub stated-after-spec : {M : Type 1} → statement M
 stated-after-spec =

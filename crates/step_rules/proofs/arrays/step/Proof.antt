@@ -22,7 +22,7 @@ apart : (c : tie.After-thirds-of) →
     (a .i < 16) × (a .j < 16) × (a .i ≡ a .j → ⊥) × (has (c .thirds-of .result) (a .i) ≡ false) × (has (c .thirds-of .result) (a .j) ≡ false)
 apart c =
     let p = c .before .before .before .before .before .before .pre in
-    (p .0, p .1, p .2, leader-no-third _ _ _ _ (c .thirds-of .ensures) (p .0), follower-no-third _ _ _ _ (c .thirds-of .ensures) (p .1))
+    (p .0, p .1, p .2, leader-no-third _ _ _ (c .thirds-of .ensures) (p .0), follower-no-third _ _ _ (c .thirds-of .ensures) (p .1))
 
 stated-after-requires : tie.Need-stated-after-requires
 stated-after-requires c κs = apart (c .before)
@@ -37,7 +37,7 @@ returns : tie.Need-returns
 returns c =
     let pairs = c .before .before .before .before in
     let t = pairs .before .before in
-    stepped _ _ _ _ _ _ _ _ _ _ _ (t .before .before .supported .ensures) (t .thirds-of .ensures) (c .move-thirds .ensures)
+    stepped (t .before .before .supported .ensures) (t .thirds-of .ensures) (c .move-thirds .ensures)
     (pairs .before .leaders-after .ensures) (pairs .stated-after .ensures)
 
 pub step-spec : {M : Type 1} → statement M

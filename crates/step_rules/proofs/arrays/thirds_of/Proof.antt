@@ -6,7 +6,7 @@ use Rattle.step_rules.proofs.arrays.thirds_of.Tie as tie
 
 returns : tie.Need-returns
 returns c =
-    thirds-found _ _ _ _ _ _ _ (c .before .before .before .single .ensures) (c .before .single2 .ensures) (c .before .before .without .ensures) (c .without2 .ensures)
+    thirds-found _ _ _ (c .before .before .before .single .ensures) (c .before .single2 .ensures) (c .before .before .without .ensures) (c .without2 .ensures)
 
 pub thirds-of-spec : {M : Type 1} → statement M
 thirds-of-spec =
