@@ -18,7 +18,7 @@ use Rattle.capi.specs.declared.SheetVerdict.{SheetVerdict}
 use Rattle.capi.specs.declared.SheetCut.{SheetCut}
 use Rattle.capi.specs.Answers.{readOut, leftAs, writtenOut, testedOut, verdictOut, cutOut}
 
-pub read-out : (r t : ReadTold) (number place : ℕ) → r ≡ t → number ≡ r .number → place ≡ r .place
+pub read-out : (r : ReadTold) {t : ReadTold} {number place : ℕ} → r ≡ t → number ≡ r .number → place ≡ r .place
     → _≡_ {A = SheetRead}
     (record {
       number = number;
@@ -32,27 +32,27 @@ pub read-out : (r t : ReadTold) (number place : ℕ) → r ≡ t → number ≡ 
     })
     (readOut t)
 unfolding readOut
-read-out r t number place e p q = (λ i. readOut (record { number = p i; place = q i; state = r .state })) ∙ ap readOut e
+read-out r e p q = (λ i. readOut (record { number = p i; place = q i; state = r .state })) ∙ ap readOut e
 
-pub left-as : (n : ℕ) (sizes : List ℕ) (worked : Worked) (rows : List ℕ) (number : ℕ) → number ≡ outcomeNumber (worked .outcome)
+pub left-as : {n : ℕ} {sizes : List ℕ} (worked : Worked) {rows : List ℕ} {number : ℕ} → number ≡ outcomeNumber (worked .outcome)
     → leftAs n sizes (worked .domains) (worked .leaders) (worked .stated) rows (record { number = number; steps = worked .steps }) ≡ workedTold n sizes worked rows
 unfolding leftAs
-left-as n sizes worked rows number p = λ i.
+left-as {n} {sizes} worked {rows} p = λ i.
     record {
       number = p i;
       state = stateOf n sizes (worked .domains) (worked .leaders) (worked .stated) rows;
       steps = worked .steps;
     }
 
-pub written-out : (r t : WriteTold) (number length : ℕ) → r ≡ t → number ≡ r .number → length ≡ r .length
+pub written-out : {r t : WriteTold} {number length : ℕ} → r ≡ t → number ≡ r .number → length ≡ r .length
     → _≡_ {A = SheetWritten} (record { number = number; length = length }) (writtenOut t)
 unfolding writtenOut
-written-out r t number length e p q = (λ i. record { number = p i; length = q i }) ∙ ap writtenOut e
+written-out e p q = (λ i. record { number = p i; length = q i }) ∙ ap writtenOut e
 
-pub tested-out : (r t : TestTold) (number : ℕ) (agrees : Bool) → r ≡ t → number ≡ testNumber r → agrees ≡ testAgrees r
+pub tested-out : {r t : TestTold} {number : ℕ} {agrees : Bool} → r ≡ t → number ≡ testNumber r → agrees ≡ testAgrees r
     → _≡_ {A = SheetTested} (record { number = number; agrees = agrees }) (testedOut t)
 unfolding testedOut
-tested-out r t number agrees e p q = (λ i. record { number = p i; agrees = q i }) ∙ ap testedOut e
+tested-out e p q = (λ i. record { number = p i; agrees = q i }) ∙ ap testedOut e
 
 shown : (v : Verdict) (build : List ℕ) → build ≡ verdictBuild (verdictTold v build)
 unfolding verdictTold verdictBuild
@@ -61,13 +61,13 @@ shown verdict.Built build = refl
 shown verdict.Open build = refl
 shown (verdict.Refused c) build = refl
 
-pub verdict-out : (v : Verdict) (build : List ℕ) (t : VerdictTold) (number kind : ℕ) → verdictTold v build ≡ t
+pub verdict-out : (v : Verdict) {build : List ℕ} {t : VerdictTold} {number kind : ℕ} → verdictTold v build ≡ t
     → number ≡ verdictNumber (verdictTold v build) → kind ≡ verdictKind (verdictTold v build)
     → _≡_ {A = SheetVerdict} (record { number = number; kind = kind; solution = build }) (verdictOut t)
 unfolding verdictOut
-verdict-out v build t number kind e p q = (λ i. record { number = p i; kind = q i; solution = shown v build i }) ∙ ap verdictOut e
+verdict-out v {build} e p q = (λ i. record { number = p i; kind = q i; solution = shown v build i }) ∙ ap verdictOut e
 
-pub cut-out : (r t : CutTold) (v : Verdict) (build : List ℕ) (number place kind : ℕ) → r ≡ t → r .verdict ≡ verdictTold v build
+pub cut-out : (r : CutTold) {t : CutTold} (v : Verdict) (build : List ℕ) {number place kind : ℕ} → r ≡ t → r .verdict ≡ verdictTold v build
     → number ≡ r .number → place ≡ r .place → kind ≡ verdictKind (verdictTold v build)
     → _≡_ {A = SheetCut}
     (record {
@@ -85,7 +85,7 @@ pub cut-out : (r t : CutTold) (v : Verdict) (build : List ℕ) (number place kin
     })
     (cutOut t)
 unfolding cutOut
-cut-out r t v build number place kind e f p q k =
+cut-out r v build e f p q k =
     (λ i. record {
       number = p i;
       place = q i;

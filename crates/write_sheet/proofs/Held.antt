@@ -262,7 +262,7 @@ bytes-low : (x : ℕ) → bytesOf 2 (x % 2 ^ 16) ≡ bytesOf 2 x
 unfolding bytesOf
 bytes-low x = ap₂ (λ (a b : ℕ). a ∷ b ∷ []) (omega arith) (omega arith)
 
-module _ (n : ℕ) (sizes stated rows : List ℕ) (few : n ≤ 16) (small : (i : ℕ) → getD sizes i 0 ≤ 16)
+module _ {n : ℕ} (sizes stated rows : List ℕ) (few : n ≤ 16) (small : (i : ℕ) → getD sizes i 0 ≤ 16)
     (S : Sound (heldBy n sizes stated rows)) where
   -- Within the sizes a row of the array is read as it stands,
   row-allows : (i j a b : ℕ) → j < n → a < getD sizes i 0 → allowsOf 16 rows i j a b ≡ has (rowAt 16 rows i j a) b

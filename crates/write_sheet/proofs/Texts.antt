@@ -17,8 +17,8 @@ use Rattle.write_sheet.specs.Texts.{joined, rowsText, tableText}
 -- ---- texts in a buffer
 
 -- What was written from the start of a buffer.
-pub wrote-whole : (a b text : List ℕ) (r : ℕ) → Wrote a b text 0 r → (r ≡ length text) × (b ≡ text ++ drop (length text) a)
-wrote-whole a b text r w =
+pub wrote-whole : {a b text : List ℕ} {r : ℕ} → Wrote a b text 0 r → (r ≡ length text) × (b ≡ text ++ drop (length text) a)
+wrote-whole {text} {r} w =
     let e : r ≡ length text = omega arith in (e, rw e at (w .holds))
 
 -- A number below 65536 in two bytes.
@@ -74,8 +74,8 @@ joined-room k m l f h n =
 
 -- ---- a loop that writes joined texts: where it begins, the room for the next part, and after it
 
-pub wrote-start : (k : ℕ) (f : ℕ → List ℕ) (buffer : List ℕ) (at : ℕ) → at ≤ length buffer → Wrote buffer buffer (joined k k f) at at
-wrote-start k f buffer at h = rw joined-none (wrote-none buffer at h)
+pub wrote-start : (k : ℕ) (f : ℕ → List ℕ) {buffer : List ℕ} {at : ℕ} → at ≤ length buffer → Wrote buffer buffer (joined k k f) at at
+wrote-start k f {buffer} {at} h = rw joined-none (wrote-none buffer at h)
 
 module _ (f : ℕ → List ℕ) where
   pub wrote-room : (l : ℕ) {a b : List ℕ} {k m at mid : ℕ} → k ≤ m → m < l → at + length (joined k l f) ≤ length a
@@ -89,17 +89,17 @@ module _ (f : ℕ → List ℕ) where
 
 -- ---- a table
 
-module _ (sizes stated : List ℕ) (row : ℕ → ℕ → ℕ → ℕ) (i j : ℕ) where
-  pub table-unstated : has (getD stated i 0) j ≡ false → tableText sizes stated row i j ≡ []
+module _ (sizes stated : List ℕ) (row : ℕ → ℕ → ℕ → ℕ) where
+  pub table-unstated : (i j : ℕ) → has (getD stated i 0) j ≡ false → tableText sizes stated row i j ≡ []
   unfolding tableText
-  table-unstated h = if-false _ _ _ h
+  table-unstated i j h = if-false _ _ _ h
 
-  pub table-stated : has (getD stated i 0) j ≡ true
+  pub table-stated : (i j : ℕ) → has (getD stated i 0) j ≡ true
       → tableText sizes stated row i j ≡ suc i ∷ suc j ∷ rowsText (getD sizes i 0) (row i j)
   unfolding tableText
-  table-stated h = if-true _ _ _ h
+  table-stated i j h = if-true _ _ _ h
 
-  pub wrote-table : {a b c d : List ℕ} {p q at second third r : ℕ} → has (getD stated i 0) j ≡ true → p ≡ suc i → q ≡ suc j
+  pub wrote-table : {a b c d : List ℕ} {i j p q at second third r : ℕ} → has (getD stated i 0) j ≡ true → p ≡ suc i → q ≡ suc j
       → Wrote a b (p ∷ []) at second → Wrote b c (q ∷ []) second third → Wrote c d (rowsText (getD sizes i 0) (row i j)) third r
       → Wrote a d (tableText sizes stated row i j) at r
-  wrote-table h e f x y z = rw (table-stated h, ← e, ← f) (wrote-then x (wrote-then y z))
+  wrote-table {i} {j} h e f x y z = rw (table-stated i j h, ← e, ← f) (wrote-then x (wrote-then y z))

@@ -15,7 +15,7 @@ returns : tie.Need-returns
 unfolding cutPartsTold
 returns c =
     let d = c .before .before .before .before .before .before .before .before in
-    cut-out (cutPartsTold (d .cut-parts .result) _) _ (d .cut-parts .result .verdict) (d .cut-parts .result .solution) _ _ _
+    cut-out (cutPartsTold (d .cut-parts .result) _) (d .cut-parts .result .verdict) (d .cut-parts .result .solution)
     (d .cut-parts .ensures) refl (c .before .before .read-number .ensures) (c .before .read-place .ensures) (c .verdict-kind .ensures _)
 
 pub sheet-cut-spec : {M : Type 1} → statement M

@@ -8,7 +8,7 @@ use Rattle.capi.proofs.sheet_eliminate.Tie as tie
 returns : tie.Need-returns
 returns c =
     let d = c .before .before .before .before in
-    left-as _ _ (d .eliminate-parts .result) _ _ (c .outcome-number .ensures) ∙ d .eliminate-parts .ensures
+    left-as (d .eliminate-parts .result) (c .outcome-number .ensures) ∙ d .eliminate-parts .ensures
 
 pub sheet-eliminate-spec : {M : Type 1} → statement M
 sheet-eliminate-spec =

@@ -12,7 +12,7 @@ use Rattle.state_read.proofs.read_parts.Reads as read-parts-reads
 returns : tie.Need-returns
 unfolding readPartsTold
 returns c =
-    read-out (readPartsTold (c .before .before .before .before .before .read-parts .result) _) _ _ _
+    read-out (readPartsTold (c .before .before .before .before .before .read-parts .result) _)
     (c .before .before .before .before .before .read-parts .ensures) (c .before .read-number .ensures) (c .read-place .ensures)
 
 pub sheet-read-spec : {M : Type 1} → statement M

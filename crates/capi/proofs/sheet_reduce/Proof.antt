@@ -8,7 +8,7 @@ use Rattle.capi.proofs.sheet_reduce.Tie as tie
 returns : tie.Need-returns
 returns c =
     let d = c .before .before .before .before in
-    left-as _ _ (d .reduce-parts .result) _ _ (c .outcome-number .ensures) ∙ d .reduce-parts .ensures
+    left-as (d .reduce-parts .result) (c .outcome-number .ensures) ∙ d .reduce-parts .ensures
 
 pub sheet-reduce-spec : {M : Type 1} → statement M
 sheet-reduce-spec =

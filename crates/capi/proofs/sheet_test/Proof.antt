@@ -9,7 +9,7 @@ use Rattle.answers.proofs.test_number.Reads as test-number-reads
 use Rattle.sheet.proofs.test.Reads as test-reads
 
 returns : tie.Need-returns
-returns c = tested-out _ _ _ _ (c .before .before .test .ensures) (c .before .test-number .ensures) (c .test-agrees .ensures)
+returns c = tested-out (c .before .before .test .ensures) (c .before .test-number .ensures) (c .test-agrees .ensures)
 
 pub sheet-test-spec : {M : Type 1} → statement M
 sheet-test-spec =

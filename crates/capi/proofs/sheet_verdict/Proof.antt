@@ -9,7 +9,7 @@ use Rattle.answers.proofs.verdict_number.Reads as verdict-number-reads
 use Rattle.sheet.proofs.verdict.Reads as verdict-reads
 
 returns : tie.Need-returns
-returns c = verdict-out _ _ _ _ _ (c .before .before .before .verdict .ensures) (c .before .verdict-number .ensures _) (c .verdict-kind .ensures _)
+returns c = verdict-out _ (c .before .before .before .verdict .ensures) (c .before .verdict-number .ensures _) (c .verdict-kind .ensures _)
 
 pub sheet-verdict-spec : {M : Type 1} → statement M
 sheet-verdict-spec =

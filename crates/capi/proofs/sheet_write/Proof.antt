@@ -9,7 +9,7 @@ use Rattle.answers.proofs.write_number.Reads as write-number-reads
 use Rattle.sheet.proofs.write.Reads as write-reads
 
 returns : tie.Need-returns
-returns c = (written-out _ _ _ _ (c .before .before .before .before .write .ensures .0) (c .before .write-number .ensures) (c .write-length .ensures), c .before .before .before .before .write .ensures .1)
+returns c = (written-out (c .before .before .before .before .write .ensures .0) (c .before .write-number .ensures) (c .write-length .ensures), c .before .before .before .before .write .ensures .1)
 
 pub sheet-write-spec : {M : Type 1} → statement M
 sheet-write-spec =

@@ -17,10 +17,10 @@ use Rattle.write_sheet.proofs.writing.write_into.Tie as tie
 text : (c : tie.Start)
     → let a = c .args in
     bytesHeld (a .n) (a .sizes .now) (a .stated .now) (a .rows .now) ≡ sheetText (a .n) (a .sizes .now) (a .stated .now) (rowAt 16 (a .rows .now))
-text c = sound-text _ _ _ _ (c .pre .1 .0 .0) (c .pre .1 .0 .1) (c .pre .0)
+text c = sound-text _ _ _ (c .pre .1 .0 .0) (c .pre .1 .0 .1) (c .pre .0)
 
 few-tables : (c : tie.Start) → tableCount (c .args .n) (c .args .stated .now) ≤ 120
-few-tables c = sound-count _ _ _ _ (c .pre .1 .0 .0) (c .pre .1 .0 .1) (c .pre .0)
+few-tables c = sound-count _ _ _ (c .pre .1 .0 .0) (c .pre .1 .0 .1) (c .pre .0)
 
 -- The result of `sheet_length`: as many bytes as the parts have, at most 4101, and within the buffer.
 bytes : (c : tie.After-sheet-length)
@@ -34,12 +34,12 @@ bytes : (c : tie.After-sheet-length)
 bytes c =
     let s = c .before .before in
     let whole = c .sheet-length .ensures (s .args .rows .now) in
-    let most = sound-most _ _ _ _ (s .pre .1 .0 .0) (s .pre .1 .0 .1) (s .pre .0) in
+    let most = sound-most _ _ _ (s .pre .1 .0 .0) (s .pre .1 .0 .1) (s .pre .0) in
     (whole ∙ ap length (text s) ∙ sheet-parts _ _ _ _, body-parts _ _ _ _, omega arith, omega arith)
 
 sheet-length-requires : tie.Need-sheet-length-requires
 sheet-length-requires c κs =
-    let s = c .before in (s .pre .1 .0 .0, stated-below _ _ _ _ (s .pre .1 .0 .0) (s .pre .1 .0 .1) (s .pre .0))
+    let s = c .before in (s .pre .1 .0 .0, stated-below _ _ _ (s .pre .1 .0 .0) (s .pre .1 .0 .1) (s .pre .0))
 
 sub-write-header : tie.Need-sub-write-header
 sub-write-header c = omega (arith, bytes c)
@@ -76,8 +76,7 @@ returns c =
     let header = sizes .before .before .before .before in
     let p = bytes (header .before .before) in
     rw (text (header .before .before .before .before))
-    (wrote-whole _ _ _ _
-    (wrote-sheet _ _ _ _ (omega (arith, p)) (count .table-count .ensures) (header .write-header .ensures)
+    (wrote-whole (wrote-sheet _ _ _ _ (omega (arith, p)) (count .table-count .ensures) (header .write-header .ensures)
     (sizes .write-sizes .ensures) (c .before .before .before .before .before .before .put-byte .ensures) (c .before .before .write-tables .ensures)))
 
 pub write-into-spec : {M : Type 1} → statement M

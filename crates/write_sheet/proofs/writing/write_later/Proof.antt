@@ -19,7 +19,7 @@ abbrev μ-loop : tie.MeasureT-loop
 
 loop-holds : tie.Need-loop-holds Inv-loop μ-loop
 unfolding laterText
-loop-holds c = (omega arith, omega arith, wrote-start _ _ _ _ (omega arith))
+loop-holds c = (omega arith, omega arith, wrote-start _ _ (omega arith))
 
 write-table-requires : tie.Need-write-table-requires Inv-loop μ-loop
 unfolding laterText

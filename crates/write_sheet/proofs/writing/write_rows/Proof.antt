@@ -20,7 +20,7 @@ abbrev μ-loop : tie.MeasureT-loop
 
 loop-holds : tie.Need-loop-holds Inv-loop μ-loop
 unfolding rowsText
-loop-holds c = (omega arith, wrote-start 0 _ _ _ (omega arith))
+loop-holds c = (omega arith, wrote-start 0 _ (omega arith))
 
 put-number-requires : tie.Need-put-number-requires Inv-loop μ-loop
 unfolding rowsText bytesOf

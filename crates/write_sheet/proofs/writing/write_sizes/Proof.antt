@@ -19,7 +19,7 @@ abbrev μ-loop : tie.MeasureT-loop
 
 loop-holds : tie.Need-loop-holds Inv-loop μ-loop
 unfolding sizesText
-loop-holds c = (omega arith, wrote-start 0 _ _ _ (omega arith))
+loop-holds c = (omega arith, wrote-start 0 _ (omega arith))
 
 put-byte-requires : tie.Need-put-byte-requires Inv-loop μ-loop
 unfolding sizesText

@@ -39,7 +39,7 @@ write-rows-requires c κs = let r = room-here (c .before .before .before .before
 returns-2 : tie.Need-returns-2
 returns-2 c =
     let p = c .before .before .before .before .before .before .before in
-    wrote-table _ _ _ _ _ (stated-here (p .before .before .before .before .before .before)) (omega arith) (omega arith)
+    wrote-table _ _ _ (stated-here (p .before .before .before .before .before .before)) (omega arith) (omega arith)
     (p .before .before .before .before .put-byte .ensures) (p .put-byte2 .ensures) (c .before .before .write-rows .ensures)
 
 pub write-table-spec : {M : Type 1} → statement M

@@ -19,7 +19,7 @@ abbrev μ-loop : tie.MeasureT-loop
 
 loop-holds : tie.Need-loop-holds Inv-loop μ-loop
 unfolding tablesText
-loop-holds c = (omega arith, wrote-start _ _ _ _ (omega arith))
+loop-holds c = (omega arith, wrote-start _ _ (omega arith))
 
 write-later-requires : tie.Need-write-later-requires Inv-loop μ-loop
 unfolding tablesText
