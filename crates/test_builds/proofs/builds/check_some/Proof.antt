@@ -1,0 +1,17 @@
+-- `test_builds::builds::check_some` is safe and ends: the loop counts up to its end. Assumes nothing.
+use Prim.Native.Nat.{_-_}
+use borrow.Author.Needs.{needs}
+use Rattle.test_builds.proofs.builds.check_some.Statement.{statement}
+use Rattle.test_builds.proofs.builds.check_some.Tie as tie
+
+abbrev Inv-loop : tie.InvT-loop
+Inv-loop bytes state times seed₀ tally₀ counter₀ seed tally counter = Unit
+
+abbrev μ-loop : tie.MeasureT-loop
+μ-loop bytes state times seed₀ tally₀ counter₀ seed tally counter = times - counter
+
+pub check-some-spec : {M : Type 1} → statement M
+check-some-spec =
+    tie.close
+    (tie.spec Inv-loop μ-loop (λ c. search needs) (λ c κs. search needs) (λ c. search needs) (λ c. search needs)
+    (λ c. search needs) (λ c. search needs))

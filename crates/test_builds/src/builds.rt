@@ -1,0 +1,221 @@
+// The tester, the completer and the verdict against the builds of the sheet, read off its bytes alone.
+use crate::draws;
+use state::State;
+use test_calls::calls;
+use test_calls::calls::BUILT;
+use test_calls::calls::NO;
+use test_calls::calls::NONE;
+use test_calls::calls::OPEN;
+use test_calls::calls::YES;
+use test_calls::states;
+use test_calls::tally;
+use test_calls::tally::Counts;
+use test_inputs::random;
+use test_oracle::brute;
+use test_oracle::choices;
+use test_oracle::fields;
+
+// How many builds the sheet has, and how many choices the state allows.
+struct Totals {
+    builds: u64,
+    choices: u64,
+}
+
+fn with_one(total: u64, is_one: bool) -> u64 {
+    if is_one {
+        return std::num::wrapping_add_u64(total, 1);
+    }
+    total
+}
+
+fn yes_or_no(is_build: bool) -> u8 {
+    if is_build {
+        return YES;
+    }
+    NO
+}
+
+// The tester says yes exactly to the sheet's builds.
+fn check_test(bytes: &[u8], state: State, tuple: [u8; 16], tally: &mut Counts) -> bool {
+    let is_build = brute::is_build(bytes, &tuple);
+    let answer = calls::test(state, tuple, state.n);
+    tally::expect(tally, tally::TESTS, answer == yes_or_no(is_build));
+    is_build
+}
+
+// An allowed choice becomes a build that keeps it.
+fn check_completed(bytes: &[u8], state: State, buffer: [u8; 16], tally: &mut Counts) {
+    let n = state.n;
+    let done = calls::complete(state, buffer, n);
+    let after = done.buffer;
+    let is_kept = choices::are_kept(n, states::free(state), &buffer, &after);
+    let is_build = brute::is_build(bytes, &after);
+    let is_right = (done.number == 0) & is_kept & is_build;
+    tally::expect(tally, tally::COMPLETIONS, is_right);
+}
+
+// The completer, with any bytes at the followers: an allowed choice becomes a build, any other is refused.
+fn check_complete(
+    bytes: &[u8],
+    state: State,
+    tuple: [u8; 16],
+    seed: &mut u64,
+    tally: &mut Counts,
+) -> bool {
+    let n = state.n;
+    let buffer = draws::with_garbage(states::free(state), &tuple, seed);
+    let expected = states::choice_number(state, buffer);
+    if expected == 0 {
+        check_completed(bytes, state, buffer, tally);
+        return true;
+    }
+    let is_left = calls::is_completed(state, buffer, n, expected, buffer);
+    tally::expect(tally, tally::COMPLETIONS_REFUSED, is_left);
+    false
+}
+
+// Of the tuples that agree at the live options, one is completed. Answers whether it is an allowed choice.
+fn check_choice(
+    bytes: &[u8],
+    state: State,
+    tuple: [u8; 16],
+    seed: &mut u64,
+    tally: &mut Counts,
+) -> bool {
+    if !choices::is_choice(states::free(state), &tuple) {
+        return false;
+    }
+    check_complete(bytes, state, tuple, seed, tally)
+}
+
+fn check_tuple(
+    bytes: &[u8],
+    state: State,
+    tuple: [u8; 16],
+    totals: Totals,
+    seed: &mut u64,
+    tally: &mut Counts,
+) -> Totals {
+    let is_build = check_test(bytes, state, tuple, tally);
+    let is_allowed = check_choice(bytes, state, tuple, seed, tally);
+    Totals {
+        builds: with_one(totals.builds, is_build),
+        choices: with_one(totals.choices, is_allowed),
+    }
+}
+
+// Every tuple of a sheet that has at most 1,024.
+fn check_tuples(bytes: &[u8], state: State, seed: &mut u64, tally: &mut Counts) -> Totals {
+    let mut totals = Totals {
+        builds: 0,
+        choices: 0,
+    };
+    for k in 0..1024 {
+        let tuple = brute::numbered(bytes, k);
+        let values = tuple.values;
+        if tuple.rest != 0 {
+            return totals;
+        }
+        totals = check_tuple(bytes, state, values, totals, seed, tally);
+    }
+    totals
+}
+
+// A verdict by the fields alone.
+fn expected_verdict(state: State) -> u8 {
+    if choices::has_empty_list(states::free(state), &state.domains) {
+        return NONE;
+    }
+    if states::free_count(state) == 1 {
+        return BUILT;
+    }
+    OPEN
+}
+
+// The build shown is a build of the sheet, zero past n; with NONE or OPEN it is all zero.
+fn is_shown(bytes: &[u8], verdict: u8, n: usize, solution: &[u8; 16]) -> bool {
+    if verdict == BUILT {
+        return brute::is_build(bytes, solution) & fields::is_zero_from(solution, n);
+    }
+    fields::is_zero_from(solution, 0)
+}
+
+// The verdict, which it hands back.
+pub fn check_verdict(bytes: &[u8], state: State, tally: &mut Counts) -> u8 {
+    let expected = expected_verdict(state);
+    let answer = calls::verdict(state);
+    let is_shown = is_shown(bytes, expected, state.n, &answer.solution);
+    let is_same = answer.verdict == expected;
+    tally::expect(tally, tally::VERDICTS, is_same & is_shown);
+    expected
+}
+
+// NONE only where there is no build, BUILT only where there is one.
+fn is_borne_out(verdict: u8, builds: u64) -> bool {
+    if verdict == NONE {
+        return builds == 0;
+    }
+    if verdict == BUILT {
+        return builds != 0;
+    }
+    true
+}
+
+// There are as many allowed choices as builds.
+fn check_totals(totals: Totals, tally: &mut Counts) {
+    tally::expect(tally, tally::COUNTED, totals.builds == totals.choices);
+    tally::add(tally, tally::BUILDS, totals.builds);
+}
+
+// All that is claimed of the builds of a sheet, for the state that a list of calls came to.
+pub fn check_all(bytes: &[u8], state: State, seed: &mut u64, tally: &mut Counts) {
+    let totals = check_tuples(bytes, state, seed, tally);
+    check_totals(totals, tally);
+    let verdict = check_verdict(bytes, state, tally);
+    tally::hold(tally, is_borne_out(verdict, totals.builds));
+}
+
+// A value at or above its size, and a buffer of another length.
+fn check_refused_tests(bytes: &[u8], state: State, seed: &mut u64, tally: &mut Counts) {
+    let n = state.n;
+    let wrong = draws::drawn_above(bytes, n, seed);
+    let answer = calls::test(state, wrong, n);
+    tally::expect(tally, tally::TESTS_REFUSED, answer == 15);
+    let length = random::index(seed, 17);
+    if length != n {
+        let other = calls::test(state, wrong, length);
+        tally::expect(tally, tally::TESTS_REFUSED, other == 14);
+    }
+}
+
+// A live value that no list has, and a buffer of another length: refused, with the buffer as it was.
+fn check_refused_completions(bytes: &[u8], state: State, seed: &mut u64, tally: &mut Counts) {
+    let n = state.n;
+    let wrong = draws::drawn_unlisted(bytes, states::free(state), seed);
+    let is_first_left = calls::is_completed(state, wrong, n, 15, wrong);
+    tally::expect(tally, tally::COMPLETIONS_REFUSED, is_first_left);
+    let length = random::index(seed, 17);
+    if length != n {
+        let is_other_left = calls::is_completed(state, wrong, length, 14, wrong);
+        tally::expect(tally, tally::COMPLETIONS_REFUSED, is_other_left);
+    }
+}
+
+// The tester and the completer, refused.
+pub fn check_refusals(bytes: &[u8], state: State, seed: &mut u64, tally: &mut Counts) {
+    check_refused_tests(bytes, state, seed, tally);
+    check_refused_completions(bytes, state, seed, tally);
+}
+
+fn check_drawn(bytes: &[u8], state: State, seed: &mut u64, tally: &mut Counts) {
+    let tuple = draws::drawn(bytes, seed);
+    check_test(bytes, state, tuple, tally);
+    check_complete(bytes, state, tuple, seed, tally);
+}
+
+// Some tuples of a sheet that has too many to try all.
+pub fn check_some(bytes: &[u8], state: State, times: usize, seed: &mut u64, tally: &mut Counts) {
+    for _ in 0..times {
+        check_drawn(bytes, state, seed, tally);
+    }
+}

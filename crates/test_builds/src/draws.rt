@@ -1,0 +1,67 @@
+// Tuples drawn at random: as the tester and the completer take them, or to be refused.
+use test_inputs::random;
+use test_oracle::brute;
+use test_oracle::fields;
+
+fn digit(bytes: &[u8], i: usize, seed: &mut u64) -> u8 {
+    if brute::options(bytes) <= i {
+        return 0;
+    }
+    let value = random::index(seed, brute::size(bytes, i));
+    (value % 256) as u8
+}
+
+// A tuple with each value below its size.
+pub(crate) fn drawn(bytes: &[u8], seed: &mut u64) -> [u8; 16] {
+    let mut values = [0u8; 16];
+    for i in 0..16 {
+        values[i] = digit(bytes, i, seed);
+    }
+    values
+}
+
+fn with_value(tuple: [u8; 16], i: usize, value: u8) -> [u8; 16] {
+    let mut values = tuple;
+    if i < 16 {
+        values[i] = value;
+    }
+    values
+}
+
+// A tuple with a value at or above its size.
+pub(crate) fn drawn_above(bytes: &[u8], n: usize, seed: &mut u64) -> [u8; 16] {
+    let tuple = drawn(bytes, seed);
+    let i = random::index(seed, n);
+    let above = brute::past(brute::size(bytes, i), random::index(seed, 3));
+    with_value(tuple, i, (above % 256) as u8)
+}
+
+fn wide(x: u32) -> usize {
+    x as usize
+}
+
+// A tuple with a live value that no list has, at the lowest of the live options.
+pub(crate) fn drawn_unlisted(bytes: &[u8], free: u16, seed: &mut u64) -> [u8; 16] {
+    let i = wide(u16::trailing_zeros(free));
+    with_value(drawn(bytes, seed), i, 16 + random::byte(seed) % 240)
+}
+
+fn garbage_at(free: u16, tuple: &[u8; 16], i: usize, seed: &mut u64) -> u8 {
+    let garbage = random::byte(seed);
+    if 15 < i {
+        return 0;
+    }
+    if fields::has(free, i) {
+        return tuple[i];
+    }
+    garbage
+}
+
+// The tuple with any bytes at the followers and past n.
+pub(crate) fn with_garbage(free: u16, tuple: &[u8; 16], seed: &mut u64) -> [u8; 16] {
+    let mut made = [0u8; 16];
+    for i in 0..16 {
+        made[i] = garbage_at(free, tuple, i, seed);
+    }
+    made
+}

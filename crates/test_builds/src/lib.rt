@@ -1,0 +1,10 @@
+// What a state comes to, against the builds of its sheet.
+
+// The tester, the completer and the verdict, on every tuple of a small sheet and on some of a large one.
+pub mod builds;
+// Reading, the full reduction and the verdict in one call, against the three calls.
+pub mod cuts;
+// Tuples drawn at random.
+mod draws;
+// What a sheet comes to, against a text.
+pub mod outcomes;

@@ -1,0 +1,68 @@
+// What a sheet comes to after reading, the full reduction and the verdict, as a text: the number of steps, the verdict's first letter, and three digits
+// for each option: its leader, its list where it is live, and its value in the build shown.
+use state::State;
+use test_calls::calls;
+use test_calls::calls::BUILT;
+use test_calls::calls::NONE;
+use test_calls::calls::OPEN;
+use test_oracle::brute;
+
+// The digit at a place, 0 past the end.
+fn digit(expected: &[u8], at: usize) -> u8 {
+    let byte = brute::byte(expected, at);
+    if byte < b'0' {
+        return 0;
+    }
+    byte - b'0'
+}
+
+fn letter(verdict: u8) -> u8 {
+    match verdict {
+        BUILT => b'B',
+        NONE => b'N',
+        OPEN => b'O',
+        _ => 0,
+    }
+}
+
+fn is_listed(expected: &[u8], leader: u8, list: u16, at: usize) -> bool {
+    if leader != 0 {
+        return true;
+    }
+    digit(expected, at) as u16 == list
+}
+
+fn is_option(expected: &[u8], leader: u8, list: u16, value: u8, at: usize) -> bool {
+    let is_led = digit(expected, at) == leader;
+    let is_shown = digit(expected, brute::past(at, 2)) == value;
+    is_led & is_shown & is_listed(expected, leader, list, brute::past(at, 1))
+}
+
+fn are_options<'a>(
+    expected: &[u8],
+    leaders: &'a [u8; 16],
+    domains: &'a [u16; 16],
+    solution: &[u8; 16],
+) -> bool {
+    for i in 0..16 {
+        if !is_option(expected, leaders[i], domains[i], solution[i], 2 + 3 * i) {
+            return false;
+        }
+    }
+    true
+}
+
+fn is_reduced(state: State, expected: &[u8]) -> bool {
+    let judged = calls::verdict(state);
+    let is_judged = letter(judged.verdict) == brute::byte(expected, 1);
+    is_judged & are_options(expected, &state.leaders, &state.domains, &judged.solution)
+}
+
+// The sheet is accepted and comes to what is expected.
+pub fn is_cut(bytes: &[u8], expected: &[u8]) -> bool {
+    let reading = calls::read(bytes);
+    let answer = calls::reduce(reading.state);
+    let is_done = (reading.number == 0) & (answer.number == 0);
+    let is_counted = digit(expected, 0) as usize == answer.steps;
+    is_done & is_counted & is_reduced(answer.state, expected)
+}

@@ -1,0 +1,140 @@
+// Whole states: compared, and stepped and reduced by the rules.
+use state::State;
+use test_oracle::brute::index_of;
+use test_oracle::choices::are_allowed;
+use test_oracle::choices::are_listed;
+use test_oracle::fields;
+use test_oracle::fields::same_bytes;
+use test_oracle::fields::same_words;
+use test_oracle::refusals;
+use test_oracle::refusals::Pair;
+use test_oracle::rules;
+
+fn same_options(a: State, b: State) -> bool {
+    (a.n == b.n) & same_bytes(&a.sizes, &b.sizes) & same_words(&a.domains, &b.domains)
+}
+
+fn same_tables(a: State, b: State) -> bool {
+    same_words(&a.stated, &b.stated) & same_words(&a.rows, &b.rows)
+}
+
+// The two states are the same in every field.
+pub fn same(a: State, b: State) -> bool {
+    same_options(a, b) & same_bytes(&a.leaders, &b.leaders) & same_tables(a, b)
+}
+
+// The state that a refused reading hands back.
+pub fn zero() -> State {
+    State {
+        n: 0,
+        sizes: [0; 16],
+        domains: [0; 16],
+        leaders: [0; 16],
+        stated: [0; 16],
+        rows: [0; 4096],
+    }
+}
+
+// The live options, as bits.
+pub fn free(state: State) -> u16 {
+    fields::free(state.n, &state.leaders)
+}
+
+fn wide(x: u32) -> usize {
+    x as usize
+}
+
+// How many options are live.
+pub fn free_count(state: State) -> usize {
+    wide(u16::count_ones(free(state)))
+}
+
+// What the completer is to refuse a choice with, 0 where it is allowed.
+pub fn choice_number(state: State, tuple: [u8; 16]) -> u8 {
+    let free = free(state);
+    if !are_listed(free, &state.domains, &tuple) {
+        return 15;
+    }
+    if !are_allowed(free, &state.stated, &state.rows, &tuple) {
+        return 16;
+    }
+    0
+}
+
+// What a step is to be refused with, options counted from 1; 0 where it is legal.
+pub fn refusal(state: State, leader: usize, follower: usize) -> u8 {
+    refusals::refusal(
+        state.n,
+        free(state),
+        &state.domains,
+        &state.stated,
+        &state.rows,
+        leader,
+        follower,
+    )
+}
+
+// The first legal pair from the pair number `start` on.
+pub fn legal_pair(state: State, start: usize) -> Pair {
+    refusals::legal_from(
+        free(state),
+        &state.domains,
+        &state.stated,
+        &state.rows,
+        start,
+    )
+}
+
+// Rule 1.
+fn with_trimmed(state: State, i: usize, j: usize) -> State {
+    let mut after = state;
+    if i < 16 {
+        after.domains[i] = rules::trimmed(&state.domains, &state.rows, i, j);
+    }
+    after
+}
+
+// Rules 2 and 3, on a state whose list of `i` is trimmed.
+fn with_composed(state: State, i: usize, j: usize) -> State {
+    let n = state.n;
+    let sizes = state.sizes;
+    let domains = state.domains;
+    State {
+        n,
+        sizes,
+        domains,
+        leaders: rules::leaders_after(&state.leaders, i, j),
+        stated: rules::stated_after(&state.stated, i, j),
+        rows: rules::rows_after(&state.domains, &state.stated, &state.rows, i, j),
+    }
+}
+
+// The state after a legal step by the rules, options counted from 1.
+pub fn step(state: State, leader: usize, follower: usize) -> State {
+    let i = index_of(leader);
+    let j = index_of(follower);
+    with_composed(with_trimmed(state, i, j), i, j)
+}
+
+// The lowest legal step, where there is one, by the rules.
+fn lowest_step(state: State) -> State {
+    let pair = legal_pair(state, 0);
+    if pair.leader == 0 {
+        return state;
+    }
+    step(state, pair.leader, pair.follower)
+}
+
+// The lowest legal step, again and again: sixteen options allow fifteen steps.
+pub fn reduced_by_steps(state: State) -> State {
+    let mut reduced = state;
+    for _ in 0..16usize {
+        reduced = lowest_step(reduced);
+    }
+    reduced
+}
+
+// As many steps were taken as live options went.
+pub fn is_counted(before: State, after: State, steps: usize) -> bool {
+    free_count(before) == std::num::wrapping_add_usize(free_count(after), steps)
+}

@@ -1,0 +1,120 @@
+// How often each thing was tried, and how often it came out wrong.
+
+// One more than the greatest of the kinds that are counted.
+pub const KINDS: usize = 32;
+
+pub type Counts = [u64; KINDS];
+
+pub const DIFFERENCES: usize = 0;
+// Inputs: families of sheets stand at their own numbers from here on.
+pub const FAMILIES: usize = 1;
+
+pub const DAMAGED: usize = 10;
+
+pub const RANDOM_BYTES: usize = 11;
+
+pub const EXAMPLES: usize = 12;
+
+pub const TEXTS: usize = 13;
+
+pub const DAMAGED_STATES: usize = 14;
+
+pub const COUNTED: usize = 15;
+
+pub const BUILDS: usize = 16;
+// Calls, by what they are to answer.
+pub const READS: usize = 17;
+
+pub const READS_REFUSED: usize = 18;
+
+pub const STEPS: usize = 19;
+
+pub const STEPS_REFUSED: usize = 20;
+
+pub const REDUCTIONS: usize = 21;
+
+pub const TESTS: usize = 22;
+
+pub const TESTS_REFUSED: usize = 23;
+
+pub const COMPLETIONS: usize = 24;
+
+pub const COMPLETIONS_REFUSED: usize = 25;
+
+pub const VERDICTS: usize = 26;
+
+pub const WRITES: usize = 27;
+
+pub const WRITES_REFUSED: usize = 28;
+
+pub const UNSOUND: usize = 29;
+
+pub const SOUND: usize = 30;
+
+pub const CUTS: usize = 31;
+
+// One more of the kind `k`.
+pub fn count(tally: &mut Counts, k: usize) {
+    add(tally, k, 1);
+}
+
+// So many more of the kind `k`.
+pub fn add(tally: &mut Counts, k: usize, more: u64) {
+    if k < KINDS {
+        tally[k] = std::num::wrapping_add_u64(tally[k], more);
+    }
+}
+
+// One comparison of the kind `k`.
+pub fn expect(tally: &mut Counts, k: usize, is_right: bool) {
+    count(tally, k);
+    hold(tally, is_right);
+}
+
+// A comparison that is counted only where it comes out wrong.
+pub fn hold(tally: &mut Counts, is_right: bool) {
+    if !is_right {
+        count(tally, DIFFERENCES);
+    }
+}
+
+fn print_number(number: u64) {
+    io::write_all(1, b" ");
+    io::print_decimal(1, number);
+    io::write_all(1, b"\n");
+}
+
+// One byte of the titles, and the number `k` where a title ends. Answers the number that comes next.
+fn print_byte(byte: u8, k: usize, tally: &Counts) -> usize {
+    if byte != 10 {
+        io::write_all(1, &[byte]);
+        return k;
+    }
+    if KINDS <= k {
+        return k;
+    }
+    print_number(tally[k]);
+    k + 1
+}
+
+// A line for each title, with the numbers from `first` on. Each title ends with a line feed.
+pub fn print(titles: &[u8], first: usize, tally: &Counts) {
+    let length = titles.len();
+    let mut k = first;
+    for i in 0..length {
+        k = print_byte(titles[i], k, tally);
+    }
+}
+
+// What every program counts.
+pub fn print_checks(tally: &Counts) {
+    print(
+        b"damaged states\nsheets with all tuples tried\nbuilds\nreads accepted\nreads refused\n\
+        steps taken\nsteps refused\nreductions\ntests\ntests refused\ncompletions\n\
+        completions refused\nverdicts\nwrites\nwrites refused\ncalls on unsound states\n\
+        states called sound\ncuts\n",
+        DAMAGED_STATES,
+        tally,
+    );
+    print(b"differences\n", DIFFERENCES, tally);
+}

@@ -1,0 +1,17 @@
+-- `test_checks::lists::check_list` is safe and ends: the loop counts up to its end. Assumes nothing.
+use Prim.Native.Nat.{_-_}
+use borrow.Author.Needs.{needs}
+use Rattle.test_checks.proofs.lists.check_list.Statement.{statement}
+use Rattle.test_checks.proofs.lists.check_list.Tie as tie
+
+abbrev Inv-loop : tie.InvT-loop
+Inv-loop calls seed₀ tally₀ run₀ counter₀ seed tally run counter = Unit
+
+abbrev μ-loop : tie.MeasureT-loop
+μ-loop calls seed₀ tally₀ run₀ counter₀ seed tally run counter = calls - counter
+
+pub check-list-spec : {M : Type 1} → statement M
+check-list-spec =
+    tie.close
+    (tie.spec Inv-loop μ-loop (λ c. search needs) (λ c κs. search needs) (λ c. search needs) (λ c. search needs)
+    (λ c. search needs) (λ c. search needs))

@@ -1,0 +1,61 @@
+// The tester, the completer and the writer on a fixed state of three options.
+use crate::reads::check_unwritten;
+use crate::steps::state_named;
+use state::State;
+use test_calls::calls;
+use test_calls::tally;
+use test_calls::tally::Counts;
+use test_oracle::brute;
+use test_oracle::brute::byte;
+use test_oracle::brute::past;
+
+// Three values.
+fn three(list: &[u8], at: usize) -> [u8; 16] {
+    let mut values = [0u8; 16];
+    values[0] = byte(list, at);
+    values[1] = byte(list, past(at, 1));
+    values[2] = byte(list, past(at, 2));
+    values
+}
+
+// The state's name, three values, and what the tester answers. Answers the place after them.
+pub(crate) fn test_at(list: &[u8], at: usize, tally: &mut Counts) -> usize {
+    let state = state_named(byte(list, at));
+    let answer = calls::test(state, three(list, past(at, 1)), 3);
+    let is_same = answer == byte(list, past(at, 4));
+    tally::expect(tally, tally::EXAMPLES, is_same);
+    past(at, 5)
+}
+
+// The state's name, three values, the number that the completer answers, and the values that it leaves. Answers the place after them.
+pub(crate) fn completion_at(list: &[u8], at: usize, tally: &mut Counts) -> usize {
+    let state = state_named(byte(list, at));
+    let before = three(list, past(at, 1));
+    let after = three(list, past(at, 5));
+    let is_right = calls::is_completed(state, before, 3, byte(list, past(at, 4)), after);
+    tally::expect(tally, tally::EXAMPLES, is_right);
+    past(at, 8)
+}
+
+// Whatever a buffer holds that is not of three bytes, the tester and the completer answer 14.
+fn is_other_length(state: State, length: usize) -> bool {
+    let tuple = three(b"\xff\x00\x01", 0);
+    let is_left = calls::is_completed(state, tuple, length, 14, tuple);
+    is_left & (calls::test(state, tuple, length) == 14)
+}
+
+// The state's name, and a length that is not three. Answers the place after them.
+pub(crate) fn length_at(list: &[u8], at: usize, tally: &mut Counts) -> usize {
+    let state = state_named(byte(list, at));
+    let is_right = is_other_length(state, byte(list, past(at, 1)) as usize);
+    tally::expect(tally, tally::EXAMPLES, is_right);
+    past(at, 2)
+}
+
+// The state's name, the room of a buffer in two bytes, and the number that the writer answers. Answers the place after them.
+pub(crate) fn room_at(list: &[u8], at: usize, tally: &mut Counts) -> usize {
+    let state = state_named(byte(list, at));
+    let room = brute::number(list, past(at, 1));
+    check_unwritten(state, room, byte(list, past(at, 3)), tally);
+    past(at, 4)
+}

@@ -1,0 +1,104 @@
+// Choices of values for the live options, and the lists that they are drawn from. `free` has the live options as bits.
+use crate::fields::byte_at;
+use crate::fields::has;
+use crate::fields::row_at;
+use crate::fields::word_at;
+
+fn is_listed(free: u16, domains: &[u16; 16], tuple: &[u8; 16], i: usize) -> bool {
+    if !has(free, i) {
+        return true;
+    }
+    has(word_at(domains, i), byte_at(tuple, i))
+}
+
+// Each live option's value is in its list.
+pub fn are_listed(free: u16, domains: &[u16; 16], tuple: &[u8; 16]) -> bool {
+    for i in 0..16 {
+        if !is_listed(free, domains, tuple, i) {
+            return false;
+        }
+    }
+    true
+}
+
+fn is_allowed<'a>(
+    free: u16,
+    stated: &'a [u16; 16],
+    rows: &'a [u16; 4096],
+    tuple: &[u8; 16],
+    i: usize,
+    j: usize,
+) -> bool {
+    if !has(free & word_at(stated, i), j) {
+        return true;
+    }
+    if !has(free, i) {
+        return true;
+    }
+    has(row_at(rows, i, j, byte_at(tuple, i)), byte_at(tuple, j))
+}
+
+// Each stated pair of two live options allows its two values.
+pub fn are_allowed<'a>(
+    free: u16,
+    stated: &'a [u16; 16],
+    rows: &'a [u16; 4096],
+    tuple: &[u8; 16],
+) -> bool {
+    for k in 0..256 {
+        if !is_allowed(free, stated, rows, tuple, k / 16, k % 16) {
+            return false;
+        }
+    }
+    true
+}
+
+fn is_choice_at(free: u16, tuple: &[u8; 16], i: usize) -> bool {
+    if has(free, i) {
+        return true;
+    }
+    byte_at(tuple, i) == 0
+}
+
+// The values of followers are 0: of the tuples that agree at the live options, one.
+pub fn is_choice(free: u16, tuple: &[u8; 16]) -> bool {
+    for i in 0..16 {
+        if !is_choice_at(free, tuple, i) {
+            return false;
+        }
+    }
+    true
+}
+
+fn is_kept(n: usize, free: u16, before: &[u8; 16], after: &[u8; 16], i: usize) -> bool {
+    if i < n {
+        if !has(free, i) {
+            return true;
+        }
+    }
+    byte_at(before, i) == byte_at(after, i)
+}
+
+// The bytes of live options, and those past n, are as they were.
+pub fn are_kept(n: usize, free: u16, before: &[u8; 16], after: &[u8; 16]) -> bool {
+    for i in 0..16 {
+        if !is_kept(n, free, before, after, i) {
+            return false;
+        }
+    }
+    true
+}
+
+fn is_empty_at(free: u16, domains: &[u16; 16], i: usize) -> bool {
+    has(free, i) & (word_at(domains, i) == 0)
+}
+
+// Some live list is empty.
+pub fn has_empty_list(free: u16, domains: &[u16; 16]) -> bool {
+    for i in 0..16 {
+        if is_empty_at(free, domains, i) {
+            return true;
+        }
+    }
+    false
+}

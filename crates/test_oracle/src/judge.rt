@@ -1,0 +1,203 @@
+// What the reader is to say of some bytes, written from the table of causes; nothing here calls the library.
+use crate::brute::byte;
+use crate::brute::number;
+use crate::brute::past;
+use crate::brute::size_of;
+
+// The number of the cause, 0 where there is none, and its place; where there is none, the place after what was judged.
+pub struct Judged {
+    pub number: u8,
+    pub place: usize,
+}
+
+fn fault(number: u8, place: usize) -> Judged {
+    Judged { number, place }
+}
+
+// "under 3 bytes, over 4,101, or not 3 plus the count"
+fn is_length_wrong(bytes: &[u8]) -> bool {
+    let length = bytes.len();
+    if length < 3 {
+        return true;
+    }
+    if 4101 < length {
+        return true;
+    }
+    past(3, number(bytes, 1)) != length
+}
+
+fn judge_size(bytes: &[u8], at: usize) -> u8 {
+    if bytes.len() <= at {
+        return 6;
+    }
+    let size = byte(bytes, at);
+    if size == 0 {
+        return 4;
+    }
+    if 16 < size {
+        return 4;
+    }
+    0
+}
+
+fn judge_sizes(bytes: &[u8], n: usize) -> Judged {
+    for i in 0..n {
+        let number = judge_size(bytes, past(4, i));
+        if number != 0 {
+            return fault(number, past(4, i));
+        }
+    }
+    fault(0, past(4, n))
+}
+
+// n(n-1)/2
+fn most_tables(n: usize) -> usize {
+    if 16 < n {
+        return 0;
+    }
+    if n == 0 {
+        return 0;
+    }
+    pairs_of(n)
+}
+
+// The sum of the numbers below `n`.
+fn pairs_of(n: usize) -> usize {
+    let mut sum = 0;
+    for k in 0..n {
+        sum = past(sum, k);
+    }
+    sum
+}
+
+// The pair at a place, after the pair at the place `before`, 0 for the first.
+fn judge_pair(bytes: &[u8], n: usize, at: usize, before: usize) -> u8 {
+    if bytes.len() < past(at, 2) {
+        return 6;
+    }
+    let a = byte(bytes, at) as usize;
+    let b = byte(bytes, past(at, 1)) as usize;
+    if a == 0 {
+        return 7;
+    }
+    if n < b {
+        return 7;
+    }
+    if b <= a {
+        return 7;
+    }
+    if before == 0 {
+        return 0;
+    }
+    if is_after(bytes, at, before) {
+        return 0;
+    }
+    7
+}
+
+// The pair at `at` is after the pair at `before`: "by a and then by b, none twice".
+fn is_after(bytes: &[u8], at: usize, before: usize) -> bool {
+    let a = byte(bytes, at);
+    let old_a = byte(bytes, before);
+    if a != old_a {
+        return old_a < a;
+    }
+    byte(bytes, past(before, 1)) < byte(bytes, past(at, 1))
+}
+
+// A bit of a row at or above the size.
+fn is_row_wide(row: usize, size: usize) -> bool {
+    if 15 < size {
+        return false;
+    }
+    (row >> size) != 0
+}
+
+fn judge_row(bytes: &[u8], at: usize, size: usize) -> u8 {
+    if bytes.len() < past(at, 2) {
+        return 6;
+    }
+    if is_row_wide(number(bytes, at), size) {
+        return 8;
+    }
+    0
+}
+
+fn judge_rows(bytes: &[u8], from: usize, count: usize, size: usize) -> Judged {
+    let mut at = from;
+    for _ in 0..count {
+        let number = judge_row(bytes, at, size);
+        if number != 0 {
+            return fault(number, at);
+        }
+        at = past(at, 2);
+    }
+    fault(0, at)
+}
+
+fn judge_table(bytes: &[u8], n: usize, at: usize, before: usize) -> Judged {
+    let number = judge_pair(bytes, n, at, before);
+    if number != 0 {
+        return fault(number, at);
+    }
+    let count = size_of(bytes, byte(bytes, at) as usize);
+    let size = size_of(bytes, byte(bytes, past(at, 1)) as usize);
+    judge_rows(bytes, past(at, 2), count, size)
+}
+
+fn judge_tables(bytes: &[u8], n: usize, from: usize, tables: usize) -> Judged {
+    let mut at = from;
+    let mut before = 0;
+    for _ in 0..tables {
+        let table = judge_table(bytes, n, at, before);
+        if table.number != 0 {
+            return table;
+        }
+        before = at;
+        at = table.place;
+    }
+    fault(0, at)
+}
+
+// The tables, counted at a place, and that nothing is left over.
+fn judge_rest(bytes: &[u8], n: usize, at: usize) -> Judged {
+    if bytes.len() <= at {
+        return fault(6, at);
+    }
+    let tables = byte(bytes, at) as usize;
+    if most_tables(n) < tables {
+        return fault(5, at);
+    }
+    let end = judge_tables(bytes, n, past(at, 1), tables);
+    if end.number != 0 {
+        return end;
+    }
+    if end.place < bytes.len() {
+        return fault(6, end.place);
+    }
+    fault(0, 0)
+}
+
+pub fn judge(bytes: &[u8]) -> Judged {
+    if is_length_wrong(bytes) {
+        return fault(1, 0);
+    }
+    if byte(bytes, 0) != 1 {
+        return fault(2, 0);
+    }
+    if bytes.len() <= 3 {
+        return fault(6, 3);
+    }
+    let n = byte(bytes, 3) as usize;
+    if n == 0 {
+        return fault(3, 3);
+    }
+    if 16 < n {
+        return fault(3, 3);
+    }
+    let sizes = judge_sizes(bytes, n);
+    if sizes.number != 0 {
+        return sizes;
+    }
+    judge_rest(bytes, n, sizes.place)
+}

@@ -1,0 +1,17 @@
+-- `test_trial::trials::run` is safe and ends: the loop counts up to its end. Assumes nothing.
+use Prim.Native.Nat.{_-_}
+use borrow.Author.Needs.{needs}
+use Rattle.test_trial.proofs.trials.run.Statement.{statement}
+use Rattle.test_trial.proofs.trials.run.Tie as tie
+
+abbrev Inv-loop : tie.InvT-loop
+Inv-loop seed₀ tally₀ kind₀ seed tally kind = Unit
+
+abbrev μ-loop : tie.MeasureT-loop
+μ-loop seed₀ tally₀ kind₀ seed tally kind = 11 - kind
+
+pub run-spec : {M : Type 1} → statement M
+run-spec =
+    tie.close
+    (tie.spec Inv-loop μ-loop (λ c. search needs) (λ c κs. search needs) (λ c κs. search needs)
+    (λ c. search needs) (λ c. search needs) (λ c. search needs) (λ c. search needs))

@@ -1,0 +1,17 @@
+-- `test_trial::trials::run_kind` is safe and ends: the loop counts up to its end. Assumes nothing.
+use Prim.Native.Nat.{_-_}
+use borrow.Author.Needs.{needs}
+use Rattle.test_trial.proofs.trials.run_kind.Statement.{statement}
+use Rattle.test_trial.proofs.trials.run_kind.Tie as tie
+
+abbrev Inv-loop : tie.InvT-loop
+Inv-loop kind times seed₀ tally₀ counter₀ seed tally counter = Unit
+
+abbrev μ-loop : tie.MeasureT-loop
+μ-loop kind times seed₀ tally₀ counter₀ seed tally counter = times - counter
+
+pub run-kind-spec : {M : Type 1} → statement M
+run-kind-spec =
+    tie.close
+    (tie.spec Inv-loop μ-loop (λ c. search needs) (λ c κs. search needs) (λ c. search needs) (λ c. search needs)
+    (λ c. search needs) (λ c. search needs))

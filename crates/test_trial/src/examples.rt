@@ -1,0 +1,263 @@
+// Fixed examples, each with what it must come to: sheets, refused bytes, steps, and answers on sheet A.
+use crate::lists;
+use crate::lists::expect_text;
+use test_calls::tally::Counts;
+use test_checks::rows::expect_refused;
+
+// Sheets A to F of document 01:
+// sizes 2,3,2; (1,2) 0001 0004; (2,3) 0002 0001 0001
+// sizes 2,3,2; (1,2) 0001 0006; (2,3) 0001 0002 0002
+// sizes 3,3,3,3; (1,2) 0001 0002 0004; (1,3) 0001 0002 0004; (2,4) 0001 0004 0002; (3,4) 0001 0004 0002
+// sizes 3,3,3,3; (1,2) 0001 0002 0004; (1,3) 0001 0002 0004; (2,4) 0001 0002 0004; (3,4) 0001 0004 0002
+// sizes 3,3,3,3; (1,2) 0001 0002 0004; (1,3) 0001 0002 0004; (2,4) 0002 0004 0001; (3,4) 0001 0004 0002
+// sizes 3,3,3,3; (1,2) 0001 0002 0004; (1,3) 0001 0002 0004; (2,4) 0002 0001 0004; (3,4) 0001 0004 0002
+fn a_to_f(seed: &mut u64, tally: &mut Counts) {
+    lists::run(
+        b"S\x16\x01\x00\x13\x03\x02\x03\x02\x02\x01\x02\x00\x01\x00\x04\x02\x03\x00\x02\x00\x01\x00\x01\x0b2B030100101\
+        \x5bOPTIONS 3\nLIVE 1 LIST 0003\nFOLLOWS 2 OF 1\nFOLLOWS 3 OF 1\nSTEPS 2\nVERDICT BUILT\nBUILD 0 0 1\n\
+        S\x16\x01\x00\x13\x03\x02\x03\x02\x02\x01\x02\x00\x01\x00\x06\x02\x03\x00\x01\x00\x02\x00\x02\x0b2B200070200\
+        \x5bOPTIONS 3\nFOLLOWS 1 OF 2\nLIVE 2 LIST 0007\nFOLLOWS 3 OF 2\nSTEPS 2\nVERDICT BUILT\nBUILD 0 0 0\n\
+        S\x29\x01\x00\x26\x04\x03\x03\x03\x03\x04\x01\x02\x00\x01\x00\x02\x00\x04\x01\x03\x00\x01\x00\x02\x00\x04\x02\x04\x00\x01\x00\x04\x00\x02\x03\x04\x00\x01\x00\x04\x00\x02\x0e3B070100100100\
+        \x6cOPTIONS 4\nLIVE 1 LIST 0007\nFOLLOWS 2 OF 1\nFOLLOWS 3 OF 1\nFOLLOWS 4 OF 1\nSTEPS 3\nVERDICT BUILT\nBUILD 0 0 0 0\n\
+        S\x29\x01\x00\x26\x04\x03\x03\x03\x03\x04\x01\x02\x00\x01\x00\x02\x00\x04\x01\x03\x00\x01\x00\x02\x00\x04\x02\x04\x00\x01\x00\x02\x00\x04\x03\x04\x00\x01\x00\x04\x00\x02\x0e3B010100100100\
+        \x6cOPTIONS 4\nLIVE 1 LIST 0001\nFOLLOWS 2 OF 1\nFOLLOWS 3 OF 1\nFOLLOWS 4 OF 1\nSTEPS 3\nVERDICT BUILT\nBUILD 0 0 0 0\n\
+        S\x29\x01\x00\x26\x04\x03\x03\x03\x03\x04\x01\x02\x00\x01\x00\x02\x00\x04\x01\x03\x00\x01\x00\x02\x00\x04\x02\x04\x00\x02\x00\x04\x00\x01\x03\x04\x00\x01\x00\x04\x00\x02\x0e3B021101101102\
+        \x6cOPTIONS 4\nLIVE 1 LIST 0002\nFOLLOWS 2 OF 1\nFOLLOWS 3 OF 1\nFOLLOWS 4 OF 1\nSTEPS 3\nVERDICT BUILT\nBUILD 1 1 1 2\n\
+        S\x29\x01\x00\x26\x04\x03\x03\x03\x03\x04\x01\x02\x00\x01\x00\x02\x00\x04\x01\x03\x00\x01\x00\x02\x00\x04\x02\x04\x00\x02\x00\x01\x00\x04\x03\x04\x00\x01\x00\x04\x00\x02\x0e3N000100100100\
+        \x5dOPTIONS 4\nLIVE 1 LIST 0000\nFOLLOWS 2 OF 1\nFOLLOWS 3 OF 1\nFOLLOWS 4 OF 1\nSTEPS 3\nVERDICT NONE\n",
+        seed,
+        tally,
+    );
+}
+
+// Sheets G to L of document 01:
+// sizes 2,2; (1,2) 0003 0003
+// sizes 2,2; no table
+// sizes 1; no table
+// sizes 2,1; (1,2) 0001 0000
+// sizes 2,2,2; (1,3) 0001 0002; (2,3) 0001 0002
+// sizes 2,2; (1,2) 0001 0001
+fn g_to_l(seed: &mut u64, tally: &mut Counts) {
+    lists::run(
+        b"S\x0d\x01\x00\x0a\x02\x02\x02\x01\x01\x02\x00\x03\x00\x03\x080O030030\
+        \x41OPTIONS 2\nLIVE 1 LIST 0003\nLIVE 2 LIST 0003\nSTEPS 0\nVERDICT OPEN\n\
+        S\x07\x01\x00\x04\x02\x02\x02\x00\x080O030030\
+        \x41OPTIONS 2\nLIVE 1 LIST 0003\nLIVE 2 LIST 0003\nSTEPS 0\nVERDICT OPEN\n\
+        S\x06\x01\x00\x03\x01\x01\x00\x050B010\
+        \x39OPTIONS 1\nLIVE 1 LIST 0001\nSTEPS 0\nVERDICT BUILT\nBUILD 0\n\
+        S\x0d\x01\x00\x0a\x02\x02\x01\x01\x01\x02\x00\x01\x00\x00\x081B010100\
+        \x4aOPTIONS 2\nLIVE 1 LIST 0001\nFOLLOWS 2 OF 1\nSTEPS 1\nVERDICT BUILT\nBUILD 0 0\n\
+        S\x14\x01\x00\x11\x03\x02\x02\x02\x02\x01\x03\x00\x01\x00\x02\x02\x03\x00\x01\x00\x02\x0b2B030100100\
+        \x5bOPTIONS 3\nLIVE 1 LIST 0003\nFOLLOWS 2 OF 1\nFOLLOWS 3 OF 1\nSTEPS 2\nVERDICT BUILT\nBUILD 0 0 0\n\
+        S\x0d\x01\x00\x0a\x02\x02\x02\x01\x01\x02\x00\x01\x00\x01\x081B030100\
+        \x4aOPTIONS 2\nLIVE 1 LIST 0003\nFOLLOWS 2 OF 1\nSTEPS 1\nVERDICT BUILT\nBUILD 0 0\n",
+        seed,
+        tally,
+    );
+}
+
+// A list that shrank makes a table functional, and followers are handed on:
+// sizes 2,2,1; (1,2) 0003 0003; (2,3) 0001 0000
+// sizes 2,2,2; (1,2) 0001 0000; (1,3) 0001 0003
+// sizes 1,2,1; (1,2) 0003; (2,3) 0000 0001
+// sizes 2,2,3,3; (1,2) 0003 0001; (2,3) 0006 0001; (2,4) 0000 0004
+fn shrunk(seed: &mut u64, tally: &mut Counts) {
+    lists::run(
+        b"S\x14\x01\x00\x11\x03\x02\x02\x01\x02\x01\x02\x00\x03\x00\x03\x02\x03\x00\x01\x00\x00\x0b2B030100100\
+        \x5bOPTIONS 3\nLIVE 1 LIST 0003\nFOLLOWS 2 OF 1\nFOLLOWS 3 OF 1\nSTEPS 2\nVERDICT BUILT\nBUILD 0 0 0\n\
+        S\x14\x01\x00\x11\x03\x02\x02\x02\x02\x01\x02\x00\x01\x00\x00\x01\x03\x00\x01\x00\x03\x0b2B010100100\
+        \x5bOPTIONS 3\nLIVE 1 LIST 0001\nFOLLOWS 2 OF 1\nFOLLOWS 3 OF 1\nSTEPS 2\nVERDICT BUILT\nBUILD 0 0 0\n\
+        S\x12\x01\x00\x0f\x03\x01\x02\x01\x02\x01\x02\x00\x03\x02\x03\x00\x00\x00\x01\x0b2B200021200\
+        \x5bOPTIONS 3\nFOLLOWS 1 OF 2\nLIVE 2 LIST 0002\nFOLLOWS 3 OF 2\nSTEPS 2\nVERDICT BUILT\nBUILD 0 1 0\n\
+        S\x1b\x01\x00\x18\x04\x02\x02\x03\x03\x03\x01\x02\x00\x03\x00\x01\x02\x03\x00\x06\x00\x01\x02\x04\x00\x00\x00\x04\x0e3B010101100102\
+        \x6cOPTIONS 4\nLIVE 1 LIST 0001\nFOLLOWS 2 OF 1\nFOLLOWS 3 OF 1\nFOLLOWS 4 OF 1\nSTEPS 3\nVERDICT BUILT\nBUILD 0 1 0 2\n",
+        seed,
+        tally,
+    );
+}
+
+// A ring without a build, two parts, tables and lists that are empty:
+// sizes 2,2,2,2; (1,2) 0001 0002; (1,4) 0002 0001; (2,3) 0001 0002; (3,4) 0001 0002
+// sizes 2,2,2,2; (1,2) 0001 0002; (3,4) 0002 0001
+// sizes 2,2; (1,2) 0000 0000
+// sizes 2,2,2; (1,2) 0000 0000; (1,3) 0003 0003
+// sizes 1,1,1; (1,3) 0001; (2,3) 0001
+// sizes 3,3,2; (1,2) 0006 0006 0001; (1,3) 0000 0000 0001; (2,3) 0001 0002 0002
+fn empty(seed: &mut u64, tally: &mut Counts) {
+    lists::run(
+        b"S\x21\x01\x00\x1e\x04\x02\x02\x02\x02\x04\x01\x02\x00\x01\x00\x02\x01\x04\x00\x02\x00\x01\x02\x03\x00\x01\x00\x02\x03\x04\x00\x01\x00\x02\x0e3N000100100100\x00\
+        S\x15\x01\x00\x12\x04\x02\x02\x02\x02\x02\x01\x02\x00\x01\x00\x02\x03\x04\x00\x02\x00\x01\x0e2O030100030300\x00\
+        S\x0d\x01\x00\x0a\x02\x02\x02\x01\x01\x02\x00\x00\x00\x00\x081N000100\x00\
+        S\x14\x01\x00\x11\x03\x02\x02\x02\x02\x01\x02\x00\x00\x00\x00\x01\x03\x00\x03\x00\x03\x0b2N000100100\x00\
+        S\x10\x01\x00\x0d\x03\x01\x01\x01\x02\x01\x03\x00\x01\x02\x03\x00\x01\x0b2B010100100\x00\
+        S\x20\x01\x00\x1d\x03\x03\x03\x02\x03\x01\x02\x00\x06\x00\x06\x00\x01\x01\x03\x00\x00\x00\x00\x00\x01\x02\x03\x00\x01\x00\x02\x00\x02\x0b2B042100100\x00",
+        seed,
+        tally,
+    );
+}
+
+// Number 1 is tested first, then 2, and then the fields in file order: n, the sizes and the number of tables, each cut off, wrong, or left over.
+fn refused_heads(seed: &mut u64, tally: &mut Counts) {
+    lists::run(
+        b"R\x01\x00\x00\
+        R\x01\x00\x02\x01\x00\
+        R\x01\x00\x03\x01\x00\x01\
+        R\x01\x00\x03\x02\x00\x01\
+        R\x01\x00\x06\x01\x00\x02\x01\x01\x00\
+        R\x02\x00\x03\x02\x00\x00\
+        R\x02\x00\x06\x00\x00\x03\x01\x01\x00\
+        R\x02\x00\x04\x02\x00\x01\x00\
+        R\x06\x03\x03\x01\x00\x00\
+        R\x03\x03\x04\x01\x00\x01\x00\
+        R\x03\x03\x04\x01\x00\x01\x11\
+        R\x06\x04\x04\x01\x00\x01\x10\
+        R\x04\x04\x05\x01\x00\x02\x01\x00\
+        R\x04\x04\x05\x01\x00\x02\x02\x11\
+        R\x04\x05\x06\x01\x00\x03\x02\x10\x00\
+        R\x06\x05\x05\x01\x00\x02\x02\x02\
+        R\x06\x06\x06\x01\x00\x03\x02\x02\x02\
+        R\x05\x05\x06\x01\x00\x03\x01\x01\x01\
+        R\x05\x06\x07\x01\x00\x04\x02\x02\x02\x02\
+        R\x06\x06\x07\x01\x00\x04\x01\x01\x00\x00",
+        seed,
+        tally,
+    );
+}
+
+// Pairs that are cut off or wrong; rows that are cut off or wrong, and a byte left over; two tables out of order, and the first of two faults.
+fn refused_tables(seed: &mut u64, tally: &mut Counts) {
+    lists::run(
+        b"R\x06\x07\x07\x01\x00\x04\x02\x02\x02\x01\
+        R\x06\x07\x08\x01\x00\x05\x02\x02\x02\x01\x00\
+        R\x07\x07\x09\x01\x00\x06\x02\x02\x02\x01\x00\x02\
+        R\x07\x07\x09\x01\x00\x06\x02\x02\x02\x01\x01\x03\
+        R\x07\x07\x09\x01\x00\x06\x02\x02\x02\x01\x02\x02\
+        R\x07\x07\x09\x01\x00\x06\x02\x02\x02\x01\x02\x01\
+        R\x06\x09\x09\x01\x00\x06\x02\x02\x02\x01\x01\x02\
+        R\x06\x09\x0a\x01\x00\x07\x02\x02\x02\x01\x01\x02\xff\
+        R\x08\x09\x0b\x01\x00\x08\x02\x02\x02\x01\x01\x02\x00\x04\
+        R\x08\x0b\x0d\x01\x00\x0a\x02\x02\x02\x01\x01\x02\x00\x03\x01\x00\
+        R\x06\x0b\x0c\x01\x00\x09\x02\x02\x02\x01\x01\x02\x00\x03\x00\
+        R\x06\x0d\x0e\x01\x00\x0b\x02\x02\x02\x01\x01\x02\x00\x03\x00\x03\x00\
+        R\x07\x0c\x10\x01\x00\x0d\x03\x01\x01\x01\x02\x01\x02\x00\x01\x01\x02\x00\x01\
+        R\x07\x0c\x10\x01\x00\x0d\x03\x01\x01\x01\x02\x02\x03\x00\x01\x01\x02\x00\x01\
+        R\x08\x0a\x10\x01\x00\x0d\x03\x01\x01\x01\x02\x01\x02\x00\x02\x00\x00\x00\x00\
+        R\x07\x0c\x10\x01\x00\x0d\x03\x01\x01\x01\x02\x01\x03\x00\x01\x01\x02\x00\x02",
+        seed,
+        tally,
+    );
+}
+
+// Numbers 10 to 13, with 10 before 11.
+fn refused_steps(seed: &mut u64, tally: &mut Counts) {
+    lists::run(
+        b"EA\x00\x00\x0a\x0a\
+        EA\x00\x01\x0a\x0a\
+        EA\x01\x00\x0a\x0a\
+        EA\x04\x04\x0a\x0a\
+        EA\x01\x04\x0a\x0a\
+        EA\xff\x01\x0a\x0a\
+        EA\x01\x01\x0b\x0b\
+        EA\x01\x03\x0c\x0c\
+        EA\x03\x02\x0d\x0d\
+        EB\x01\x02\x0d\x0d",
+        seed,
+        tally,
+    );
+}
+
+// A step that is taken can not be taken again.
+fn second_steps(seed: &mut u64, tally: &mut Counts) {
+    lists::run(
+        b"EA\x01\x02\x00\x0b\
+        EA\x02\x01\x00\x0b\
+        EA\x02\x03\x00\x0b\
+        EB\x02\x01\x00\x0b",
+        seed,
+        tally,
+    );
+}
+
+// The tester says yes (64), no (65), or 15, which comes before a plain no. All options are live for the completer as read: 15 before 16. Numbers 14 and 17.
+fn replies_as_read(seed: &mut u64, tally: &mut Counts) {
+    lists::run(
+        b"TA\x00\x00\x01\x64\
+        TA\x01\x02\x00\x64\
+        TA\x00\x00\x00\x65\
+        TA\x00\x01\x02\x0f\
+        TA\xff\x00\x01\x0f\
+        CA\x00\x00\x01\x00\x00\x00\x01\
+        CA\x00\x01\x00\x10\x00\x01\x00\
+        CA\x00\x01\x02\x0f\x00\x01\x02\
+        CA\x00\x10\x01\x0f\x00\x10\x01\
+        LA\x02\
+        LA\x04\
+        WA\x00\x15\x11",
+        seed,
+        tally,
+    );
+}
+
+// The same reduced, where option 1 alone is live. Numbers 14 and 18, with 18 before 17.
+fn replies_reduced(seed: &mut u64, tally: &mut Counts) {
+    lists::run(
+        b"Ta\x00\x00\x01\x64\
+        Ta\x01\x02\x00\x64\
+        Ta\x01\x00\x01\x65\
+        Ta\x00\x03\x01\x0f\
+        Ca\x00\xc8\x07\x00\x00\x00\x01\
+        Ca\x01\x00\xff\x00\x01\x02\x00\
+        Ca\x02\x00\x00\x0f\x02\x00\x00\
+        La\x10\
+        Wa\x10\x80\x12\
+        Wa\x00\x00\x12",
+        seed,
+        tally,
+    );
+}
+
+// "Another refusal prints its number and place, decimal, in that form, and nothing else."
+fn refused_texts(seed: &mut u64, tally: &mut Counts) {
+    lists::run(
+        b"P\x00\x0fREFUSED 1 AT 0\n\
+        P\x03\x02\x00\x00\x0fREFUSED 2 AT 0\n\
+        P\x03\x01\x00\x00\x0fREFUSED 6 AT 3\n\
+        P\x10\x01\x00\x0d\x03\x01\x01\x01\x02\x01\x02\x00\x01\x01\x02\x00\x01\x10REFUSED 7 AT 12\n",
+        seed,
+        tally,
+    );
+}
+
+// More bytes than the largest sheet has: zeros, and with the version and the count right.
+fn refused_long(tally: &mut Counts) {
+    let mut bytes = [0u8; 4102];
+    expect_text(&bytes, b"REFUSED 1 AT 0\n", tally);
+    bytes[0] = 1;
+    bytes[1] = 16;
+    bytes[2] = 3;
+    expect_refused(&bytes, 1, 0, tally);
+}
+
+fn run_sheets(seed: &mut u64, tally: &mut Counts) {
+    a_to_f(seed, tally);
+    g_to_l(seed, tally);
+    shrunk(seed, tally);
+    empty(seed, tally);
+}
+
+fn run_refused(seed: &mut u64, tally: &mut Counts) {
+    refused_heads(seed, tally);
+    refused_tables(seed, tally);
+    refused_texts(seed, tally);
+    refused_long(tally);
+}
+
+// All examples.
+pub(crate) fn run(seed: &mut u64, tally: &mut Counts) {
+    run_sheets(seed, tally);
+    run_refused(seed, tally);
+    refused_steps(seed, tally);
+    second_steps(seed, tally);
+    replies_as_read(seed, tally);
+    replies_reduced(seed, tally);
+}

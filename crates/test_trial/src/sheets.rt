@@ -1,0 +1,67 @@
+// One input: it is read, and where it is a sheet a list of calls runs on it.
+use state::State;
+use test_builds::builds;
+use test_builds::cuts;
+use test_calls::tally;
+use test_calls::tally::Counts;
+use test_checks::lists;
+use test_checks::reads;
+use test_checks::unsound;
+use test_inputs::families;
+use test_inputs::families::ROOM;
+use test_inputs::random;
+
+// The writer takes a state back exactly when no step was taken since it was read.
+fn check_writer(bytes: &[u8], state: State, steps: usize, tally: &mut Counts) {
+    if steps == 0 {
+        reads::check_round_trip(bytes, state, tally);
+        return;
+    }
+    reads::check_unwritten(state, ROOM, 18, tally);
+    reads::check_unwritten(state, 0, 18, tally);
+}
+
+// All tuples of a sheet of a small family, some of another.
+fn check_builds(family: u8, bytes: &[u8], state: State, seed: &mut u64, tally: &mut Counts) {
+    if family < families::LARGE {
+        builds::check_all(bytes, state, seed, tally);
+        return;
+    }
+    builds::check_some(bytes, state, 20, seed, tally);
+    builds::check_verdict(bytes, state, tally);
+}
+
+// What holds whatever the family: refused calls, writing back, and a state with a fault.
+fn check_last(bytes: &[u8], state: State, steps: usize, seed: &mut u64, tally: &mut Counts) {
+    builds::check_refusals(bytes, state, seed, tally);
+    check_writer(bytes, state, steps, tally);
+    unsound::check(state, seed, tally);
+}
+
+// A list of calls on a sheet that was read, and all that is claimed of the state handed back last.
+fn check_run(family: u8, bytes: &[u8], state: State, seed: &mut u64, tally: &mut Counts) {
+    let calls = random::index(seed, 8);
+    let run = lists::check_list(state, calls, seed, tally);
+    let last = run.state;
+    check_last(bytes, last, run.steps, seed, tally);
+    check_builds(family, bytes, last, seed, tally);
+}
+
+// Bytes that are read, and a list of calls where they are a sheet, which it answers.
+pub(crate) fn check_bytes(family: u8, bytes: &[u8], seed: &mut u64, tally: &mut Counts) -> bool {
+    let reading = reads::check(bytes, tally);
+    cuts::check(bytes, reading, tally);
+    if reading.number != 0 {
+        return false;
+    }
+    let state = reading.state;
+    reads::check_round_trip(bytes, state, tally);
+    check_run(family, bytes, state, seed, tally);
+    true
+}
+
+// A sheet that must be accepted.
+pub(crate) fn check_sheet(family: u8, bytes: &[u8], seed: &mut u64, tally: &mut Counts) {
+    let is_accepted = check_bytes(family, bytes, seed, tally);
+    tally::hold(tally, is_accepted);
+}
