@@ -132,10 +132,13 @@ fn expected_verdict(state: State) -> u8 {
     OPEN
 }
 
-// The build shown is a build of the sheet, zero past n; with NONE or OPEN it is all zero.
-fn is_shown(bytes: &[u8], verdict: u8, n: usize, solution: &[u8; 16]) -> bool {
+// The build shown is a build of the sheet, each live option at its lowest value, zero past n; with NONE or OPEN it is all zero.
+fn is_shown(bytes: &[u8], state: State, verdict: u8, solution: &[u8; 16]) -> bool {
     if verdict == BUILT {
-        return brute::is_build(bytes, solution) & fields::is_zero_from(solution, n);
+        let is_lowest = choices::are_lowest(states::free(state), &state.domains, solution);
+        return brute::is_build(bytes, solution)
+            & is_lowest
+            & fields::is_zero_from(solution, state.n);
     }
     fields::is_zero_from(solution, 0)
 }
@@ -144,7 +147,7 @@ fn is_shown(bytes: &[u8], verdict: u8, n: usize, solution: &[u8; 16]) -> bool {
 pub fn check_verdict(bytes: &[u8], state: State, tally: &mut Counts) -> u8 {
     let expected = expected_verdict(state);
     let answer = calls::verdict(state);
-    let is_shown = is_shown(bytes, expected, state.n, &answer.solution);
+    let is_shown = is_shown(bytes, state, expected, &answer.solution);
     let is_same = answer.verdict == expected;
     tally::expect(tally, tally::VERDICTS, is_same & is_shown);
     expected

@@ -1,4 +1,5 @@
 // Choices of values for the live options, and the lists that they are drawn from. `free` has the live options as bits.
+use crate::fields::bit_if;
 use crate::fields::byte_at;
 use crate::fields::has;
 use crate::fields::row_at;
@@ -101,4 +102,26 @@ pub fn has_empty_list(free: u16, domains: &[u16; 16]) -> bool {
         }
     }
     false
+}
+
+fn is_lowest(free: u16, domains: &[u16; 16], tuple: &[u8; 16], i: usize) -> bool {
+    if !has(free, i) {
+        return true;
+    }
+    let domain = word_at(domains, i);
+    if domain == 0 {
+        return false;
+    }
+    let value = byte_at(tuple, i);
+    has(domain, value) & (bit_if(true, value) == domain ^ (domain & (domain - 1)))
+}
+
+// Each live option has the lowest value of its list.
+pub fn are_lowest(free: u16, domains: &[u16; 16], tuple: &[u8; 16]) -> bool {
+    for i in 0..16 {
+        if !is_lowest(free, domains, tuple, i) {
+            return false;
+        }
+    }
+    true
 }

@@ -235,6 +235,7 @@ fn refused_long(tally: &mut Counts) {
     bytes[0] = 1;
     bytes[1] = 16;
     bytes[2] = 3;
+    expect_text(&bytes, b"REFUSED 1 AT 0\n", tally);
     expect_refused(&bytes, 1, 0, tally);
 }
 
