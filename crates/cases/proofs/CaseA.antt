@@ -22,8 +22,8 @@ use Rattle.network.specs.Reduction.{freeCount, leading, reducible, nextLeader, 
 use Rattle.network.specs.Sheet.{Sheet, isFor, tabled, rowFor, networkOf}
 use Rattle.network.specs.Completion.{BUILT, follow, completed, lowest, exhausted, decided, verdict, lowestBuild, shown}
 use Rattle.network.proofs.Reduction.{reduce-run, run-keeps}
-use Rattle.format.specs.Layout.{version1, countTest, sizeTest, constraintsTest, pairTest, withinTest}
-use Rattle.format.specs.Parse.{got, bind, numberAt, judged, field, many, fields, pairOf, sizeOf, parseTable, parseTables, ended, parseBody, wrongLength, parse}
+use Rattle.format.specs.Layout.{countTest, sizeTest, constraintsTest, pairTest, withinTest, longest, version1, layouts, layoutAmong, layoutOf}
+use Rattle.format.specs.Parse.{got, bind, numberAt, judged, field, many, fields, pairOf, sizeOf, parseTable, parseTables, ended, parseBody, wrongLength, parseIn, parse}
 use Rattle.rows.specs.Rows.{rowsOf}
 use Rattle.state.specs.declared.state.State.{State}
 use Rattle.answers.specs.Answers.{rules}
@@ -57,12 +57,12 @@ sheetLast =
       tables = record { first = 1; second = 2; rows = 1 ∷ 4 ∷ [] } ∷ record { first = 1; second = 3; rows = 2 ∷ 1 ∷ [] } ∷ [];
     }
 
-parsed-A : parse version1 bytesA ≡ got sheetA 22
-unfolding or not if countTest sizeTest constraintsTest pairTest withinTest version1 bind numberAt judged field many fields pairOf sizeOf parseTable parseTables ended parseBody wrongLength parse bytesA sheetA
+parsed-A : parse bytesA ≡ got sheetA 22
+unfolding or not if countTest sizeTest constraintsTest pairTest withinTest longest version1 layouts layoutAmong layoutOf bind numberAt judged field many fields pairOf sizeOf parseTable parseTables ended parseBody wrongLength parseIn parse bytesA sheetA
 parsed-A = refl
 
-parsed-last : parse version1 bytesLast ≡ got sheetLast 20
-unfolding or not if countTest sizeTest constraintsTest pairTest withinTest version1 bind numberAt judged field many fields pairOf sizeOf parseTable parseTables ended parseBody wrongLength parse bytesLast sheetLast
+parsed-last : parse bytesLast ≡ got sheetLast 20
+unfolding or not if countTest sizeTest constraintsTest pairTest withinTest longest version1 layouts layoutAmong layoutOf bind numberAt judged field many fields pairOf sizeOf parseTable parseTables ended parseBody wrongLength parseIn parse bytesLast sheetLast
 parsed-last = refl
 
 -- Bytes are below 256.

@@ -1,6 +1,10 @@
 pub mod Numbers
 pub mod Parse
+pub mod Layouts
+pub mod All
+pub mod Lengths
 pub mod RoundTrip
 pub mod SheetOf
 pub mod Builds
 pub mod Places
+pub mod Largest

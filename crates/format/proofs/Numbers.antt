@@ -8,7 +8,7 @@ use native.Mathlib.Numerals.{add-one}
 use native.Mathlib.Omega.{arith}
 use lib.ListN.{length, getD, take, drop, length-append, List·getD-append}
 use lib.Seq.{drop-append-seam, drop-drop, drop-cons, drop-length, getD-drop}
-use Rattle.format.specs.Parse.{numberAt}
+use Rattle.format.specs.Parse.{Octets, numberAt}
 use Rattle.format.specs.Print.{bytesOf}
 
 -- At a place of the bytes stands a text, and from `next` on what follows it.
@@ -71,7 +71,7 @@ stands-self text =
 pub length-bytesOf : (k v : ℕ) → length (bytesOf k v) ≡ k
 unfolding bytesOf
 length-bytesOf zero v = refl
-length-bytesOf (suc k) v = ap suc (length-bytesOf k v)
+length-bytesOf (suc k) v = ap suc (length-bytesOf k _)
 
 pow-pos : (k : ℕ) → 0 < 256 ^ k
 pow-pos k = one-le-pow k 256 (omega arith)
@@ -86,13 +86,6 @@ below k b w hb hw =
     let e : suc b * 256 ^ k ≡ b * 256 ^ k + 256 ^ k = suc-mul b (256 ^ k) in
     let p : 256 ^ suc k ≡ 256 * 256 ^ k = pow-succ' 256 k in
     omega arith
-
--- The bytes of a number do not depend on what it has beyond them.
-bytesOf-low : (k c w : ℕ) → bytesOf k (c * 256 ^ k + w) ≡ bytesOf k w
-unfolding bytesOf
-bytesOf-low zero c w = refl
-bytesOf-low (suc k) c w =
-    rw (carry k c, mul-add-div-right (pow-pos k) (c * 256) w, mul-add-mod-self-right c 256 (w / 256 ^ k), bytesOf-low k (c * 256) w)
 
 -- The last k + 1 bytes of a number: one, and then k.
 low-digits : (k v : ℕ) → v / 256 ^ k % 256 * 256 ^ k + v % 256 ^ k ≡ v % 256 ^ suc k
@@ -118,8 +111,15 @@ number-low (suc k) v bytes at next h =
 pub number-of-bytes : (k v : ℕ) (bytes : List ℕ) (at next : ℕ) → v < 256 ^ k → Stands bytes at (bytesOf k v) next → numberAt k bytes at ≡ v
 number-of-bytes k v bytes at next l h = number-low k v bytes at next h ∙ mod-eq-of-lt l
 
+-- The bytes of a number do not depend on what it has beyond them.
+bytesOf-low : (k c w : ℕ) → bytesOf k (c * 256 ^ k + w) ≡ bytesOf k w
+unfolding bytesOf
+bytesOf-low zero c w = refl
+bytesOf-low (suc k) c w =
+    rw (carry k c, mul-add-div-right (pow-pos k) (c * 256) w, mul-add-mod-self-right c 256 (w / 256 ^ k), bytesOf-low k (c * 256) w)
+
 -- Writing what was read.
-module _ (bytes : List ℕ) (octets : (k : ℕ) → getD bytes k 0 < 256) where
+module _ (bytes : List ℕ) (octets : Octets bytes) where
   pub number-below : (k at : ℕ) → numberAt k bytes at < 256 ^ k
   unfolding numberAt
   number-below zero at = omega arith

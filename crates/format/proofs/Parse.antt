@@ -6,13 +6,13 @@ use Prim.Native.Nat.{ℕ, suc, _+_, _-_, _*_, _/_, _%_, _≤_, _<_, _^_}
 use native.Mathlib.Omega.{arith}
 use lib.Dec.{eqb, ltb}
 use lib.ListN.{length, getD}
-use borrow.Author.Tests.{lt-ltb, le-ltb, lt-leb, eq-eqb, ne-eqb, ltb-true, ltb-false, eqb-true, eqb-false}
+use borrow.Author.Tests.{lt-ltb, le-ltb, eq-eqb, ne-eqb, lt-leb, ltb-true, ltb-false, leb-false, eqb-true, eqb-false}
 use Rattle.bounded.specs.Bool.{or, if}
-use Rattle.bounded.proofs.Bool.{by-cases, or-false-l, or-false-r, or-false-i, not-i, not-false-e, not-false-i, if-true, if-false}
+use Rattle.bounded.proofs.Bool.{by-cases, or-false-l, or-false-r, or-false-i, not-false-e, not-false-i, if-true, if-false}
 use Rattle.cause.specs.declared.Cause.{Cause}
 use Rattle.cause.specs.declared.Cause.the-variants.{Length, Version, CutOff}
-use Rattle.format.specs.Layout.{Layout, Test, fine, fault, countTest, sizeTest, constraintsTest, pairTest, withinTest}
-use Rattle.format.specs.Parse.{Parse, got, bad, bind, numberAt, judged, field, many, parseBody, wrongLength, parse}
+use Rattle.format.specs.Layout.{Layout, Test, fine, fault, countTest, sizeTest, constraintsTest, pairTest, withinTest, longest, found, unknown, layoutOf}
+use Rattle.format.specs.Parse.{Parse, got, bad, bind, numberAt, judged, field, many, parseBody, wrongLength, parseIn, parse}
 
 -- P holds of the value and of the place after it, if the parser gets one.
 pub data Where {A : Type 0} (P : A → ℕ → Type 0) : Parse A → Type 0 where
@@ -150,19 +150,23 @@ fine-pair n previous pair h =
     if-false _ _ _ (or-false-i _ _ zeros highs) ∙ if-false _ _ _ (not-false-i _ (lt-ltb _ _ (h .ordered)))
     ∙ if-false _ _ _ (not-false-i _ (lt-ltb _ _ (h .after)))
 
+pub row-of-fine : (size row : ℕ) → withinTest size row ≡ fine → row < 2 ^ size
+unfolding withinTest
+row-of-fine size row h = leb-false _ _ (fine-unless _ _ _ h .0)
+
 -- Every row below 2 to the size passes: "An all-zero row is allowed."
 pub fine-row : (size row : ℕ) → row < 2 ^ size → withinTest size row ≡ fine
 unfolding withinTest
 fine-row size row h = if-false _ _ _ (lt-leb _ _ h)
 
 -- The length of the bytes, and byte 0.
-pub record LengthFits (L : Layout) (bytes : List ℕ) : Type 0 where
+pub record LengthFits (bytes : List ℕ) : Type 0 where
   pub at-least-three : 3 ≤ length bytes
-  pub not-too-long : length bytes ≤ L .longest
+  pub not-too-long : length bytes ≤ longest
   pub as-counted : length bytes ≡ 3 + numberAt 2 bytes 1
 
-module _ (L : Layout) (bytes : List ℕ) where
-  pub length-fits : wrongLength L bytes ≡ false → LengthFits L bytes
+module _ (bytes : List ℕ) where
+  pub length-fits : wrongLength bytes ≡ false → LengthFits bytes
   unfolding wrongLength
   length-fits h =
       record {
@@ -171,20 +175,20 @@ module _ (L : Layout) (bytes : List ℕ) where
         as-counted = eqb-true _ _ (not-false-e _ (or-false-r _ _ (or-false-r _ _ h)));
       }
 
-  pub right-length : LengthFits L bytes → wrongLength L bytes ≡ false
+  pub right-length : LengthFits bytes → wrongLength bytes ≡ false
   unfolding wrongLength
   right-length h =
       or-false-i _ _ (le-ltb _ _ (h .at-least-three))
       (or-false-i _ _ (le-ltb _ _ (h .not-too-long)) (not-false-i _ (eq-eqb _ _ (h .as-counted))))
 
-  pub parse-wrong-length : wrongLength L bytes ≡ true → parse L bytes ≡ bad Length 0
+  pub parse-wrong-length : wrongLength bytes ≡ true → parse bytes ≡ bad Length 0
   unfolding parse
   parse-wrong-length h = if-true _ _ _ h
 
-  pub parse-wrong-version : wrongLength L bytes ≡ false → eqb (getD bytes 0 0) (L .version) ≡ false → parse L bytes ≡ bad Version 0
-  unfolding parse
-  parse-wrong-version h v = if-false _ _ _ h ∙ if-true _ _ _ (not-i _ v)
+  pub parse-wrong-version : wrongLength bytes ≡ false → layoutOf (getD bytes 0 0) ≡ unknown → parse bytes ≡ bad Version 0
+  unfolding parse parseIn
+  parse-wrong-version h v = if-false _ _ _ h ∙ rw v
 
-  pub parse-is-body : wrongLength L bytes ≡ false → eqb (getD bytes 0 0) (L .version) ≡ true → parse L bytes ≡ parseBody L bytes
-  unfolding parse
-  parse-is-body h v = if-false _ _ _ h ∙ if-false _ _ _ (not-false-i _ v)
+  pub parse-is-body : wrongLength bytes ≡ false → (L : Layout) → layoutOf (getD bytes 0 0) ≡ found L → parse bytes ≡ parseBody L bytes
+  unfolding parse parseIn
+  parse-is-body h L v = if-false _ _ _ h ∙ rw v

@@ -3,14 +3,15 @@ use mathlib.Core.List.{List}
 use mathlib.Core.Path.{_≡_, subst}
 use Prim.Native.Nat.{ℕ, zero, suc, _+_, _≤_}
 use native.Mathlib.Omega.{arith}
-use lib.Dec.{eqb, ltb}
+use lib.Dec.{ltb}
 use lib.ListN.{length, getD}
 use borrow.Author.Tests.{ltb-false}
 use Rattle.bounded.proofs.Bool.{by-cases, if-true, if-false}
 use Rattle.cause.specs.declared.Cause.{Cause}
 use Rattle.network.specs.Sheet.{Sheet}
-use Rattle.format.specs.Layout.{Layout, Test, fine, fault}
+use Rattle.format.specs.Layout.{Layout, Test, fine, fault, longest, layoutOf}
 use Rattle.format.specs.Parse.{Parse, got, bad, bind, judged, field, many, fields, parseTable, parseTables, ended, parseBody, wrongLength, parse}
+use Rattle.format.proofs.Layouts.{found-or-unknown}
 use Rattle.format.proofs.Parse.{length-fits, parse-wrong-length, parse-wrong-version, parse-is-body}
 
 -- The place after what was got, or the place of the fault, is at most m.
@@ -75,15 +76,15 @@ module _ (bytes : List ℕ) where
       bind-within _ (many-within _ _ (λ s at k. table-within L sizes s at k) p 0 next l) (λ tables next l.
       ended-within _ next l))))
 
-  parse-within : (L : Layout) → Within (L .longest) (parse L bytes)
-  parse-within L =
-      by-cases (wrongLength L bytes)
-      (λ t. rw (parse-wrong-length L bytes t) (bad-within {at = 0} (omega arith)))
-      (λ t. by-cases (eqb (getD bytes 0 0) (L .version))
-      (λ v. let F = length-fits L bytes t in
-      rw (parse-is-body L bytes t v) (within-less (F .not-too-long) (body-within L (F .at-least-three))))
-      (λ v. rw (parse-wrong-version L bytes t v) (bad-within {at = 0} (omega arith))))
+  parse-within : Within longest (parse bytes)
+  parse-within =
+      by-cases (wrongLength bytes)
+      (λ t. rw (parse-wrong-length bytes t) (bad-within {at = 0} (omega arith)))
+      (λ t. found-or-unknown (layoutOf (getD bytes 0 0))
+      (λ v. rw (parse-wrong-version bytes t v) (bad-within {at = 0} (omega arith)))
+      (λ L v. let F = length-fits bytes t in
+      rw (parse-is-body bytes t L v) (within-less (F .not-too-long) (body-within L (F .at-least-three)))))
 
   -- The place of a refusal is within the largest sheet.
-  pub refused-place : (L : Layout) {c : Cause} {at : ℕ} → parse L bytes ≡ bad c at → at ≤ L .longest
-  refused-place L e = of-bad (subst (Within (L .longest)) e (parse-within L))
+  pub refused-place : {c : Cause} {at : ℕ} → parse bytes ≡ bad c at → at ≤ longest
+  refused-place e = of-bad (subst (Within longest) e parse-within)

@@ -1,17 +1,16 @@
 -- Parsing and printing undo one another: proved once for each combinator.
 use mathlib.Core.List.{List, [], _∷_, _++_}
 use mathlib.Core.Path.{_≡_, refl, _∙_, ap}
-use Prim.Native.Nat.{ℕ, zero, suc, _+_, _-_, _*_, _/_, _%_, _^_, _≤_, _<_}
-use native.Mathlib.Nat.{mul-le-mul}
+use Prim.Native.Nat.{ℕ, zero, suc, _+_, _-_, _/_, _%_, _^_, _≤_, _<_}
 use native.Mathlib.Omega.{arith}
-use lib.Dec.{eqb, ltb}
+use lib.Dec.{ltb}
 use lib.ListN.{length, getD}
-use borrow.Author.Tests.{le-ltb, ltb-false, eq-eqb, eqb-true}
+use borrow.Author.Tests.{le-ltb, ltb-false}
 use Rattle.bounded.proofs.Bool.{by-cases, if-true, if-false}
 use Rattle.cause.specs.declared.Cause.the-variants.{LeftOver}
 use Rattle.network.specs.Sheet.{Table, Sheet}
-use Rattle.format.specs.Layout.{Layout, Test, fine, countTest, sizeTest, constraintsTest, pairTest, version1}
-use Rattle.format.specs.Parse.{Parse, got, bad, numberAt, field, many, fields, pairOf, sizeOf, parseTable, parseTables, ended, parseBody}
+use Rattle.format.specs.Layout.{Layout, Test, fine, countTest, sizeTest, constraintsTest, pairTest, longest, found, layoutOf}
+use Rattle.format.specs.Parse.{Octets, Parse, got, bad, numberAt, field, many, fields, pairOf, sizeOf, parseTable, parseTables, ended, parseBody}
 use Rattle.format.specs.Parse.{wrongLength, parse}
 use Rattle.format.specs.Print.{bytesOf, printAll, printTable, printBody, print}
 use Rattle.format.specs.WellFormed.{All, TableFits, Ascend, WellFormed}
@@ -21,6 +20,8 @@ use Rattle.format.proofs.Parse.{Where, of-got, of-bad, holds-of-got, wh
 use Rattle.format.proofs.Parse.{PairFits, pair-of-fine, fine-pair, size-of-fine, fine-size, count-of-fine, fine-count}
 use Rattle.format.proofs.Parse.{constraints-of-fine, fine-constraints}
 use Rattle.format.proofs.Parse.{LengthFits, length-fits, right-length, parse-wrong-length, parse-wrong-version, parse-is-body}
+use Rattle.format.proofs.Layouts.{Usable, longest-counted, found-version, found-usable, found-or-unknown}
+use Rattle.format.proofs.Lengths.{few-tables, largest-sheet}
 
 -- What a parser gets at a place fits, and is printed as the bytes that it was read from.
 pub record Read {A : Type 0} (Fits : A → Type 0) (show : A → List ℕ) (bytes : List ℕ) (at : ℕ) (x : A) (next : ℕ) : Type 0 where
@@ -29,7 +30,7 @@ pub record Read {A : Type 0} (Fits : A → Type 0) (show : A → List ℕ) (byte
 
 -- A parser and a printer are inverse on what fits.
 pub record Inverse {A : Type 0} (Fits : A → Type 0) (show : A → List ℕ) (item : List ℕ → ℕ → Parse A) : Type 0 where
-  pub reads : (bytes : List ℕ) → ((k : ℕ) → getD bytes k 0 < 256) → (at : ℕ) → at ≤ length bytes → Where (Read Fits show bytes at) (item bytes at)
+  pub reads : (bytes : List ℕ) → Octets bytes → (at : ℕ) → at ≤ length bytes → Where (Read Fits show bytes at) (item bytes at)
   pub accepts : (bytes : List ℕ) (at : ℕ) (x : A) (next : ℕ) → Read Fits show bytes at x next → item bytes at ≡ got x next
 
 -- A field holds a number that passes its test and has room in its bytes.
@@ -62,7 +63,7 @@ pub record ManyFit {S A : Type 0} (step : S → A → S) (Fits : S → A → Typ
 
 module _ {S A : Type 0} (step : S → A → S) (Fits : S → A → Type 0) (show : A → List ℕ) (item : S → List ℕ → ℕ → Parse A)
     (inverse : (s : S) → Inverse (Fits s) show (item s)) where
-  many-reads : (count : ℕ) (s : S) (bytes : List ℕ) → ((k : ℕ) → getD bytes k 0 < 256) → (at : ℕ) → at ≤ length bytes
+  many-reads : (count : ℕ) (s : S) (bytes : List ℕ) → Octets bytes → (at : ℕ) → at ≤ length bytes
       → Where (Read (ManyFit step Fits count s) (printAll show) bytes at) (many step item count s bytes at)
   unfolding many printAll
   many-reads zero s bytes octets at l = of-got (record { fits = record { so-many = refl; chain = chain-none }; stands = stands-none bytes at l })
@@ -162,7 +163,7 @@ module _ (L : Layout) (sizes : List ℕ) (few : length sizes < 256) (t : Table) 
   printed-pair = rw (bytesOf-two (pairOf t) pair-room, pair-first, pair-second)
 
 module _ (L : Layout) (sizes : List ℕ) (few : length sizes < 256) (previous : ℕ) where
-  table-reads : (bytes : List ℕ) → ((k : ℕ) → getD bytes k 0 < 256) → (at : ℕ) → at ≤ length bytes
+  table-reads : (bytes : List ℕ) → Octets bytes → (at : ℕ) → at ≤ length bytes
       → Where (Read (NextFits L sizes previous) (printTable L) bytes at) (parseTable L sizes previous bytes at)
   unfolding parseTable printTable pairOf
   table-reads bytes octets at l =
@@ -246,11 +247,6 @@ module _ (L : Layout) (sizes : List ℕ) where
       (λ ts m. refl)
       (many-inverse _ (NextFits L sizes) (printTable L) _ (table-inverse L sizes few) count previous)
 
--- What a layout must be: a size has room in a byte, and the count of the bytes in two.
-pub record Usable (L : Layout) : Type 0 where
-  pub byte-sizes : L .mostValues < 256
-  pub two-byte-count : L .longest < 256 ^ 2 + 3
-
 -- Fields of one byte.
 pub byte-inverse : (test : ℕ → Test) → Inverse (FieldFits 1 test) (λ (v : ℕ). v ∷ []) (field 1 test)
 unfolding bytesOf
@@ -275,9 +271,9 @@ unfolding fields
 sizes-inverse most l count =
     restate (λ vs f. f) (λ vs f. f) (λ vs f. printAll-bytes vs) (list-inverse 0 _ _ _ (size-inverse most l) count)
 
--- What the parser of a body gets: it is well formed unless it is too long, its bytes stand after the count, and no byte is left.
+-- What the parser of a body gets: it is well formed, its bytes stand after the count, and no byte is left.
 pub record BodyRead (L : Layout) (bytes : List ℕ) (s : Sheet) (next : ℕ) : Type 0 where
-  pub fits : length (print L s) ≤ L .longest → WellFormed L s
+  pub well-formed : WellFormed L s
   pub stands : Stands bytes 3 (printBody L s) next
   pub all-read : next ≡ length bytes
 
@@ -290,12 +286,6 @@ ended-where P s bytes at h =
 ended-got : (s : Sheet) (bytes : List ℕ) → ended s bytes (length bytes) ≡ got s (length bytes)
 unfolding ended
 ended-got s bytes = if-false _ _ _ (le-ltb (length bytes) (length bytes) (omega arith))
-
--- There are at most 120 tables.
-few-tables : (n p : ℕ) → n ≤ 16 → p ≤ n * (n - 1) / 2 → p < 256
-few-tables n p h l =
-    let m : n * (n - 1) ≤ 16 * 15 = mul-le-mul {m₂ = 15} h (omega arith) in
-    omega arith
 
 -- Where each part of a body stands.
 module _ (L : Layout) (bytes : List ℕ) (s : Sheet) (next : ℕ) (h : Stands bytes 3 (printBody L s) next) where
@@ -320,18 +310,21 @@ module _ (L : Layout) (bytes : List ℕ) (s : Sheet) (next : ℕ) (h : Stands by
   tables-stand = stands-back bytes (4 + length (s .sizes)) next (length (s .tables) ∷ []) _ table-count-on
 
 module _ (L : Layout) (usable : Usable L) (bytes : List ℕ) where
-  body-reads : ((k : ℕ) → getD bytes k 0 < 256) → 3 ≤ length bytes → Where (BodyRead L bytes) (parseBody L bytes)
+  byte-sizes : L .mostValues < 256
+  byte-sizes = omega (arith, usable .most-values)
+
+  body-reads : Octets bytes → 3 ≤ length bytes → Where (BodyRead L bytes) (parseBody L bytes)
   unfolding parseBody printBody
   body-reads octets l =
       bind-where _ (byte-inverse countTest .reads bytes octets 3 l) λ n at₁ a.
-      bind-where _ (sizes-inverse (L .mostValues) (usable .byte-sizes) n .reads bytes octets at₁ (a .stands .within)) λ sizes at₂ b.
+      bind-where _ (sizes-inverse (L .mostValues) byte-sizes n .reads bytes octets at₁ (a .stands .within)) λ sizes at₂ b.
       bind-where _ (byte-inverse (constraintsTest n) .reads bytes octets at₂ (b .stands .within)) λ p at₃ c.
       let (some, most) = count-of-fine n (a .fits .0) in
       let e = b .fits .so-many in
       bind-where _ (tables-inverse L sizes (omega arith) p 0 .reads bytes octets at₃ (c .stands .within)) λ tables end d.
       ended-where _ _ bytes end λ past.
       record {
-        fits = λ short.
+        well-formed =
             record {
               some-variable = rw e some;
               most-variables = rw e most;
@@ -339,7 +332,6 @@ module _ (L : Layout) (usable : Usable L) (bytes : List ℕ) where
               tables-fit = d .fits .all-fit;
               ascending = d .fits .ascending;
               table-count = rw (e, d .fits .so-many) (constraints-of-fine n p (c .fits .0));
-              not-too-long = short;
             };
         stands =
             rw (e, d .fits .so-many)
@@ -355,12 +347,12 @@ module _ (L : Layout) (usable : Usable L) (bytes : List ℕ) where
       let n = length (s .sizes) in
       let p = length (s .tables) in
       let end = length bytes in
-      let room : p < 256 ^ 1 = few-tables n p (f .most-variables) (f .table-count) in
+      let room : p < 256 ^ 1 = omega (arith, few-tables n p (f .most-variables) (f .table-count)) in
       bind-got _ _
       (byte-inverse countTest .accepts bytes 3 n 4
       (record { fits = (fine-count n (f .some-variable) (f .most-variables), omega arith); stands = count-stands L bytes s end h }))
       ∙ bind-got _ _
-      (sizes-inverse (L .mostValues) (usable .byte-sizes) n .accepts bytes 4 (s .sizes) (4 + n)
+      (sizes-inverse (L .mostValues) byte-sizes n .accepts bytes 4 (s .sizes) (4 + n)
       (record { fits = record { so-many = refl; all-fit = f .sizes-fit }; stands = sizes-stand L bytes s end h }))
       ∙ bind-got _ _
       (byte-inverse (constraintsTest n) .accepts bytes (4 + n) p (4 + n + 1)
@@ -373,18 +365,20 @@ module _ (L : Layout) (usable : Usable L) (bytes : List ℕ) where
       }))
       ∙ ended-got s bytes
 
--- A sheet that was read is well formed, and it is printed as the bytes that it was read from.
-pub record SheetRead (L : Layout) (bytes : List ℕ) (s : Sheet) (next : ℕ) : Type 0 where
-  pub body : BodyRead L bytes s next
-  pub printed : print L s ≡ bytes
-  pub well-formed : WellFormed L s
+-- A sheet that was read: in the layout of byte 0 it is well formed and is printed as the bytes that it was read from.
+pub record SheetRead (bytes : List ℕ) (s : Sheet) (next : ℕ) : Type 0 where
+  pub layout : Layout
+  pub layout-found : layoutOf (getD bytes 0 0) ≡ found layout
+  pub usable : Usable layout
+  pub body : BodyRead layout bytes s next
+  pub printed : print layout s ≡ bytes
 
-module _ (L : Layout) (usable : Usable L) (bytes : List ℕ) (octets : (k : ℕ) → getD bytes k 0 < 256) where
+module _ (bytes : List ℕ) (octets : Octets bytes) where
   -- The version and the count stand before a body as they are printed.
-  printed-whole : LengthFits L bytes → getD bytes 0 0 ≡ L .version → (s : Sheet) → Stands bytes 3 (printBody L s) (length bytes)
+  printed-whole : LengthFits bytes → (L : Layout) → getD bytes 0 0 ≡ L .version → (s : Sheet) → Stands bytes 3 (printBody L s) (length bytes)
       → print L s ≡ bytes
   unfolding print
-  printed-whole l v s h =
+  printed-whole l L v s h =
       let next = length bytes in
       let count : numberAt 2 bytes 1 ≡ length (printBody L s) = omega arith in
       let first : Stands bytes 0 (L .version ∷ []) 1 = rw v at (stands-byte bytes 0 (omega arith)) in
@@ -392,45 +386,38 @@ module _ (L : Layout) (usable : Usable L) (bytes : List ℕ) (octets : (k : ℕ)
       rw count at (bytes-of-number bytes octets 2 1 (l .at-least-three)) in
       stands-whole bytes _ (stands-append bytes 0 1 next (L .version ∷ []) _ first (stands-append bytes 1 3 next _ _ second h))
 
-  sheet-read : LengthFits L bytes → getD bytes 0 0 ≡ L .version → (s : Sheet) (next : ℕ) → BodyRead L bytes s next → SheetRead L bytes s next
-  sheet-read l v s next b =
-      let e = printed-whole l v s (rw (b .all-read) at (b .stands)) in
-      record { body = b; printed = e; well-formed = b .fits (rw e (l .not-too-long)) }
-
-  sheet-reads : Where (SheetRead L bytes) (parse L bytes)
+  sheet-reads : Where (SheetRead bytes) (parse bytes)
   sheet-reads =
-      by-cases (wrongLength L bytes) (λ t. rw (parse-wrong-length L bytes t) of-bad) λ t.
-      by-cases (eqb (getD bytes 0 0) (L .version))
-      (λ v. rw (parse-is-body L bytes t v)
-      (let l = length-fits L bytes t in
-      where-map (body-reads L usable bytes octets (l .at-least-three)) (sheet-read l (eqb-true _ _ v))))
-      (λ v. rw (parse-wrong-version L bytes t v) of-bad)
+      by-cases (wrongLength bytes) (λ t. rw (parse-wrong-length bytes t) of-bad) λ t.
+      found-or-unknown (layoutOf (getD bytes 0 0))
+      (λ v. rw (parse-wrong-version bytes t v) of-bad)
+      (λ L v. rw (parse-is-body bytes t L v)
+      (let l = length-fits bytes t in
+      where-map (body-reads L (found-usable _ L v) bytes octets (l .at-least-three)) λ s next b.
+      record {
+        layout = L;
+        layout-found = v;
+        usable = found-usable _ L v;
+        body = b;
+        printed = printed-whole l L (found-version _ L v) s (rw (b .all-read) at (b .stands));
+      }))
 
   -- What the parser gets.
-  pub parsed : (s : Sheet) (end : ℕ) → parse L bytes ≡ got s end → SheetRead L bytes s end
+  pub parsed : (s : Sheet) (end : ℕ) → parse bytes ≡ got s end → SheetRead bytes s end
   parsed s end h = holds-of-got _ _ sheet-reads h
 
-  pub parse-wellformed : (s : Sheet) (end : ℕ) → parse L bytes ≡ got s end → WellFormed L s
-  parse-wellformed s end h = parsed s end h .well-formed
-
-  pub print-of-parse : (s : Sheet) (end : ℕ) → parse L bytes ≡ got s end → (print L s ≡ bytes) × (end ≡ length bytes)
-  print-of-parse s end h = let r = parsed s end h in (r .printed, r .body .all-read)
-
--- The parser accepts every well-formed sheet that was printed, and gets that sheet.
-pub parse-of-print : (L : Layout) → Usable L → (s : Sheet) → WellFormed L s → parse L (print L s) ≡ got s (length (print L s))
+-- The parser accepts every well-formed sheet that was printed in a layout that there is, and gets that sheet.
+pub parse-of-print : (L : Layout) → layoutOf (L .version) ≡ found L → (s : Sheet) → WellFormed L s → parse (print L s) ≡ got s (length (print L s))
 unfolding print bytesOf
-parse-of-print L usable s w =
+parse-of-print L v s w =
+    let usable = found-usable _ L v in
     let body = printBody L s in
     let bytes = print L s in
     let next = length bytes in
     let n = length body in
-    let room : n < 256 ^ 2 = omega arith in
+    let short : length bytes ≤ longest = largest-sheet L s w usable in
+    let room : n < 256 ^ 2 = omega (arith, longest-counted) in
     let counted : Stands bytes 1 (bytesOf 2 n ++ body) next = stands-back bytes 0 next (L .version ∷ []) _ (stands-self bytes) in
     let count : numberAt 2 bytes 1 ≡ n = number-of-bytes 2 n bytes 1 3 room (stands-front bytes 1 next (bytesOf 2 n) body counted) in
-    let fits : LengthFits L bytes = record { at-least-three = omega arith; not-too-long = w .not-too-long; as-counted = omega arith } in
-    parse-is-body L bytes (right-length L bytes fits) (eq-eqb (L .version) (L .version) refl)
-    ∙ body-accepts L usable bytes s w (stands-back bytes 1 next (bytesOf 2 n) body counted)
-
-pub version1-usable : Usable version1
-unfolding version1
-version1-usable = record { byte-sizes = omega arith; two-byte-count = omega arith }
+    let fits : LengthFits bytes = record { at-least-three = omega arith; not-too-long = short; as-counted = omega arith } in
+    parse-is-body bytes (right-length bytes fits) L v ∙ body-accepts L usable bytes s w (stands-back bytes 1 next (bytesOf 2 n) body counted)

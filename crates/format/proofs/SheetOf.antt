@@ -1,21 +1,21 @@
 -- Well-formed sheets and fresh sound networks are the same things: `networkOf` and `sheetOf` undo one another.
-use mathlib.Core.Bool.{Bool, true, false, false≢true}
+use mathlib.Core.Bool.{true, false, false≢true}
 use mathlib.Core.List.{List, [], _∷_, _++_}
 use mathlib.Core.Path.{_≡_, refl, sym, _∙_, ap, ap₂, subst}
 use Prim.Native.Nat.{ℕ, zero, suc, _+_, _-_, _*_, _/_, _^_, _≤_, _<_}
 use native.Mathlib.Omega.{arith}
-use lib.Dec.{leb, ltb}
+use lib.Dec.{ltb}
 use lib.Pow.{pow-pos, pow-mono}
 use lib.ListN.{length, getD, length-append, List·getD-eq-default}
 use lib.Seq.{ext-getD}
-use native.Mathlib.Nat.{mul-suc, suc-mul, mul-le-mul, mul-le-mul-right}
-use borrow.Author.Tests.{lt-leb, ltb-true, ltb-false, leb-false}
+use native.Mathlib.Nat.{mul-suc, suc-mul}
+use borrow.Author.Tests.{lt-ltb, ltb-true, ltb-false}
 use Rattle.bounded.specs.Bool.{if}
-use Rattle.bounded.proofs.Bool.{by-cases, clash, not-true→false, if-true, if-false}
+use Rattle.bounded.proofs.Bool.{by-cases, clash, not-true→false, and-i, and-holds}
 use Rattle.bounded.specs.Table.{tabulate}
 use Rattle.bounded.proofs.Table.{length-tabulate, is-table}
 use Rattle.words.specs.Word.{has, word}
-use Rattle.words.proofs.Laws.{has-zero, has-below, word-lt, same-members}
+use Rattle.words.proofs.Laws.{has-zero, has-below, word-lt, is-word, same-members}
 use Rattle.network.specs.Sound.{Sound}
 use Rattle.network.specs.Network.{Network}
 use Rattle.network.specs.Sheet.{Table, Sheet, isFor, tabled, rowFor, networkOf, collect, tableOf, sheetOf, fresh}
@@ -23,73 +23,26 @@ use Rattle.network.proofs.Tables.{isFor-e, isFor-i, tabled-here, tabled-there, 
 use Rattle.network.proofs.SheetOf.{Same}
 use Rattle.network.proofs.SheetOf.{n-sheetOf, size-sheetOf, tabled-sheetOf, row-sheetOf, tabled-networkOf, row-networkOf}
 use Rattle.network.proofs.SheetOf.{Fits, networkOf-sound}
-use Rattle.cause.specs.declared.Cause.the-variants.{RowRange}
-use Rattle.format.proofs.Numbers.{length-bytesOf}
-use Rattle.format.specs.Layout.{Layout, Test, fine, fault, withinTest, version1}
+use Rattle.format.specs.Layout.{Layout, fine, version1}
 use Rattle.format.specs.Parse.{pairOf, sizeOf}
-use Rattle.format.specs.Print.{bytesOf, printAll, printTable, printBody, print}
 use Rattle.format.specs.WellFormed.{All, none, more, TableFits, Ascend, WellFormed}
-
--- ---- layouts
-
--- What a layout must be for each sound network within its bounds to have a sheet: a row may be any word of its width and no other,
--- the bytes of a row hold it, and the longest sheet has room for 16 variables and 120 tables.
-pub record Regular (L : Layout) : Type 0 where
-  pub row-within : (size row : ℕ) → L .rowTest size row ≡ fine → row < 2 ^ size
-  pub within-row : (size row : ℕ) → row < 2 ^ size → L .rowTest size row ≡ fine
-  pub room-for-row : 2 ^ L .mostValues ≤ 256 ^ L .rowBytes
-  pub room-for-sheet : 3 + (1 + 16 + 1) + 120 * (2 + L .mostValues * L .rowBytes) ≤ L .longest
-
-abbrev is-fine : Test → Bool
-is-fine fine = true
-is-fine (fault c) = false
-
-pub version1-regular : Regular version1
-unfolding version1 withinTest
-version1-regular =
-    record {
-      row-within = λ size row h. by-cases (leb (2 ^ size) row)
-          (λ t. absurd (false≢true (ap is-fine (sym (if-true (leb (2 ^ size) row) (fault RowRange) fine t) ∙ h))))
-          (λ t. leb-false _ _ t);
-      within-row = λ size row h. if-false _ _ _ (lt-leb _ _ h);
-      room-for-row = omega arith;
-      room-for-sheet = omega arith;
-    }
-
--- ---- what holds of all of a list
-
-module _ {A : Type 0} {P : A → Type 0} where
-  all-getD : {l : List A} → All P l → (k : ℕ) (d : A) → k < length l → P (getD l k d)
-  all-getD none k d h = absurd (let x : ⊥ = omega arith in x)
-  all-getD (more p ps) zero d h = p
-  all-getD (more p ps) (suc k) d h = all-getD ps k d (omega arith)
-
-  all-append : {xs ys : List A} → All P xs → All P ys → All P (xs ++ ys)
-  all-append none h = h
-  all-append (more p ps) h = more p (all-append ps h)
-
-  all-tabulate : (n : ℕ) (f : ℕ → A) → ((k : ℕ) → k < n → P (f k)) → All P (tabulate n f)
-  unfolding tabulate
-  all-tabulate zero f h = none
-  all-tabulate (suc n) f h = more (h zero (omega arith)) (all-tabulate n (λ (k : ℕ). f (suc k)) (λ k l. h (suc k) (omega arith)))
-
-  all-collect : (f : ℕ → List A) (c k : ℕ) → ((l : ℕ) → k ≤ l → l < k + c → All P (f l)) → All P (collect c k f)
-  unfolding collect
-  all-collect f zero k h = none
-  all-collect f (suc c) k h = all-append (h k (omega arith) (omega arith)) (all-collect f c (suc k) (λ l a b. h l (omega arith) (omega arith)))
+use Rattle.format.proofs.All.{all-getD, all-tabulate, all-collect}
+use Rattle.format.proofs.Layouts.{Usable}
+use Rattle.format.proofs.Parse.{fine-row}
+use Rattle.format.proofs.Lengths.{size-most}
 
 -- ---- look-ups
 
 -- A look-up that finds a table finds one of the list.
-found : {A : Type 0} {P : Table → Type 0} {ts : List Table} (i j : ℕ) → All P ts → tabled ts i j ≡ true
+found-table : {A : Type 0} {P : Table → Type 0} {ts : List Table} (i j : ℕ) → All P ts → tabled ts i j ≡ true
     → ((t : Table) → P t → t .first ≡ suc i → t .second ≡ suc j → ((a : ℕ) → rowFor ts i j a ≡ getD (t .rows) a 0) → A)
     → A
 unfolding tabled
-found i j none h f = absurd (false≢true h)
-found i j (more {x = t} {xs = ts} p ps) h f =
+found-table i j none h f = absurd (false≢true h)
+found-table i j (more {x = t} {xs = ts} p ps) h f =
     by-cases (isFor t i j)
     (λ e. f t p (isFor-e t i j e .0) (isFor-e t i j e .1) (λ a. rowFor-here t ts i j a e))
-    (λ e. found i j ps (sym (tabled-there t ts i j e) ∙ h) (λ u q x y r. f u q x y (λ a. rowFor-there t ts i j a e ∙ r a)))
+    (λ e. found-table i j ps (sym (tabled-there t ts i j e) ∙ h) (λ u q x y r. f u q x y (λ a. rowFor-there t ts i j a e ∙ r a)))
 
 -- The pair of a table that is for i and j, as one number.
 pair-for : (t : Table) (i j : ℕ) → isFor t i j ≡ true → pairOf t ≡ suc i * 256 + suc j
@@ -103,12 +56,12 @@ sizeOf-suc sizes x i h = ap (λ (k : ℕ). getD sizes k 0) (let e : x - 1 ≡ i 
 
 -- ---- the network of a well-formed sheet
 
-module _ (L : Layout) (R : Regular L) (sizes : List ℕ) (t : Table) (F : TableFits L sizes t) where
+module _ (L : Layout) (U : Usable L) (sizes : List ℕ) (t : Table) (F : TableFits L sizes t) where
   -- A row is a word of the width of the second option,
   row-lt : (j a : ℕ) → t .second ≡ suc j → getD (t .rows) a 0 < 2 ^ getD sizes j 0
   row-lt j a y =
       by-cases (ltb a (length (t .rows)))
-      (λ l. rw (← sizeOf-suc sizes (t .second) j y) (R .row-within _ _ (all-getD (F .rows-fit) a 0 (ltb-true _ _ l) .0)))
+      (λ l. rw (← sizeOf-suc sizes (t .second) j y) (U .row-within _ _ (all-getD (F .rows-fit) a 0 (ltb-true _ _ l) .0)))
       (λ l. rw (List·getD-eq-default (t .rows) 0 {n = a} (ltb-false _ _ l)) (pow-pos (getD sizes j 0)))
 
   -- and what it allows lies within the sizes.
@@ -121,14 +74,14 @@ module _ (L : Layout) (R : Regular L) (sizes : List ℕ) (t : Table) (F : TableF
     has-below (getD sizes j 0) (getD (t .rows) a 0) b h (row-lt j a y),
   )
 
-sheet-fits : (L : Layout) → Regular L → (s : Sheet) → WellFormed L s → Fits s
-sheet-fits L R s W =
+sheet-fits : (L : Layout) → Usable L → (s : Sheet) → WellFormed L s → Fits s
+sheet-fits L U s W =
     record {
       some-variable = W .some-variable;
       some-value = λ i h. all-getD (W .sizes-fit) i 0 h .0;
-      pair-in = λ i j h. found i j (W .tables-fit) h (λ t F x y _. omega (arith, F .ordered, F .second-in));
-      row-in = λ i j a b h. found i j (W .tables-fit) (row-tabled (s .tables) i j a b h) (λ t F x y r.
-          row-members L R (s .sizes) t F i j a b x y (rw (r a) at h));
+      pair-in = λ i j h. found-table i j (W .tables-fit) h (λ t F x y _. omega (arith, F .ordered, F .second-in));
+      row-in = λ i j a b h. found-table i j (W .tables-fit) (row-tabled (s .tables) i j a b h) (λ t F x y r.
+          row-members L U (s .sizes) t F i j a b x y (rw (r a) at h));
     }
 
 -- ---- the tables of a network
@@ -228,76 +181,50 @@ tables-count : (N : Network) → length (sheetOf N .tables) ≤ N .n * (N .n - 1
 unfolding sheetOf
 tables-count N = omega (arith, count-tables N (N .n) 0 (omega arith))
 
--- ---- how many bytes
+-- ---- the sheet of a network is well-formed
 
-length-printAll : {A : Type 0} (print : A → List ℕ) (m : ℕ) {xs : List A} → All (λ (x : A). length (print x) ≤ m) xs
-    → length (printAll print xs) ≤ length xs * m
-unfolding printAll
-length-printAll print m none = omega arith
-length-printAll print m (more {x = x} {xs = xs} h hs) =
-    omega (arith, length-append (print x) (printAll print xs), length-printAll print m hs, suc-mul (length xs) m)
+-- What a layout takes of a network: its sizes, and the rows of its pairs.
+pub record Takes (L : Layout) (N : Network) : Type 0 where
+  pub sizes-taken : (i : ℕ) → N .size i ≤ L .mostValues
+  pub rows-taken : (i j a : ℕ) → i < j → N .stated i j ≡ true → a < N .size i
+      → L .rowTest (N .size j) (word (N .size j) (N .allows i j a)) ≡ fine
 
-module _ (L : Layout) (R : Regular L) (N : Network) (S : Sound N) (few : N .n ≤ 16) (small : (i : ℕ) → N .size i ≤ L .mostValues) where
+-- Version 1 takes any row: "An all-zero row is allowed."
+pub version1-takes : (N : Network) → ((i : ℕ) → N .size i ≤ 16) → Takes version1 N
+unfolding version1
+version1-takes N small = record { sizes-taken = small; rows-taken = λ i j a _ _ _. fine-row _ _ (word-lt _ _) }
+
+module _ (L : Layout) (U : Usable L) (N : Network) (S : Sound N) (few : N .n ≤ 16) (T : Takes L N) where
   -- The size of the variable i, as the sheet has it for the option i + 1.
   size-of : (i : ℕ) → sizeOf (sheetOf N .sizes) (suc i) ≡ N .size i
   size-of i = sizeOf-suc (sheetOf N .sizes) (suc i) i refl ∙ size-sheetOf N S i
 
-  table-fits : (i j : ℕ) → i < j → j < N .n → TableFits L (sheetOf N .sizes) (tableFor N i j)
-  table-fits i j l m =
+  table-fits : (i j : ℕ) → i < j → j < N .n → N .stated i j ≡ true → TableFits L (sheetOf N .sizes) (tableFor N i j)
+  table-fits i j l m t =
       record {
         first-in = omega arith;
         ordered = omega arith;
         second-in = omega (arith, n-sheetOf N);
         row-count = length-tabulate (N .size i) _ ∙ sym (size-of i);
-        rows-fit = all-tabulate (N .size i) _ (λ a _.
-            let w : word (N .size j) (N .allows i j a) < 2 ^ N .size j = word-lt _ _ in (
-              R .within-row _ _ (rw (size-of j) w),
-              omega (arith, w, pow-mono (small j), R .room-for-row),
-            ));
+        rows-fit = all-tabulate (N .size i) _ (λ a b. (
+          rw (size-of j) (T .rows-taken i j a l t b),
+          omega (arith, word-lt (N .size j) (N .allows i j a), pow-mono (T .sizes-taken j), U .room-for-row),
+        ));
       }
-
-  table-bytes : (i j : ℕ) → length (printTable L (tableFor N i j)) ≤ 2 + L .mostValues * L .rowBytes
-  unfolding printTable
-  table-bytes i j =
-      omega (
-        arith,
-        length-printAll (bytesOf (L .rowBytes)) (L .rowBytes) {xs = tableFor N i j .rows}
-            (all-tabulate (N .size i) _ (λ a _. omega (arith, length-bytesOf (L .rowBytes) (word (N .size j) (N .allows i j a))))),
-        ap (λ (k : ℕ). k * L .rowBytes) (length-tabulate (N .size i) (λ (a : ℕ). word (N .size j) (N .allows i j a))),
-        mul-le-mul-right (L .rowBytes) (small i),
-      )
-
-  few-tables : length (sheetOf N .tables) ≤ 120
-  few-tables = omega (arith, tables-count N, mul-le-mul {n₁ = N .n} {m₁ = N .n - 1} {n₂ = 16} {m₂ = 15} few (omega arith))
-
-  -- 3 bytes, n, at most 16 sizes, p, and at most 120 tables.
-  sheet-bytes : length (print L (sheetOf N)) ≤ L .longest
-  unfolding print printBody bytesOf
-  sheet-bytes =
-      let m = 2 + L .mostValues * L .rowBytes in
-      omega (
-        arith,
-        length-append (sheetOf N .sizes) (length (sheetOf N .tables) ∷ printAll (printTable L) (sheetOf N .tables)),
-        n-sheetOf N,
-        length-printAll (printTable L) m (tables-all N (λ i j _ _ _. table-bytes i j)),
-        mul-le-mul-right m few-tables,
-        R .room-for-sheet,
-      )
 
   sizes-fit : All (λ (k : ℕ). (1 ≤ k) × (k ≤ L .mostValues)) (sheetOf N .sizes)
   unfolding sheetOf
-  sizes-fit = all-tabulate (N .n) (N .size) (λ i l. (S .sizes i l, small i))
+  sizes-fit = all-tabulate (N .n) (N .size) (λ i l. (S .sizes i l, T .sizes-taken i))
 
-  sheet-wellformed : WellFormed L (sheetOf N)
-  sheet-wellformed =
+  pub sheetOf-wellformed : WellFormed L (sheetOf N)
+  sheetOf-wellformed =
       record {
         some-variable = omega (arith, n-sheetOf N, S .some-variable);
         most-variables = omega (arith, n-sheetOf N);
         sizes-fit = sizes-fit;
-        tables-fit = tables-all N (λ i j l m _. table-fits i j l m);
+        tables-fit = tables-all N table-fits;
         ascending = tables-ascend N few;
         table-count = rw (n-sheetOf N) (tables-count N);
-        not-too-long = sheet-bytes;
       }
 
 -- ---- the sheet of the network of a sheet
@@ -381,18 +308,12 @@ module _ (L : Layout) (sizes : List ℕ) (few : length sizes ≤ 16) where
       ap₂ (λ (x : Table) (xs : List Table). x ∷ xs) e (same-tables a c Fs Gs (λ i j. same-tail t ts us i j a c (k i j)))
 
 -- Well-formed sheets with the same sizes and the same look-ups are equal.
-module _ (L : Layout) (R : Regular L) where
+module _ (L : Layout) (U : Usable L) where
   row-bound : (s : Sheet) → WellFormed L s → (i j a : ℕ) → rowFor (s .tables) i j a < 2 ^ getD (s .sizes) j 0
   row-bound s W i j a =
       by-cases (tabled (s .tables) i j)
-      (λ t. found i j (W .tables-fit) t (λ u F x y r. rw (r a) (row-lt L R (s .sizes) u F j a y)))
+      (λ t. found-table i j (W .tables-fit) t (λ u F x y r. rw (r a) (row-lt L U (s .sizes) u F j a y)))
       (λ t. rw (rowFor-none (s .tables) i j a t) (pow-pos (getD (s .sizes) j 0)))
-
-  size-bound : (s : Sheet) → WellFormed L s → (i : ℕ) → getD (s .sizes) i 0 ≤ L .mostValues
-  size-bound s W i =
-      by-cases (ltb i (length (s .sizes)))
-      (λ t. all-getD (W .sizes-fit) i 0 (ltb-true _ _ t) .1)
-      (λ t. omega (arith, List·getD-eq-default (s .sizes) 0 {n = i} (ltb-false _ _ t)))
 
   same-sheet : (s u : Sheet) → WellFormed L s → WellFormed L u → s .sizes ≡ u .sizes
       → ((i j : ℕ) → tabled (s .tables) i j ≡ tabled (u .tables) i j)
@@ -405,37 +326,50 @@ module _ (L : Layout) (R : Regular L) where
       (rw sizes at (W .tables-fit)) (X .tables-fit) (λ i j. record { table = tables i j; row = rows i j }) in
       λ k. record { sizes = sizes k; tables = same k }
 
-  -- A well-formed sheet is the sheet of its network.
-  sheet-same : (s : Sheet) → WellFormed L s → sheetOf (networkOf s) ≡ s
-  unfolding networkOf sheetOf
-  sheet-same s W =
-      let F : Fits s = sheet-fits L R s W in
-      let S : Sound (networkOf s) = networkOf-sound s F in
-      same-sheet (sheetOf (networkOf s)) s
-      (sheet-wellformed L R (networkOf s) S (W .most-variables) (size-bound s W))
-      W
-      (sym (is-table (length (s .sizes)) _ (s .sizes) 0 refl (λ k _. refl)))
-      (λ i j. tabled-sheetOf (networkOf s) S i j ∙ tabled-networkOf s F i j)
-      (λ i j a b. row-sheetOf (networkOf s) S i j a b ∙ row-networkOf s F i j a b)
+  module _ (s : Sheet) (W : WellFormed L s) where
+    pub wellformed-fits : Fits s
+    wellformed-fits = sheet-fits L U s W
 
--- ---- version 1
+    -- A well-formed sheet means a sound network, within the bounds,
+    pub wellformed-sound : Sound (networkOf s)
+    wellformed-sound = networkOf-sound s wellformed-fits
 
--- A well-formed sheet means a sound and fresh network, within the bounds, and is the sheet of that.
-pub wellformed-sound : (s : Sheet) → WellFormed version1 s → Sound (networkOf s)
-wellformed-sound s W = networkOf-sound s (sheet-fits version1 version1-regular s W)
+    pub wellformed-n : networkOf s .n ≤ 16
+    unfolding networkOf
+    wellformed-n = W .most-variables
 
-pub wellformed-n : (s : Sheet) → WellFormed version1 s → networkOf s .n ≤ 16
-unfolding networkOf
-wellformed-n s W = W .most-variables
+    pub wellformed-size : (i : ℕ) → networkOf s .size i ≤ 16
+    unfolding networkOf
+    wellformed-size i = omega (arith, size-most L s W i, U .most-values)
 
-pub wellformed-size : (s : Sheet) → WellFormed version1 s → (i : ℕ) → networkOf s .size i ≤ 16
-unfolding networkOf version1
-wellformed-size s W = size-bound version1 version1-regular s W
+    -- whose rows are those of the tables, so that the layout takes it again,
+    row-same : (i j a : ℕ) → i < j → word (networkOf s .size j) (networkOf s .allows i j a) ≡ rowFor (s .tables) i j a
+    unfolding networkOf
+    row-same i j a l =
+        sym (is-word (getD (s .sizes) j 0) _ _ (row-bound s W i j a) (λ b _.
+        sym (row-networkOf s wellformed-fits i j a b) ∙ and-holds _ _ (lt-ltb i j l)))
 
-pub wellformed-sheetOf : (s : Sheet) → WellFormed version1 s → sheetOf (networkOf s) ≡ s
-wellformed-sheetOf s W = sheet-same version1 version1-regular s W
+    pub wellformed-takes : Takes L (networkOf s)
+    unfolding networkOf
+    wellformed-takes =
+        record {
+          sizes-taken = size-most L s W;
+          rows-taken = λ i j a l t b.
+              let h : tabled (s .tables) i j ≡ true = sym (tabled-networkOf s wellformed-fits i j) ∙ and-i _ _ (lt-ltb i j l) t in
+              found-table i j (W .tables-fit) h (λ u F x y r.
+              rw (row-same i j a l, r a, ← sizeOf-suc (s .sizes) (u .second) j y)
+              (all-getD (F .rows-fit) a 0 (omega (arith, b, F .row-count, sizeOf-suc (s .sizes) (u .first) i x)) .0));
+        }
 
--- The sheet of a sound network of at most 16 variables, each of at most 16 values, is well-formed.
-pub sheetOf-wellformed : (N : Network) → Sound N → N .n ≤ 16 → ((i : ℕ) → N .size i ≤ 16) → WellFormed version1 (sheetOf N)
-unfolding version1
-sheetOf-wellformed N S few small = sheet-wellformed version1 version1-regular N S few small
+    -- and it is the sheet of its network.
+    pub wellformed-sheetOf : sheetOf (networkOf s) ≡ s
+    unfolding networkOf sheetOf
+    wellformed-sheetOf =
+        let F = wellformed-fits in
+        let S : Sound (networkOf s) = wellformed-sound in
+        same-sheet (sheetOf (networkOf s)) s
+        (sheetOf-wellformed L U (networkOf s) S wellformed-n wellformed-takes)
+        W
+        (sym (is-table (length (s .sizes)) _ (s .sizes) 0 refl (λ k _. refl)))
+        (λ i j. tabled-sheetOf (networkOf s) S i j ∙ tabled-networkOf s F i j)
+        (λ i j a b. row-sheetOf (networkOf s) S i j a b ∙ row-networkOf s F i j a b)

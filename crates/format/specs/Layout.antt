@@ -1,4 +1,5 @@
 -- What a version of the format fixes, and the tests of the fields: each answers "fine", or which cause.
+use mathlib.Core.List.{List, [], _∷_}
 use Prim.Native.Nat.{ℕ, _-_, _*_, _/_, _%_, _^_}
 use lib.Dec.{eqb, ltb, leb}
 use Rattle.bounded.specs.Bool.{or, not, if}
@@ -10,11 +11,15 @@ pub data Test : Type 0 where
   fine : Test
   fault : Cause → Test
 
+-- "The largest sheet has 4,101 bytes", whatever its version.
+unfoldable pub longest : ℕ
+longest = 4101
+
+-- What a version fixes.
 pub record Layout : Type 0 where
   pub version : ℕ
   pub rowBytes : ℕ  -- bytes of a row
   pub mostValues : ℕ  -- the largest size
-  pub longest : ℕ  -- bytes of the largest sheet
   pub rowTest : ℕ → ℕ → Test  -- the test of a row, by the size of b
 
 -- n is "1 to 16": 3 "n is 0 or above 16"
@@ -42,6 +47,22 @@ pairTest n previous pair =
 unfoldable pub withinTest : ℕ → ℕ → Test
 withinTest size row = if (leb (2 ^ size) row) (fault RowRange) fine
 
--- Version 1. "The largest sheet has 4,101 bytes."
+-- Version 1: "one two-byte row for each value of a", sizes "1 to 16".
 unfoldable pub version1 : Layout
-version1 = record { version = 1; rowBytes = 2; mostValues = 16; longest = 4101; rowTest = withinTest }
+version1 = record { version = 1; rowBytes = 2; mostValues = 16; rowTest = withinTest }
+
+-- "Byte 0 is the version, 1." The layouts that there are, one for each version.
+unfoldable pub layouts : List Layout
+layouts = version1 ∷ []
+
+-- The layout of a version, if there is one.
+pub data Lookup : Type 0 where
+  found : Layout → Lookup
+  unknown : Lookup
+
+unfoldable pub layoutAmong : List Layout → ℕ → Lookup
+layoutAmong [] version = unknown
+layoutAmong (L ∷ Ls) version = if (eqb version (L .version)) (found L) (layoutAmong Ls version)
+
+unfoldable pub layoutOf : ℕ → Lookup
+layoutOf version = layoutAmong layouts version

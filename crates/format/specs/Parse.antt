@@ -1,14 +1,18 @@
 -- The parser: document 01, "A sheet on disk", with the numbers 1 to 8 in their order.
 use mathlib.Core.Bool.{Bool}
 use mathlib.Core.List.{List, [], _∷_}
-use Prim.Native.Nat.{ℕ, zero, suc, _+_, _-_, _*_, _/_, _%_, _^_}
+use Prim.Native.Nat.{ℕ, zero, suc, _+_, _-_, _*_, _/_, _%_, _^_, _<_}
 use lib.Dec.{eqb, ltb}
 use lib.ListN.{length, getD}
 use Rattle.bounded.specs.Bool.{or, not, if}
 use Rattle.cause.specs.declared.Cause.{Cause}
 use Rattle.cause.specs.declared.Cause.the-variants.{Length, Version, CutOff, LeftOver}
 use Rattle.network.specs.Sheet.{Table, Sheet}
-use Rattle.format.specs.Layout.{Test, fine, fault, Layout, countTest, sizeTest, constraintsTest, pairTest}
+use Rattle.format.specs.Layout.{Test, fine, fault, Layout, countTest, sizeTest, constraintsTest, pairTest, longest, Lookup, found, unknown, layoutOf}
+
+-- Bytes: each is below 256.
+abbrev pub Octets : List ℕ → Type 0
+Octets bytes = (k : ℕ) → getD bytes k 0 < 256
 
 -- What a parser finds at a place: a value and the place after it, or a cause and its place. "Places are byte numbers counted from 0."
 pub data Parse (A : Type 0) : Type 0 where
@@ -75,12 +79,14 @@ parseBody L bytes =
     ended (record { sizes = sizes; tables = tables }) bytes next))))
 
 -- 1 "under 3 bytes, over 4,101, or not 3 plus the count". "Bytes 1 and 2 are the count of bytes that follow them."
-unfoldable pub wrongLength : Layout → List ℕ → Bool
-wrongLength L bytes = or (ltb (length bytes) 3) (or (ltb (L .longest) (length bytes)) (not (eqb (length bytes) (3 + numberAt 2 bytes 1))))
+unfoldable pub wrongLength : List ℕ → Bool
+wrongLength bytes = or (ltb (length bytes) 3) (or (ltb longest (length bytes)) (not (eqb (length bytes) (3 + numberAt 2 bytes 1))))
+
+-- 2 "version not 1": it has no layout. Otherwise the body is read in its layout.
+unfoldable pub parseIn : Lookup → List ℕ → Parse Sheet
+parseIn unknown bytes = bad Version 0
+parseIn (found L) bytes = parseBody L bytes
 
 -- "Number 1 is tested first, then 2, then fields in file order." "Byte 0 is the version."
-unfoldable pub parse : Layout → List ℕ → Parse Sheet
-parse L bytes =
-    if (wrongLength L bytes) (bad Length 0)
-    (if (not (eqb (getD bytes 0 0) (L .version))) (bad Version 0)
-    (parseBody L bytes))
+unfoldable pub parse : List ℕ → Parse Sheet
+parse bytes = if (wrongLength bytes) (bad Length 0) (parseIn (layoutOf (getD bytes 0 0)) bytes)

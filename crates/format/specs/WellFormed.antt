@@ -6,7 +6,6 @@ use lib.ListN.{length}
 use Rattle.network.specs.Sheet.{Table, Sheet}
 use Rattle.format.specs.Layout.{Layout, fine}
 use Rattle.format.specs.Parse.{pairOf, sizeOf}
-use Rattle.format.specs.Print.{print}
 
 -- Every element of a list.
 pub data All {A : Type 0} (P : A → Type 0) : List A → Type 0 where
@@ -32,4 +31,3 @@ pub record WellFormed (L : Layout) (s : Sheet) : Type 0 where
   pub tables-fit : All (TableFits L (s .sizes)) (s .tables)
   pub ascending : Ascend 0 (s .tables)
   pub table-count : length (s .tables) ≤ length (s .sizes) * (length (s .sizes) - 1) / 2
-  pub not-too-long : length (print L s) ≤ L .longest

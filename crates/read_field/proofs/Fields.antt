@@ -10,7 +10,7 @@ use mir.Syntax.{w8, w64}
 use mir.Val.{Fits}
 use lib.Dec.{eqb, ltb}
 use lib.ListN.{length, getD}
-use borrow.Author.Tests.{lt-ltb, le-ltb, le-leb, lt-leb, eq-eqb, ltb-true, ltb-false, leb-false, eqb-true}
+use borrow.Author.Tests.{lt-ltb, le-ltb, le-leb, eq-eqb, ltb-true, ltb-false, leb-false, eqb-true}
 use Rattle.bounded.specs.Bool.{or, not, if}
 use Rattle.bounded.proofs.Bool.{by-cases, bool-ext, if-true, if-false, not-i, not-false-i, not-false-e, or-l, or-r, or-false-l, or-false-r}
 use Rattle.words.proofs.Machine.{shl-is}
@@ -18,8 +18,9 @@ use Rattle.cause.specs.declared.Cause.{Cause}
 use Rattle.cause.specs.declared.Cause.the-variants.{VariableCount, Size, ConstraintCount, PairRange, PairOrder, PairRepeated, RowRange, CutOff}
 use Rattle.read_field.specs.declared.field.Read.{Read}
 use Rattle.read_field.specs.declared.field.Read.the-variants.{Value, Refused}
-use Rattle.format.specs.Layout.{Test, fine, fault, countTest, sizeTest, constraintsTest, pairTest, withinTest, version1}
+use Rattle.format.specs.Layout.{Test, fine, fault, countTest, sizeTest, constraintsTest, pairTest, withinTest, longest}
 use Rattle.format.specs.Parse.{Parse, got, bad, numberAt, judged, field, wrongLength}
+use Rattle.format.proofs.Parse.{fine-row}
 use Rattle.read_field.specs.Fields.{readAs, readOf, rangeTest}
 
 -- ---- any parse that came to an answer
@@ -165,13 +166,7 @@ module _ (size row m : ℕ) (l : size ≤ 16) (b : 1 * 2 ^ 16 < m) where
   within-fault h = if-true _ _ _ (le-leb _ _ (rw (shl-is 16 1 size m l b, one-mul (2 ^ size)) at h))
 
   pub within-fine : row < 1 * 2 ^ size % m → withinTest size row ≡ fine
-  unfolding withinTest
-  within-fine h = if-false _ _ _ (lt-leb _ _ (rw (shl-is 16 1 size m l b, one-mul (2 ^ size)) at h))
-
--- The same of a row that is below it.
-pub within-below : (size row : ℕ) → row < 2 ^ size → withinTest size row ≡ fine
-unfolding withinTest
-within-below size row h = if-false _ _ _ (lt-leb _ _ h)
+  within-fine h = fine-row size row (rw (shl-is 16 1 size m l b, one-mul (2 ^ size)) at h)
 
 -- ---- the length
 
@@ -181,17 +176,17 @@ machine-not true = refl
 machine-not false = refl
 
 module _ (bytes : List ℕ) where
-  pub short-wrong : length bytes < 3 → true ≡ wrongLength version1 bytes
+  pub short-wrong : length bytes < 3 → true ≡ wrongLength bytes
   unfolding wrongLength
   short-wrong h = sym (or-l _ _ (lt-ltb _ _ h))
 
-  pub long-wrong : 4101 < length bytes → true ≡ wrongLength version1 bytes
-  unfolding wrongLength version1
+  pub long-wrong : 4101 < length bytes → true ≡ wrongLength bytes
+  unfolding wrongLength longest
   long-wrong h = sym (or-r _ _ (or-l _ _ (lt-ltb _ _ h)))
 
   pub count-wrong : (count : ℕ) → 3 ≤ length bytes → length bytes ≤ 4101 → count ≡ numberAt 2 bytes 1
-      → negated (eqb (length bytes) (3 + count)) ≡ wrongLength version1 bytes
-  unfolding wrongLength version1 or
+      → negated (eqb (length bytes) (3 + count)) ≡ wrongLength bytes
+  unfolding wrongLength longest or
   count-wrong count h k e = rw (le-ltb _ _ h, le-ltb _ _ k, e) (machine-not _)
 
 -- ---- the tests of n, of a size and of p are of ranges

@@ -1,12 +1,11 @@
 // What is tested before any field.
 ghost use mathlib.Core.Path.{_≡_};
-ghost use Rattle.format.specs.Layout.{version1};
 ghost use Rattle.format.specs.Parse.{wrongLength};
 use crate::field;
 
 // Under 3 bytes, over 4,101, or not 3 plus the count.
 pub fn wrong_length(bytes: &[u8]) -> bool
-    ensures { λ r. ⌜ r ≡ wrongLength version1 (now (bytes .entry)) ⌝ }
+    ensures { λ r. ⌜ r ≡ wrongLength (now (bytes .entry)) ⌝ }
 {
     if bytes.len() < 3 {
         return true;

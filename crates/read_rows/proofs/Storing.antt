@@ -27,7 +27,8 @@ use Rattle.cause.specs.declared.Cause.{Cause}
 use Rattle.read_field.specs.declared.field.Read.{Read}
 use Rattle.read_field.specs.declared.field.Read.the-variants.{Value, Refused}
 use Rattle.read_field.specs.Fields.{readAs, readOf, FourAt}
-use Rattle.read_field.proofs.Fields.{no-value, value-is, field-fine, within-below}
+use Rattle.format.proofs.Parse.{fine-row}
+use Rattle.read_field.proofs.Fields.{no-value, value-is, field-fine}
 use Rattle.format.specs.Layout.{withinTest}
 use Rattle.format.specs.Parse.{got, numberAt, field, fields}
 use Rattle.read_rows.specs.Sides.{rowIn, WordIn, BlockIn, RowsRead, Sides, SidesStored, SidesRead}
@@ -140,7 +141,7 @@ module _ (bytes : List ℕ) (from count size : ℕ) (there : from + 2 * count �
   row-got : (a : ℕ) → a < count → field 2 (withinTest size) bytes (from + 2 * a) ≡ got (rowIn bytes from a) (from + 2 * suc a)
   unfolding readOf rowIn
   row-got a l =
-      field-fine 2 (withinTest size) bytes (from + 2 * a) refl (omega arith) (omega arith) (within-below size _ (small a l))
+      field-fine 2 (withinTest size) bytes (from + 2 * a) refl (omega arith) (omega arith) (fine-row size _ (small a l))
 
   some-got : (a : ℕ) → a ≤ count
       → fields 2 (withinTest size) count bytes from

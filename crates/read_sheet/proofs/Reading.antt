@@ -10,9 +10,9 @@ use mir.Val.{Fits}
 use lib.Dec.{ltb}
 use lib.ListN.{length, getD, take, List·getD-eq-default}
 use lib.Seq.{getD-take}
-use borrow.Author.Tests.{lt-ltb, le-ltb, ltb-true, ltb-false, eq-eqb, ne-eqb}
+use borrow.Author.Tests.{lt-ltb, le-ltb, ltb-true, ltb-false}
 use Rattle.bounded.specs.Table.{tabulate}
-use Rattle.bounded.proofs.Bool.{by-cases, if-true, if-false, not-i, not-false-i, or-false-l}
+use Rattle.bounded.proofs.Bool.{by-cases, if-true, if-false}
 use Rattle.bounded.proofs.Table.{is-table}
 use Rattle.words.specs.Word.{word}
 use Rattle.cause.specs.declared.Cause.{Cause}
@@ -24,6 +24,8 @@ use Rattle.read_field.specs.declared.field.Read.{Read}
 use Rattle.read_field.specs.declared.field.Read.the-variants.{Value, Refused}
 use Rattle.format.specs.Layout.{sizeTest, constraintsTest, version1}
 use Rattle.format.specs.Parse.{Parse, got, bad, bind, field, fields, parseTables, ended, parseBody, wrongLength, parse}
+use Rattle.format.proofs.Layouts.{version1-found, other-unknown}
+use Rattle.format.proofs.Parse.{length-fits, parse-wrong-length, parse-wrong-version, parse-is-body}
 use Rattle.read_field.specs.Fields.{readAs, rangeTest}
 use Rattle.read_sheet.specs.Reading.{Sized, SizesRead, Held, TablesRead, Holds, SheetRead}
 use Rattle.read_field.proofs.Fields.{field-got, count-range, constraints-range, range-passed, as-got, as-bad, no-value, value-is}
@@ -194,30 +196,20 @@ module _ (bytes : List ℕ) where
 -- ---- the whole sheet
 
 -- Where the length is right there is a byte 0.
-pub some-byte : (bytes : List ℕ) → wrongLength version1 bytes ≡ false → 0 < length bytes
-unfolding wrongLength
-some-byte bytes right = omega (arith, ltb-false (length bytes) 3 (or-false-l _ _ right))
+pub some-byte : (bytes : List ℕ) → wrongLength bytes ≡ false → 0 < length bytes
+some-byte bytes right = omega (arith, length-fits bytes right .at-least-three)
 
 module _ (bytes : List ℕ) {sizes stated rows : List ℕ} where
   -- 1 before all else.
-  pub into-wrong-length : wrongLength version1 bytes ≡ true → SheetRead (parse version1 bytes) sizes stated rows (Refused Length 0)
-  unfolding parse
-  into-wrong-length h = sheet-refused _ sizes stated rows Length 0 (if-true _ _ _ h)
+  pub into-wrong-length : wrongLength bytes ≡ true → SheetRead (parse bytes) sizes stated rows (Refused Length 0)
+  into-wrong-length h = sheet-refused _ sizes stated rows Length 0 (parse-wrong-length bytes h)
 
-  module _ (right : wrongLength version1 bytes ≡ false) where
+  module _ (right : wrongLength bytes ≡ false) where
     -- Then 2.
-    pub into-wrong-version : (getD bytes 0 0 ≡ 1 → ⊥) → SheetRead (parse version1 bytes) sizes stated rows (Refused Version 0)
-    unfolding parse version1
-    into-wrong-version h = sheet-refused _ sizes stated rows Version 0 (if-false _ _ _ right ∙ if-true _ _ _ (not-i _ (ne-eqb _ _ h)))
+    pub into-wrong-version : (getD bytes 0 0 ≡ 1 → ⊥) → SheetRead (parse bytes) sizes stated rows (Refused Version 0)
+    into-wrong-version h = sheet-refused _ sizes stated rows Version 0 (parse-wrong-version bytes right (other-unknown _ h))
 
     -- Then the fields.
     pub into-body : getD bytes 0 0 ≡ 1 → {r : Read} → SheetRead (parseBody version1 bytes) sizes stated rows r
-        → SheetRead (parse version1 bytes) sizes stated rows r
-    unfolding parse version1
-    into-body version body =
-        record {
-          sheet = body .sheet;
-          parsed = if-false _ _ _ right ∙ (if-false _ _ _ (not-false-i _ (eq-eqb _ _ version)) ∙ body .parsed);
-          count-is = body .count-is;
-          holds = body .holds;
-        }
+        → SheetRead (parse bytes) sizes stated rows r
+    into-body version body = rw (parse-is-body bytes right version1 (version1-found _ version)) body

@@ -55,7 +55,7 @@ pub fn read_into(
     rows: &mut [u16; 4096],
 ) -> Read
     requires { ⌜ (now sizes ≡ replicate 16 0) × (now stated ≡ replicate 16 0) × (now rows ≡ replicate 4096 0) ⌝ }
-    ensures { λ r. ⌜ SheetRead (parse version1 (now (bytes .entry))) (now (sizes .exit)) (now (stated .exit)) (now (rows .exit)) r ⌝ }
+    ensures { λ r. ⌜ SheetRead (parse (now (bytes .entry))) (now (sizes .exit)) (now (stated .exit)) (now (rows .exit)) r ⌝ }
 {
     if read_field::wrong_length(bytes) {
         return Read::Refused(Cause::Length, 0);

@@ -24,10 +24,8 @@ use Rattle.network.proofs.Completion.{solves-cong}
 use Rattle.network.proofs.Count.{sumTuples-sizes}
 use Rattle.network.proofs.Calls.{after-keeps}
 use Rattle.network.proofs.Promise as network
-use Rattle.format.specs.Layout.{version1}
 use Rattle.format.specs.Parse.{parse}
 use Rattle.format.specs.Builds.{options, isBuildOf}
-use Rattle.format.proofs.SheetOf.{wellformed-n}
 use Rattle.format.proofs.Builds.{builds-solve, builds-are-solutions, options-are, option-sizes-are}
 use Rattle.state.specs.declared.state.State.{State}
 use Rattle.state.specs.View.{view, pack, soundState}
@@ -163,9 +161,9 @@ module _ (N M : Network) (t : State) (n : ℕ) (build : List ℕ → Bool) (S : 
 -- An accepted sheet, and any list of calls.
 module _ (bytes : List ℕ) (octets : (k : ℕ) → getD bytes k 0 < 256) (h : readSheet bytes .number ≡ 0) (s : Sheet) (A : Accepted bytes s)
     (cs : List Call) where
-  network-read : networkRead (parse version1 bytes) ≡ networkOf s
+  network-read : networkRead (parse bytes) ≡ networkOf s
   unfolding networkRead
-  network-read = rw (A .parsed)
+  network-read = rw (A .got-sheet)
 
   last-network : lastNetwork bytes cs ≡ after (networkOf s) cs
   unfolding lastNetwork
@@ -184,7 +182,7 @@ module _ (bytes : List ℕ) (octets : (k : ℕ) → getD bytes k 0 < 256) (h : r
       rw (last-network, ← A .view-is) (after-packed (readSheet bytes .state) (r .read-shaped) (r .is-sound) cs)
 
   n-options : networkOf s .n ≡ options bytes
-  n-options = sym (options-are bytes octets s (length bytes) (A .parsed))
+  n-options = sym (options-are bytes octets s (length bytes) (A .got-sheet))
 
   last-n : lastState bytes cs .n ≡ options bytes
   unfolding pack
@@ -199,7 +197,7 @@ module _ (bytes : List ℕ) (octets : (k : ℕ) → getD bytes k 0 < 256) (h : r
   unfolding buildOfSheet valuesOf
   sheet-builds b =
       ap (and (isBuildOf bytes b)) (keeps-to-added (valuesOf b)) ∙ and-true _
-      ∙ builds-are-solutions bytes octets s (length bytes) (A .parsed) b ∙ rw n-options
+      ∙ builds-are-solutions bytes octets s (length bytes) (A .got-sheet) b ∙ rw n-options
 
   serves : Serves (networkOf s) (lastNetwork bytes cs) (lastState bytes cs) (options bytes) (buildOfSheet bytes cs)
   serves =
@@ -210,7 +208,7 @@ module _ (bytes : List ℕ) (octets : (k : ℕ) → getD bytes k 0 < 256) (h : r
         promised = rw last-network (network.promise (networkOf s) (A .sheet-sound) cs);
         state-n = last-n;
         network-n = n-options;
-        at-most = rw (← n-options) (wellformed-n s (A .well-formed));
+        at-most = rw (← n-options) (A .at-most);
         builds-are = sheet-builds;
       }
 
@@ -219,8 +217,8 @@ module _ (bytes : List ℕ) (octets : (k : ℕ) → getD bytes k 0 < 256) (h : r
   counts =
       serves .promised .counted
       ∙ countTuples-cong _ _ _ _ _ _ n-options
-      (λ i l. sym (option-sizes-are bytes octets s (length bytes) (A .parsed) i l))
-      (λ f. ap₂ and (sym (builds-solve bytes octets s (length bytes) (A .parsed) f)) (sym (keeps-to-added f)))
+      (λ i l. sym (option-sizes-are bytes octets s (length bytes) (A .got-sheet) i l))
+      (λ f. ap₂ and (sym (builds-solve bytes octets s (length bytes) (A .got-sheet) f)) (sym (keeps-to-added f)))
 
   promise : Promise bytes cs
   promise =

@@ -14,7 +14,6 @@ use Rattle.network.specs.Completion.{Verdict, NONE, BUILT, allowedChoice}
 use Rattle.network.specs.Count.{countTuples, choiceCount}
 use Rattle.network.specs.Sheet.{Table, Sheet, networkOf}
 use Rattle.network.specs.Calls.{Call, follow-step, full-reduction, after}
-use Rattle.format.specs.Layout.{version1}
 use Rattle.format.specs.Parse.{Parse, got, bad, parse}
 use Rattle.format.specs.Builds.{options, optionSize, isBuild, isBuildOf}
 use Rattle.state.specs.declared.state.State.{State}
@@ -63,7 +62,7 @@ module _ (bytes : List ℕ) (cs : List Call) where
 
   -- "Live options, options' lists and pairs are those that the rules above give from the sheet, call by call."
   unfoldable pub lastNetwork : Network
-  lastNetwork = after (networkRead (parse version1 bytes)) cs
+  lastNetwork = after (networkRead (parse bytes)) cs
 
   -- "A build of a sheet is read off its bytes alone", together with the tables that calls added.
   unfoldable pub buildOfSheet : List ℕ → Bool

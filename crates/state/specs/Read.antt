@@ -3,7 +3,6 @@ use mathlib.Core.List.{List}
 use Prim.Native.Nat.{ℕ}
 use Rattle.cause.specs.Number.{numberOf}
 use Rattle.network.specs.Sheet.{Sheet, networkOf}
-use Rattle.format.specs.Layout.{version1}
 use Rattle.format.specs.Parse.{Parse, got, bad, parse}
 use Rattle.state.specs.View.{pack, zeroState}
 use Rattle.state.specs.Answers.{ReadTold}
@@ -14,4 +13,4 @@ readAs (got s next) = record { number = 0; place = 0; state = pack (networkOf s)
 readAs (bad c at) = record { number = numberOf c; place = at; state = zeroState }
 
 unfoldable pub readSheet : List ℕ → ReadTold
-readSheet bytes = readAs (parse version1 bytes)
+readSheet bytes = readAs (parse bytes)

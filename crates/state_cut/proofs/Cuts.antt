@@ -12,7 +12,7 @@ use Rattle.cause.proofs.Laws.{number-positive}
 use Rattle.network.specs.Reduction.{reduce}
 use Rattle.network.specs.Sheet.{Sheet}
 use Rattle.format.specs.Parse.{parse, got, bad}
-use Rattle.format.specs.Layout.{version1}
+use Rattle.format.specs.Layout.{longest}
 use Rattle.format.proofs.Places.{refused-place}
 use Rattle.state.specs.declared.state.State.{State}
 use Rattle.answers.specs.declared.ReadOutcome.the-variants as readOutcome
@@ -59,7 +59,7 @@ module _ (bytes : List ℕ) (a : ReadParts) (rows : List ℕ) (e : readPartsTold
   unfolding readNumber
   refused-unsound {c} h =
       rw told-state
-      (got-or-bad bytes (parse version1 bytes) refl
+      (got-or-bad bytes (parse bytes) refl
       (λ s next g. absurd (let z : numberOf c ≡ 0 = sym (ap readNumber h) ∙ told-number ∙ ap (λ (r : ReadTold). r .number) (read-got bytes s next g) in
       let x : ⊥ = omega (arith, number-positive c) in x))
       (λ d at g. ap (λ (r : ReadTold). soundState (r .state)) (read-refused bytes d at g) ∙ zero-unsound))
@@ -120,7 +120,7 @@ pub record Small (c : CutTold) : Type 0 where
   pub steps-small : c .steps < 16
 
 module _ (bytes : List ℕ) (octets : (k : ℕ) → getD bytes k 0 < 256) where
-  small-accepted : (s : Sheet) (next : ℕ) → parse version1 bytes ≡ got s next → Small (cutSheet bytes)
+  small-accepted : (s : Sheet) (next : ℕ) → parse bytes ≡ got s next → Small (cutSheet bytes)
   unfolding cutAs cutSheet
   small-accepted s next e =
       let g = read-got bytes s next e in
@@ -132,13 +132,13 @@ module _ (bytes : List ℕ) (octets : (k : ℕ) → getD bytes k 0 < 256) where
       let most = reduced-most t (r .read-shaped) (r .is-sound) in
       record { place-small = omega arith; n-small = omega arith; steps-small = omega arith }
 
-  small-refused : (c : Cause) (at : ℕ) → parse version1 bytes ≡ bad c at → Small (cutSheet bytes)
-  unfolding cutSheet zeroState version1
+  small-refused : (c : Cause) (at : ℕ) → parse bytes ≡ bad c at → Small (cutSheet bytes)
+  unfolding cutSheet zeroState longest
   small-refused c at e =
       let g = read-refused bytes c at e in
-      let l = refused-place bytes version1 e in
+      let l = refused-place bytes e in
       rw (g, cut-unsound (record { number = numberOf c; place = at; state = zeroState }) zero-unsound)
       (record { place-small = l; n-small = omega arith; steps-small = omega arith })
 
   pub cut-small : Small (cutSheet bytes)
-  cut-small = got-or-bad bytes (parse version1 bytes) refl small-accepted small-refused
+  cut-small = got-or-bad bytes (parse bytes) refl small-accepted small-refused

@@ -13,13 +13,12 @@ use Rattle.words.specs.Word.{word}
 use Rattle.words.proofs.Laws.{word-cong}
 use Rattle.cause.specs.declared.Cause.{Cause}
 use Rattle.network.specs.Sheet.{Sheet, networkOf}
-use Rattle.format.specs.Layout.{version1}
 use Rattle.format.specs.Parse.{parse}
 use Rattle.read_field.specs.declared.field.Read.{Read}
 use Rattle.read_field.specs.declared.field.Read.the-variants.{Value, Refused}
 use Rattle.read_field.proofs.Fields.{as-got, as-bad}
 use Rattle.read_sheet.specs.Reading.{Holds, SheetRead}
-use Rattle.format.proofs.RoundTrip.{parse-wellformed, version1-usable}
+use Rattle.format.proofs.RoundTrip as format
 use Rattle.format.proofs.SheetOf.{wellformed-size}
 use Rattle.state.specs.declared.state.State.{State}
 use Rattle.answers.specs.declared.ReadOutcome.the-variants as readOutcome
@@ -57,7 +56,7 @@ held-state s n sizes stated rows e H =
       rows = H .rows-are i;
     }
 
-module _ (bytes sizes stated rows : List ℕ) (r : Read) (R : SheetRead (parse version1 bytes) sizes stated rows r) where
+module _ (bytes sizes stated rows : List ℕ) (r : Read) (R : SheetRead (parse bytes) sizes stated rows r) where
   -- An accepted sheet: the state of the arrays is the one of its network.
   pub read-accepted : (n next : ℕ) → r ≡ Value n next
       → readTold (record { outcome = readOutcome.Accepted; state = stateRead n sizes stated rows }) ≡ readSheet bytes
@@ -79,11 +78,8 @@ module _ (bytes sizes stated rows : List ℕ) (r : Read) (R : SheetRead (parse v
       by-cases (ltb i 16)
       (λ t. let b : getD sizes i 0 ≡ networkOf (R .sheet) .size i
       = ap (λ (xs : List ℕ). getD xs i 0) is ∙ getD-tabulate 16 _ i 0 (ltb-true i 16 t) in
-      omega (
-        arith,
-        wellformed-size (R .sheet)
-            (parse-wellformed version1 version1-usable bytes octets (R .sheet) next (as-got _ r _ n next (R .parsed) e)) i,
-      ))
+      let f = format.parsed bytes octets (R .sheet) next (as-got _ r _ n next (R .parsed) e) in
+      omega (arith, wellformed-size (f .layout) (f .usable) (R .sheet) (f .body .well-formed) i))
       (λ t. let b : getD sizes i 0 ≡ 0
       = ap (λ (xs : List ℕ). getD xs i 0) is ∙ getD-tabulate-past 16 _ i 0 (ltb-false i 16 t) in
       omega arith)

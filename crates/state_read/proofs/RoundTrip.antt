@@ -19,10 +19,10 @@ use Rattle.network.proofs.SheetOf.{fresh-leader, fresh-domain, networkOf-fresh,
 use Rattle.format.specs.Layout.{version1}
 use Rattle.format.specs.Parse.{Parse, got, bad, parse}
 use Rattle.format.specs.Print.{print}
-use Rattle.format.specs.WellFormed.{WellFormed}
 use Rattle.format.specs.Builds.{isBuild}
-use Rattle.format.proofs.RoundTrip.{version1-usable, parse-wellformed, print-of-parse, parse-of-print}
-use Rattle.format.proofs.SheetOf.{wellformed-sound, wellformed-n, wellformed-size, wellformed-sheetOf, sheetOf-wellformed}
+use Rattle.format.proofs.Layouts.{version1-usable, version1-found, found-version1}
+use Rattle.format.proofs.RoundTrip.{SheetRead, parsed, parse-of-print}
+use Rattle.format.proofs.SheetOf.{wellformed-sound, wellformed-n, wellformed-size, wellformed-sheetOf, sheetOf-wellformed, version1-takes}
 use Rattle.format.proofs.Builds.{builds-solve}
 use Rattle.state.specs.declared.state.State.{State}
 use Rattle.state.specs.View.{view, pack, zeroState, soundState}
@@ -33,28 +33,28 @@ use Rattle.state.proofs.View.{Shaped, Packed, pack-view, pack-sound, state-soun
 
 -- Reading, case by case.
 module _ (bytes : List ℕ) where
-  pub read-got : (s : Sheet) (next : ℕ) → parse version1 bytes ≡ got s next
+  pub read-got : (s : Sheet) (next : ℕ) → parse bytes ≡ got s next
       → readSheet bytes ≡ record { number = 0; place = 0; state = pack (networkOf s) }
   unfolding readSheet readAs
   read-got s next e = rw e
 
   -- A refused read has its cause's number, its place and the zero state.
-  pub read-refused : (c : Cause) (at : ℕ) → parse version1 bytes ≡ bad c at
+  pub read-refused : (c : Cause) (at : ℕ) → parse bytes ≡ bad c at
       → readSheet bytes ≡ record { number = numberOf c; place = at; state = zeroState }
   unfolding readSheet readAs
   read-refused c at e = rw e
 
-  pub got-or-bad : {A : Type 0} (p : Parse Sheet) → parse version1 bytes ≡ p
-      → ((s : Sheet) (next : ℕ) → parse version1 bytes ≡ got s next → A)
-      → ((c : Cause) (at : ℕ) → parse version1 bytes ≡ bad c at → A)
+  pub got-or-bad : {A : Type 0} (p : Parse Sheet) → parse bytes ≡ p
+      → ((s : Sheet) (next : ℕ) → parse bytes ≡ got s next → A)
+      → ((c : Cause) (at : ℕ) → parse bytes ≡ bad c at → A)
       → A
   got-or-bad (got s next) e f g = f s next e
   got-or-bad (bad c at) e f g = g c at e
 
   -- A sheet is accepted exactly when the parser gets it.
-  pub accepted-exactly : (readSheet bytes .number ≡ 0) ↔ ((s : Sheet) × (next : ℕ) × (parse version1 bytes ≡ got s next))
+  pub accepted-exactly : (readSheet bytes .number ≡ 0) ↔ ((s : Sheet) × (next : ℕ) × (parse bytes ≡ got s next))
   accepted-exactly = (
-    λ h. got-or-bad (parse version1 bytes) refl
+    λ h. got-or-bad (parse bytes) refl
         (λ s next e. (s, next, e))
         (λ c at e. absurd (let z : readSheet bytes .number ≡ numberOf c = ap (λ (r : ReadTold). r .number) (read-refused c at e) in
         let x : ⊥ = omega (arith, number-positive c) in x)),
@@ -63,10 +63,10 @@ module _ (bytes : List ℕ) where
 
 -- What an accepted sheet was parsed as: its network is sound, is held by the state that was read, and prints as the bytes.
 pub record Accepted (bytes : List ℕ) (s : Sheet) : Type 0 where
-  pub parsed : parse version1 bytes ≡ got s (length bytes)
-  pub well-formed : WellFormed version1 s
-  pub printed : print version1 s ≡ bytes
+  pub got-sheet : parse bytes ≡ got s (length bytes)
+  pub read : SheetRead bytes s (length bytes)
   pub sheet-sound : Sound (networkOf s)
+  pub at-most : networkOf s .n ≤ 16
   pub packed : Packed (networkOf s)
   pub state-is : readSheet bytes .state ≡ pack (networkOf s)
   pub view-is : view (readSheet bytes .state) ≡ networkOf s
@@ -80,18 +80,20 @@ pub record AsRead (t : State) : Type 0 where
   pub full-lists : (i a : ℕ) → view t .domain i a ≡ ltb a (view t .size i)
 
 module _ (bytes : List ℕ) (octets : (k : ℕ) → getD bytes k 0 < 256) where
-  pub got-accepted : (s : Sheet) (next : ℕ) → parse version1 bytes ≡ got s next → Accepted bytes s
+  pub got-accepted : (s : Sheet) (next : ℕ) → parse bytes ≡ got s next → Accepted bytes s
   got-accepted s next e =
-      let W = parse-wellformed version1 version1-usable bytes octets s next e in
-      let P = print-of-parse version1 version1-usable bytes octets s next e in
-      let S = wellformed-sound s W in
-      let K = pack-sound (networkOf s) S (wellformed-n s W) (wellformed-size s W) in
+      let whole : parse bytes ≡ got s (length bytes) = e ∙ ap (got s) (parsed bytes octets s next e .body .all-read) in
+      let R = parsed bytes octets s (length bytes) whole in
+      let W = R .body .well-formed in
+      let S = wellformed-sound (R .layout) (R .usable) s W in
+      let n = wellformed-n (R .layout) (R .usable) s W in
+      let K = pack-sound (networkOf s) S n (wellformed-size (R .layout) (R .usable) s W) in
       let is = ap (λ (r : ReadTold). r .state) (read-got bytes s next e) in
       record {
-        parsed = e ∙ ap (got s) (P .1);
-        well-formed = W;
-        printed = P .0;
+        got-sheet = whole;
+        read = R;
         sheet-sound = S;
+        at-most = n;
         packed = K;
         state-is = is;
         view-is = ap view is ∙ K .packed-view;
@@ -120,7 +122,7 @@ module _ (bytes : List ℕ) (octets : (k : ℕ) → getD bytes k 0 < 256) where
     pub read-solutions : (f : ℕ → ℕ) → solves (view (readSheet bytes .state)) f ≡ isBuild bytes f
     read-solutions f =
         let (s, A) = accepted h in
-        ap (λ (N : Network). solves N f) (A .view-is) ∙ sym (builds-solve bytes octets s (length bytes) (A .parsed) f)
+        ap (λ (N : Network). solves N f) (A .view-is) ∙ sym (builds-solve bytes octets s (length bytes) (A .got-sheet) f)
 
 -- The writer's refusal, case by case: "the writer tests 9, 18, 17".
 module _ (s : State) (space : ℕ) where
@@ -163,12 +165,12 @@ module _ (s : State) (buffer : List ℕ) where
 -- "Reading a written sheet returns the same state":
 pub read-of-write : (s : State) → Shaped s → (space : ℕ) → writeRefusal s space ≡ 0
     → readSheet (sheetBytes s) ≡ record { number = 0; place = 0; state = s }
-unfolding sheetBytes
+unfolding sheetBytes version1
 read-of-write s h space e =
     let (t, F) = written-fresh s space e in
     let S = state-sound s h t in
-    let W = sheetOf-wellformed (view s) S (state-n s t) (state-size s h t) in
-    read-got (sheetBytes s) (sheetOf (view s)) _ (parse-of-print version1 version1-usable (sheetOf (view s)) W)
+    let W = sheetOf-wellformed version1 version1-usable (view s) S (state-n s t) (version1-takes (view s) (state-size s h t)) in
+    read-got (sheetBytes s) (sheetOf (view s)) _ (parse-of-print version1 (version1-found _ refl) (sheetOf (view s)) W)
     ∙ ap (λ (u : State). record { number = 0; place = 0; state = u }) (ap pack (networkOf-sheetOf (view s) S F) ∙ pack-view s h)
 
 -- "writing a sheet just read, into enough space, returns the same bytes".
@@ -177,7 +179,8 @@ module _ (bytes : List ℕ) (octets : (k : ℕ) → getD bytes k 0 < 256) (h : r
   unfolding sheetBytes
   sheetBytes-of-read =
       let (s, A) = accepted bytes octets h in
-      rw (A .view-is, wellformed-sheetOf s (A .well-formed)) (A .printed)
+      let R = A .read in
+      rw (A .view-is, wellformed-sheetOf (R .layout) (R .usable) s (R .body .well-formed), ← found-version1 _ (R .layout) (R .layout-found)) (R .printed)
 
   pub write-of-read : (buffer : List ℕ) → length bytes ≤ length buffer
       → writeSheet (readSheet bytes .state) buffer

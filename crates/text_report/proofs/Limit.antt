@@ -10,7 +10,7 @@ use borrow.Author.Tests.{lt-ltb, ltb-true, ltb-false}
 use Rattle.bounded.proofs.Bool.{by-cases, or-l, or-r}
 use Rattle.cause.specs.declared.Cause.the-variants.{Length}
 use Rattle.network.specs.Sheet.{Sheet}
-use Rattle.format.specs.Layout.{version1}
+use Rattle.format.specs.Layout.{longest}
 use Rattle.format.specs.Parse.{Parse, bad, wrongLength, parse}
 use Rattle.format.proofs.Parse.{parse-wrong-length}
 use Rattle.state.specs.Read.{readAs, readSheet}
@@ -19,14 +19,14 @@ use Rattle.state.specs.Cut.{cutAs, cutSheet}
 use Rattle.text_report.specs.Text.{limit, textAs, textOf}
 
 pub limit-is : limit ≡ 4102
-unfolding limit version1
+unfolding limit longest
 limit-is = refl
 
-too-long : (bytes : List ℕ) → version1 .longest < length bytes → parse version1 bytes ≡ bad Length 0
+too-long : (bytes : List ℕ) → longest < length bytes → parse bytes ≡ bad Length 0
 unfolding wrongLength
-too-long bytes h = parse-wrong-length version1 bytes (or-r (ltb (length bytes) 3) _ (or-l _ _ (lt-ltb _ _ h)))
+too-long bytes h = parse-wrong-length bytes (or-r (ltb (length bytes) 3) _ (or-l _ _ (lt-ltb _ _ h)))
 
-same-text : (a b : List ℕ) → parse version1 a ≡ parse version1 b → textOf a ≡ textOf b
+same-text : (a b : List ℕ) → parse a ≡ parse b → textOf a ≡ textOf b
 unfolding textOf cutSheet readSheet
 same-text a b = ap (λ (p : Parse Sheet). textAs (cutAs (readAs p) (reduced (readAs p .state))))
 
@@ -34,8 +34,8 @@ same-text a b = ap (λ (p : Parse Sheet). textAs (cutAs (readAs p) (reduced (rea
 pub text-of-first : (bytes : List ℕ) → textOf (take limit bytes) ≡ textOf bytes
 unfolding limit
 text-of-first bytes =
-    by-cases (ltb (version1 .longest) (length bytes))
-    (λ t. let long : version1 .longest < length bytes = ltb-true _ _ t in
+    by-cases (ltb longest (length bytes))
+    (λ t. let long : longest < length bytes = ltb-true _ _ t in
     let shown = length-take-le limit bytes (omega arith) in
     same-text (take limit bytes) bytes (too-long (take limit bytes) (omega arith) ∙ sym (too-long bytes long)))
-    (λ t. ap textOf (take-all limit bytes (let short = ltb-false (version1 .longest) (length bytes) t in omega arith)))
+    (λ t. ap textOf (take-all limit bytes (let short = ltb-false longest (length bytes) t in omega arith)))

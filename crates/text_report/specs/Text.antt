@@ -4,7 +4,7 @@ use Prim.Native.Nat.{ℕ, suc}
 use lib.Dec.{eqb}
 use Rattle.bounded.specs.Bool.{if}
 use Rattle.buffers.specs.Digits.{decimal}
-use Rattle.format.specs.Layout.{version1}
+use Rattle.format.specs.Layout.{longest}
 use Rattle.answers.specs.Answers.{VerdictTold}
 use Rattle.state.specs.Cut.{CutTold, cutSheet}
 use Rattle.text_lines.specs.Text.{ascii, optionLines, refusedText}
@@ -31,4 +31,4 @@ textOf bytes = textAs (cutSheet bytes)
 
 -- How many bytes of an input tell its text: one more than the largest sheet has, since a longer input is refused for its length alone.
 unfoldable pub limit : ℕ
-limit = suc (version1 .longest)
+limit = suc longest

@@ -21,14 +21,16 @@ use Rattle.network.specs.Sound.{Sound}
 use Rattle.network.specs.Sheet.{collect, tableOf, sheetOf}
 use Rattle.network.proofs.SheetOf.{n-sheetOf}
 use Rattle.rows.specs.Rows.{rowAt, allowsOf}
-use Rattle.format.specs.Layout.{version1}
+use Rattle.format.specs.Layout.{longest, version1}
 use Rattle.format.specs.Print.{bytesOf, printAll, printTable, printBody, print}
 use Rattle.format.specs.WellFormed.{WellFormed}
 use Rattle.write_sheet.specs.Writing.{heldBy, bytesHeld}
 use Rattle.buffers.specs.Wrote.{Wrote}
 use Rattle.write_sheet.specs.Texts.{joined, sizesText, rowsText, tableText, laterText, tablesText, bodyText, sheetText}
 use Rattle.write_sheet.specs.Texts.{later, tableCount, tablesLength, sheetLength}
-use Rattle.format.proofs.SheetOf.{sheetOf-wellformed}
+use Rattle.format.proofs.Layouts.{version1-usable}
+use Rattle.format.proofs.Lengths.{largest-sheet}
+use Rattle.format.proofs.SheetOf.{sheetOf-wellformed, version1-takes}
 use Rattle.buffers.proofs.Laws.{wrote-then}
 use Rattle.write_sheet.proofs.Texts.{collect-none, collect-snoc, joined-none, length-joined-more, table-stated, table-unstated}
 
@@ -286,12 +288,13 @@ module _ {n : ℕ} (sizes stated rows : List ℕ) (few : n ≤ 16) (small : (i :
 
   sound-wellformed : WellFormed version1 (sheetOf (heldBy n sizes stated rows))
   unfolding heldBy
-  sound-wellformed = sheetOf-wellformed (heldBy n sizes stated rows) S few small
+  sound-wellformed =
+      sheetOf-wellformed version1 version1-usable (heldBy n sizes stated rows) S few (version1-takes (heldBy n sizes stated rows) small)
 
   -- "The largest sheet has 4,101 bytes",
   pub sound-most : length (bytesHeld n sizes stated rows) ≤ 4101
-  unfolding bytesHeld version1
-  sound-most = sound-wellformed .not-too-long
+  unfolding bytesHeld longest
+  sound-most = largest-sheet version1 (sheetOf (heldBy n sizes stated rows)) sound-wellformed version1-usable
 
   -- with 120 tables.
   pub sound-count : tableCount n stated ≤ 120

@@ -2,7 +2,6 @@
 use mathlib.Core.Bool.{false}
 use mathlib.Core.Path.{_≡_, sym, _∙_}
 use denote.Ref.{now}
-use Rattle.format.specs.Layout.{version1}
 use Rattle.format.specs.Parse.{wrongLength}
 use Rattle.read_sheet.proofs.Reading.{into-wrong-length, some-byte, into-wrong-version, into-body}
 use borrow.Author.Needs.{needs}
@@ -10,7 +9,7 @@ use Rattle.read_sheet.proofs.read.read_into.Statement.{statement}
 use Rattle.read_sheet.proofs.read.read_into.Tie as tie
 
 -- The length is right.
-right-length : (c : tie.Else1) → wrongLength version1 (now (c .before .before .before .args .bytes)) ≡ false
+right-length : (c : tie.Else1) → wrongLength (now (c .before .before .before .args .bytes)) ≡ false
 right-length c = sym (c .before .wrong-length .ensures) ∙ c .if1 .left
 
 returns : tie.Need-returns
