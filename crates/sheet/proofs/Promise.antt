@@ -24,7 +24,7 @@ use Rattle.network.proofs.Completion.{solves-cong}
 use Rattle.network.proofs.Count.{sumTuples-sizes}
 use Rattle.network.proofs.Calls.{after-keeps}
 use Rattle.network.proofs.Promise as network
-use Rattle.format.specs.Parse.{parse}
+use Rattle.format.specs.Parse.{Octets, parse}
 use Rattle.format.specs.Builds.{options, isBuildOf}
 use Rattle.format.proofs.Builds.{builds-solve, builds-are-solutions, options-are, option-sizes-are}
 use Rattle.state.specs.declared.state.State.{State}
@@ -159,7 +159,7 @@ module _ (N M : Network) (t : State) (n : ℕ) (build : List ℕ → Bool) (S : 
       )
 
 -- An accepted sheet, and any list of calls.
-module _ (bytes : List ℕ) (octets : (k : ℕ) → getD bytes k 0 < 256) (h : readSheet bytes .number ≡ 0) (s : Sheet) (A : Accepted bytes s)
+module _ (bytes : List ℕ) (octets : Octets bytes) (h : readSheet bytes .number ≡ 0) (s : Sheet) (A : Accepted bytes s)
     (cs : List Call) where
   network-read : networkRead (parse bytes) ≡ networkOf s
   unfolding networkRead

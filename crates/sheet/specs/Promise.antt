@@ -14,7 +14,7 @@ use Rattle.network.specs.Completion.{Verdict, NONE, BUILT, allowedChoice}
 use Rattle.network.specs.Count.{countTuples, choiceCount}
 use Rattle.network.specs.Sheet.{Table, Sheet, networkOf}
 use Rattle.network.specs.Calls.{Call, follow-step, full-reduction, after}
-use Rattle.format.specs.Parse.{Parse, got, bad, parse}
+use Rattle.format.specs.Parse.{Octets, Parse, got, bad, parse}
 use Rattle.format.specs.Builds.{options, optionSize, isBuild, isBuildOf}
 use Rattle.state.specs.declared.state.State.{State}
 use Rattle.state.specs.View.{view, pack, zeroState}
@@ -106,4 +106,4 @@ module _ (bytes : List ℕ) (cs : List Call) where
 
 -- Demand 3, whole: "Take any accepted sheet. For every list of follow steps and full reductions asked of it, in any order, refused ones included".
 unfoldable pub Demand3 : Type 0
-Demand3 = (bytes : List ℕ) → ((k : ℕ) → getD bytes k 0 < 256) → readSheet bytes .number ≡ 0 → (cs : List Call) → Promise bytes cs
+Demand3 = (bytes : List ℕ) → Octets bytes → readSheet bytes .number ≡ 0 → (cs : List Call) → Promise bytes cs

@@ -22,20 +22,12 @@ use Rattle.network.proofs.Sound.{free-e, free-or-led, leader-n, sound→Sound, 
 use Rattle.rows.proofs.Array.{rows-array}
 use Rattle.rows.proofs.Laws.{allows-rows, rows-allows}
 use Rattle.state.specs.View.{variables, width, mostValues, stateOf, view, pack, zeroState, soundState}
+pub use Rattle.state.specs.View.{Shaped}
 use Rattle.soundness.specs.Parts.{partsView, Lent}
 use Rattle.state.specs.declared.state.State.{State}
 use Rattle.soundness.proofs.Parts.{parts-bounded}
 
--- What the types of the fields say of every state.
-pub record Shaped (s : State) : Type 0 where
-  pub n-lt : s .n < 2 ^ 64
-  pub sizes-array : Array 16 (2 ^ 8) (s .sizes)
-  pub domains-array : Array 16 (2 ^ 16) (s .domains)
-  pub leaders-array : Array 16 (2 ^ 8) (s .leaders)
-  pub stated-array : Array 16 (2 ^ 16) (s .stated)
-  pub rows-array : Array 4096 (2 ^ 16) (s .rows)
-
--- What finds it of a parameter or a call's result: `let h : Shaped (c .args .s) = search shape in ..`.
+-- What finds the shape of a parameter or of a call's result: `let h : Shaped (c .args .s) = search shape in ..`.
 pub ruleset shape = (u8-array, u16-array, needs)
 
 -- 16 sets of values below 16, as words: domains, and stated pairs.

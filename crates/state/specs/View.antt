@@ -1,9 +1,10 @@
 -- States and networks.
 use mathlib.Core.Bool.{Bool}
 use mathlib.Core.List.{List}
-use Prim.Native.Nat.{ℕ, _*_}
+use Prim.Native.Nat.{ℕ, _<_, _*_, _^_}
 use lib.ListN.{getD, replicate}
 use Rattle.bounded.specs.Table.{tabulate}
+use Rattle.bounded.specs.Array.{Array}
 use Rattle.words.specs.Word.{has, word}
 use Rattle.network.specs.Network.{Network}
 use Rattle.network.specs.Sound.{sound}
@@ -26,6 +27,15 @@ mostValues = 16
 abbrev pub stateOf : ℕ → (sizes domains leaders stated rows : List ℕ) → State
 stateOf n sizes domains leaders stated rows =
     record { n = n; sizes = sizes; domains = domains; leaders = leaders; stated = stated; rows = rows }
+
+-- What the types of the fields say of every state.
+pub record Shaped (s : State) : Type 0 where
+  pub n-lt : s .n < 2 ^ 64
+  pub sizes-array : Array 16 (2 ^ 8) (s .sizes)
+  pub domains-array : Array 16 (2 ^ 16) (s .domains)
+  pub leaders-array : Array 16 (2 ^ 8) (s .leaders)
+  pub stated-array : Array 16 (2 ^ 16) (s .stated)
+  pub rows-array : Array 4096 (2 ^ 16) (s .rows)
 
 -- The network that a state holds.
 unfoldable pub view : State → Network

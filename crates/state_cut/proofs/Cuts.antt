@@ -4,14 +4,14 @@ use mathlib.Core.List.{List}
 use mathlib.Core.Path.{_≡_, refl, sym, ap, _∙_}
 use Prim.Native.Nat.{ℕ, _≤_, _<_}
 use native.Mathlib.Omega.{arith}
-use lib.ListN.{getD, replicate}
+use lib.ListN.{replicate}
 use Rattle.cause.specs.declared.Cause.{Cause}
 use Rattle.cause.specs.declared.Cause.the-variants as cause
 use Rattle.cause.specs.Number.{numberOf}
 use Rattle.cause.proofs.Laws.{number-positive}
 use Rattle.network.specs.Reduction.{reduce}
 use Rattle.network.specs.Sheet.{Sheet}
-use Rattle.format.specs.Parse.{parse, got, bad}
+use Rattle.format.specs.Parse.{Octets, parse, got, bad}
 use Rattle.format.specs.Layout.{longest}
 use Rattle.format.proofs.Places.{refused-place}
 use Rattle.state.specs.declared.state.State.{State}
@@ -84,7 +84,7 @@ module _ (bytes : List ℕ) (a : ReadParts) (rows : List ℕ) (e : readPartsTold
       sym (cut-unsound (readPartsTold a rows) (refused-unsound h)) ∙ ap (λ (r : ReadTold). cutAs r (reduced (r .state))) e
 
   -- An accepted sheet gives a sound state,
-  pub cut-read : ((k : ℕ) → getD bytes k 0 < 256) → a .outcome ≡ readOutcome.Accepted → AsRead stateRead
+  pub cut-read : Octets bytes → a .outcome ≡ readOutcome.Accepted → AsRead stateRead
   unfolding readNumber
   cut-read octets h = rw told-state (read-sound bytes octets (sym told-number ∙ ap readNumber h))
 
@@ -119,7 +119,7 @@ pub record Small (c : CutTold) : Type 0 where
   pub n-small : c .state .n ≤ 16
   pub steps-small : c .steps < 16
 
-module _ (bytes : List ℕ) (octets : (k : ℕ) → getD bytes k 0 < 256) where
+module _ (bytes : List ℕ) (octets : Octets bytes) where
   small-accepted : (s : Sheet) (next : ℕ) → parse bytes ≡ got s next → Small (cutSheet bytes)
   unfolding cutAs cutSheet
   small-accepted s next e =

@@ -1,7 +1,7 @@
 -- What reading into arrays comes to as a state.
 use mathlib.Core.List.{List}
-use mathlib.Core.Path.{_≡_, refl, sym, _∙_, ap}
-use Prim.Native.Nat.{ℕ, _≤_, _<_}
+use mathlib.Core.Path.{_≡_, _∙_, ap}
+use Prim.Native.Nat.{ℕ, _≤_}
 use native.Mathlib.Omega.{arith}
 use lib.Dec.{ltb}
 use lib.ListN.{length, getD, replicate}
@@ -13,7 +13,7 @@ use Rattle.words.specs.Word.{word}
 use Rattle.words.proofs.Laws.{word-cong}
 use Rattle.cause.specs.declared.Cause.{Cause}
 use Rattle.network.specs.Sheet.{Sheet, networkOf}
-use Rattle.format.specs.Parse.{parse}
+use Rattle.format.specs.Parse.{Octets, parse}
 use Rattle.read_field.specs.declared.field.Read.{Read}
 use Rattle.read_field.specs.declared.field.Read.the-variants.{Value, Refused}
 use Rattle.read_field.proofs.Fields.{as-got, as-bad}
@@ -72,7 +72,7 @@ module _ (bytes sizes stated rows : List ℕ) (r : Read) (R : SheetRead (parse b
   read-refused c at e = rw (as-bad _ r _ c at (R .parsed) e)
 
   -- The sizes of an accepted sheet are at most 16.
-  pub read-sizes : ((k : ℕ) → getD bytes k 0 < 256) → (n next : ℕ) → r ≡ Value n next → (i : ℕ) → getD sizes i 0 ≤ 16
+  pub read-sizes : Octets bytes → (n next : ℕ) → r ≡ Value n next → (i : ℕ) → getD sizes i 0 ≤ 16
   read-sizes octets n next e i =
       let is : sizes ≡ tabulate 16 (networkOf (R .sheet) .size) = R .holds n next e .sizes-are in
       by-cases (ltb i 16)

@@ -2,33 +2,37 @@
 use mathlib.Core.Bool.{true, false}
 use mathlib.Core.List.{List, _++_}
 use mathlib.Core.Logic.{_↔_}
-use mathlib.Core.Path.{_≡_, refl, sym, ap, _∙_}
+use mathlib.Core.Path.{_≡_, refl, sym, ap, ap₂, _∙_}
 use Prim.Native.Nat.{ℕ, _≤_, _<_}
+use native.Mathlib.Numerals.{add-one}
 use native.Mathlib.Omega.{arith}
 use lib.Dec.{ltb}
-use lib.ListN.{length, getD, drop}
-use borrow.Author.Tests.{lt-ltb, le-ltb}
-use Rattle.bounded.proofs.Bool.{by-cases, not-i, not-false-i, if-true, if-false}
+use lib.ListN.{length, take, drop}
+use lib.Seq.{take-append-seam, drop-append-seam}
+use borrow.Author.Tests.{lt-ltb, le-ltb, ltb-true, ltb-false}
+use Rattle.bounded.specs.Bool.{or}
+use Rattle.bounded.proofs.Bool.{by-cases, and-holds, not-i, not-false-i, if-true, if-false}
+use Rattle.words.specs.Word.{has}
 use Rattle.cause.specs.declared.Cause.{Cause}
 use Rattle.cause.specs.Number.{numberOf}
 use Rattle.cause.proofs.Laws.{number-positive}
 use Rattle.network.specs.Network.{Network, solves}
 use Rattle.network.specs.Sound.{Sound}
-use Rattle.network.specs.Sheet.{Sheet, networkOf, sheetOf, fresh}
-use Rattle.network.proofs.SheetOf.{fresh-leader, fresh-domain, networkOf-fresh, networkOf-sheetOf}
+use Rattle.network.specs.Sheet.{Sheet, tabled, networkOf, sheetOf, fresh}
+use Rattle.network.proofs.SheetOf.{fresh-leader, fresh-domain, networkOf-fresh, networkOf-stated, networkOf-sheetOf, row-networkOf}
 use Rattle.format.specs.Layout.{version1}
-use Rattle.format.specs.Parse.{Parse, got, bad, parse}
-use Rattle.format.specs.Print.{print}
+use Rattle.format.specs.Parse.{Octets, Parse, got, bad, parse}
 use Rattle.format.specs.Builds.{isBuild}
-use Rattle.format.proofs.Layouts.{version1-usable, version1-found, found-version1}
+use Rattle.format.proofs.Layouts.{version1-usable, version1-found, found-version, found-version1}
 use Rattle.format.proofs.RoundTrip.{SheetRead, parsed, parse-of-print}
-use Rattle.format.proofs.SheetOf.{wellformed-sound, wellformed-n, wellformed-size, wellformed-sheetOf, sheetOf-wellformed, version1-takes}
-use Rattle.format.proofs.Builds.{builds-solve}
+use Rattle.format.proofs.SheetOf.{wellformed-fits, wellformed-sound, wellformed-n, wellformed-size, wellformed-sheetOf, sheetOf-wellformed, version1-takes}
+use Rattle.format.proofs.Builds.{builds-solve, options-are, option-sizes-are, tables-are, rows-are-read}
 use Rattle.state.specs.declared.state.State.{State}
 use Rattle.state.specs.View.{view, pack, zeroState, soundState}
 use Rattle.state.specs.Answers.{ReadTold}
 use Rattle.state.specs.Read.{readAs, readSheet}
-use Rattle.state.specs.Write.{sheetBytes, writeRefusal, writeAs, writeSheet}
+use Rattle.state.specs.Write.{Wrote, sheetBytes, writeRefusal, writeAs, writeSheet}
+use Rattle.state_read.specs.RoundTrip.{AcceptedExactly, ReadTables, ReadOfWrite, WriteOfRead}
 use Rattle.state.proofs.View.{Shaped, Packed, pack-view, pack-sound, state-sound, state-n, state-size}
 
 -- Reading, case by case.
@@ -52,8 +56,8 @@ module _ (bytes : List ℕ) where
   got-or-bad (bad c at) e f g = g c at e
 
   -- A sheet is accepted exactly when the parser gets it.
-  pub accepted-exactly : (readSheet bytes .number ≡ 0) ↔ ((s : Sheet) × (next : ℕ) × (parse bytes ≡ got s next))
-  accepted-exactly = (
+  accepted-parses : (readSheet bytes .number ≡ 0) ↔ ((s : Sheet) × (next : ℕ) × (parse bytes ≡ got s next))
+  accepted-parses = (
     λ h. got-or-bad (parse bytes) refl
         (λ s next e. (s, next, e))
         (λ c at e. absurd (let z : readSheet bytes .number ≡ numberOf c = ap (λ (r : ReadTold). r .number) (read-refused c at e) in
@@ -71,15 +75,13 @@ pub record Accepted (bytes : List ℕ) (s : Sheet) : Type 0 where
   pub state-is : readSheet bytes .state ≡ pack (networkOf s)
   pub view-is : view (readSheet bytes .state) ≡ networkOf s
 
--- A state as read: "A sheet just read has full lists, no leader".
+-- A state as read is sound, and the writer takes it.
 pub record AsRead (t : State) : Type 0 where
   pub read-shaped : Shaped t
   pub is-sound : soundState t ≡ true
   pub is-fresh : fresh (view t) ≡ true
-  pub no-leader : (i : ℕ) → view t .leader i ≡ 0
-  pub full-lists : (i a : ℕ) → view t .domain i a ≡ ltb a (view t .size i)
 
-module _ (bytes : List ℕ) (octets : (k : ℕ) → getD bytes k 0 < 256) where
+module _ (bytes : List ℕ) (octets : Octets bytes) where
   pub got-accepted : (s : Sheet) (next : ℕ) → parse bytes ≡ got s next → Accepted bytes s
   got-accepted s next e =
       let whole : parse bytes ≡ got s (length bytes) = e ∙ ap (got s) (parsed bytes octets s next e .body .all-read) in
@@ -100,22 +102,16 @@ module _ (bytes : List ℕ) (octets : (k : ℕ) → getD bytes k 0 < 256) where
       }
 
   pub accepted : readSheet bytes .number ≡ 0 → (s : Sheet) × Accepted bytes s
-  accepted h = let g = accepted-exactly bytes .0 h in (g .0, got-accepted (g .0) (g .1) (g .2))
+  accepted h = let g = accepted-parses bytes .0 h in (g .0, got-accepted (g .0) (g .1) (g .2))
 
   module _ (h : readSheet bytes .number ≡ 0) where
-    -- The state is sound, and as just read.
     pub read-sound : AsRead (readSheet bytes .state)
     read-sound =
         let (s, A) = accepted h in
-        let N = view (readSheet bytes .state) in
-        let S : Sound N = rw (A .view-is) (A .sheet-sound) in
-        let F : fresh N ≡ true = rw (A .view-is) (networkOf-fresh s) in
         record {
           read-shaped = rw (A .state-is) (A .packed .packed-shaped);
           is-sound = rw (A .state-is) (A .packed .packed-sound);
-          is-fresh = F;
-          no-leader = fresh-leader N S F;
-          full-lists = fresh-domain N S F;
+          is-fresh = rw (A .view-is) (networkOf-fresh s);
         }
 
     -- Its solutions are the builds read off the bytes.
@@ -162,31 +158,82 @@ module _ (s : State) (buffer : List ℕ) where
   unfolding writeSheet writeAs
   wrote-nothing number e h = rw e (if-true _ _ _ (lt-ltb 0 number h))
 
--- "Reading a written sheet returns the same state":
-pub read-of-write : (s : State) → Shaped s → (space : ℕ) → writeRefusal s space ≡ 0
+-- The bytes of what is written read back as the state.
+read-sheetBytes : (s : State) → Shaped s → (space : ℕ) → writeRefusal s space ≡ 0
     → readSheet (sheetBytes s) ≡ record { number = 0; place = 0; state = s }
 unfolding sheetBytes version1
-read-of-write s h space e =
+read-sheetBytes s h space e =
     let (t, F) = written-fresh s space e in
     let S = state-sound s h t in
     let W = sheetOf-wellformed version1 version1-usable (view s) S (state-n s t) (version1-takes (view s) (state-size s h t)) in
     read-got (sheetBytes s) (sheetOf (view s)) _ (parse-of-print version1 (version1-found _ refl) (sheetOf (view s)) W)
     ∙ ap (λ (u : State). record { number = 0; place = 0; state = u }) (ap pack (networkOf-sheetOf (view s) S F) ∙ pack-view s h)
 
--- "writing a sheet just read, into enough space, returns the same bytes".
-module _ (bytes : List ℕ) (octets : (k : ℕ) → getD bytes k 0 < 256) (h : readSheet bytes .number ≡ 0) where
-  pub sheetBytes-of-read : sheetBytes (readSheet bytes .state) ≡ bytes
-  unfolding sheetBytes
-  sheetBytes-of-read =
-      let (s, A) = accepted bytes octets h in
-      let R = A .read in
-      rw (A .view-is, wellformed-sheetOf (R .layout) (R .usable) s (R .body .well-formed), ← found-version1 _ (R .layout) (R .layout-found)) (R .printed)
+-- The number answered is the one that refuses.
+not-refused : (s : State) (buffer : List ℕ) → writeSheet s buffer .answer .number ≡ 0 → writeRefusal s (length buffer) ≡ 0
+not-refused s buffer e =
+    by-cases (ltb 0 (writeRefusal s (length buffer)))
+    (λ t. let p : 0 < writeRefusal s (length buffer) = ltb-true _ _ t in
+    absurd (let x : ⊥ = omega (arith, ap (λ (w : Wrote). w .answer .number) (wrote-nothing s buffer _ refl p)) in x))
+    (λ t. omega (arith, ltb-false 0 (writeRefusal s (length buffer)) t))
 
-  pub write-of-read : (buffer : List ℕ) → length bytes ≤ length buffer
-      → writeSheet (readSheet bytes .state) buffer
-      ≡ record { answer = record { number = 0; length = length bytes }; buffer = bytes ++ drop (length bytes) buffer }
-  write-of-read buffer l =
-      let r = read-sound bytes octets h in
-      rw sheetBytes-of-read at
-      (wrote (readSheet bytes .state) buffer
-      (write-accepted (readSheet bytes .state) (length buffer) (r .is-sound) (r .is-fresh) (rw sheetBytes-of-read l)))
+pub read-of-write : ReadOfWrite
+unfolding ReadOfWrite
+read-of-write s h buffer e =
+    let z = not-refused s buffer e in
+    let written : take (writeSheet s buffer .answer .length) (writeSheet s buffer .buffer) ≡ sheetBytes s =
+    rw (wrote s buffer z) (take-append-seam (sheetBytes s) (drop (length (sheetBytes s)) buffer)) in
+    ap readSheet written ∙ read-sheetBytes s h (length buffer) z
+
+-- The bytes of a state just read are those that it was read from.
+sheetBytes-of-read : (bytes : List ℕ) → Octets bytes → readSheet bytes .number ≡ 0 → sheetBytes (readSheet bytes .state) ≡ bytes
+unfolding sheetBytes
+sheetBytes-of-read bytes octets h =
+    let (s, A) = accepted bytes octets h in
+    let R = A .read in
+    rw (A .view-is, wellformed-sheetOf (R .layout) (R .usable) s (R .body .well-formed), ← found-version1 _ (R .layout) (R .layout-found)) (R .printed)
+
+pub write-of-read : WriteOfRead
+unfolding WriteOfRead
+write-of-read bytes octets h buffer l =
+    let r = read-sound bytes octets h in
+    let same = sheetBytes-of-read bytes octets h in
+    let e = rw same at
+    (wrote (readSheet bytes .state) buffer
+    (write-accepted (readSheet bytes .state) (length buffer) (r .is-sound) (r .is-fresh) (rw same l))) in
+    rw e
+    (record {
+      not-refused = refl;
+      same-length = refl;
+      same-bytes = take-append-seam bytes (drop (length bytes) buffer);
+      rest-untouched = drop-append-seam bytes (drop (length bytes) buffer);
+    })
+
+pub accepted-exactly : AcceptedExactly
+unfolding AcceptedExactly
+accepted-exactly bytes octets = (
+  λ h. let (s, A) = accepted bytes octets h in
+      let R = A .read in
+      (R .layout, s, rw (← found-version _ (R .layout) (R .layout-found)) (R .layout-found), R .body .well-formed, R .printed),
+  λ (L, s, v, W, e). accepted-parses bytes .1 (s, length bytes, rw e at (parse-of-print L v s W)),
+)
+
+-- What the walk over the bytes finds is what was read.
+pub read-tables : ReadTables
+unfolding ReadTables
+read-tables bytes octets h =
+    let (s, A) = accepted bytes octets h in
+    let g = A .got-sheet in
+    let F = wellformed-fits (A .read .layout) (A .read .usable) s (A .read .body .well-formed) in
+    rw (A .view-is)
+    (record {
+      n-read = sym (options-are bytes octets s _ g);
+      sizes-read = λ i l. sym (rw add-one at (option-sizes-are bytes octets s _ g i l));
+      full-lists = fresh-domain (networkOf s) (A .sheet-sound) (networkOf-fresh s);
+      no-leader = fresh-leader (networkOf s) (A .sheet-sound) (networkOf-fresh s);
+      tables-stated = λ i j. networkOf-stated s i j ∙ ap₂ or (sym (tables-are bytes octets s _ g i j)) (sym (tables-are bytes octets s _ g j i));
+      rows-read = λ i j a b t l.
+          let x : tabled (s .tables) i j ≡ true = sym (tables-are bytes octets s _ g i j) ∙ t in
+          sym (and-holds _ _ (lt-ltb i j (F .pair-in i j x .0))) ∙ row-networkOf s F i j a b ∙ ap (λ (r : ℕ). has r b) (sym (rows-are-read bytes octets s _ g i j a t l));
+      both-sides = A .sheet-sound .allows-sym;
+    })

@@ -1,2 +1,3 @@
--- Reading on lent rows.
+-- Reading on lent rows, and the round trips.
 pub mod Parts
+pub mod RoundTrip
