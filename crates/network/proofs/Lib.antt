@@ -11,4 +11,5 @@ pub mod Promise
 pub mod Tables
 pub mod Sheet
 pub mod SheetOf
+pub mod Rules
 pub mod Sheets

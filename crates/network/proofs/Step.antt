@@ -1,4 +1,4 @@
--- What a step is: when it is refused, what it leaves, case by case, and the rules 1 to 3 as document 01 says them.
+-- What a step is: when it is refused, and what it leaves, case by case.
 use mathlib.Core.Bool.{Bool, true, false}
 use mathlib.Core.Logic.{_↔_, Iff·rfl}
 use mathlib.Core.Path.{_≡_, refl, sym, _∙_, ap, ap₂, subst}
@@ -331,59 +331,3 @@ module _ (N : Network) (S : Sound N) (i j : ℕ) (T : ℕ → Bool) (M : Network
       (λ k t a b. m .allows-moved a b .at-jk k t ∙ sym (m .allows-moved b a .at-kj k t))
       (λ x y r a b. m .allows-moved a b .elsewhere x y r
       ∙ (S .allows-sym x y a b ∙ sym (m .allows-moved b a .elsewhere y x (stays-sym i j T x y r))))
-
--- The rules, in document 01's words: what M is after the step in which j comes to follow i.
-pub record Rules (N : Network) (i j : ℕ) (M : Network) : Type 0 where
-  -- 1. "The list of i loses each value that has no allowed partner in the list of j."
-  pub rule-1 : (a : ℕ)
-      → (M .domain i a ≡ true) ↔ ((N .domain i a ≡ true) × ((b : ℕ) × (N .domain j b ≡ true) × (N .allows i j a b ≡ true)))
-  pub rule-1-rest : (x a : ℕ) → (x ≡ i → ⊥) → M .domain x a ≡ N .domain x a
-  -- 2. "For each third option k stated with j, the pair i, k becomes stated. It allows (a, c) exactly when a is in the new list of i,
-  -- c is in the list of k, some b in the list of j goes with both, and, if i, k was stated before, it allowed (a, c) before."
-  pub rule-2-stated : (k : ℕ) → third N i j k ≡ true → M .stated i k ≡ true
-  pub rule-2 : (k a c : ℕ) → third N i j k ≡ true
-      → (M .allows i k a c ≡ true)
-      ↔ ((M .domain i a ≡ true)
-      × (N .domain k c ≡ true)
-      × ((b : ℕ) × (N .domain j b ≡ true) × (N .allows i j a b ≡ true) × (N .allows j k b c ≡ true))
-      × (N .stated i k ≡ true → N .allows i k a c ≡ true))
-  pub rule-2-side : (k a c : ℕ) → third N i j k ≡ true → (M .stated k i ≡ M .stated i k) × (M .allows k i c a ≡ M .allows i k a c)
-  -- "The pair j, k is then unstated and allows nothing." Every other pair is as it was.
-  pub rule-2-gone : (k b c : ℕ) → third N i j k ≡ true
-      → (M .stated j k ≡ false) × (M .stated k j ≡ false) × (M .allows j k b c ≡ false) × (M .allows k j c b ≡ false)
-  pub rule-2-rest : (x y a b : ℕ) → Stays i j (third N i j) x y
-      → (M .stated x y ≡ N .stated x y) × (M .allows x y a b ≡ N .allows x y a b)
-  -- 3. "Followers of j get i as leader, and so does j."
-  pub rule-3-followers : (x : ℕ) → N .leader x ≡ suc j → M .leader x ≡ suc i
-  pub rule-3 : M .leader j ≡ suc i
-  pub rule-3-rest : (x : ℕ) → (x ≡ j → ⊥) → (N .leader x ≡ suc j → ⊥) → M .leader x ≡ N .leader x
-
-pub eliminate-rules : (N : Network) → Sound N → (i j : ℕ) → (i ≡ j → ⊥) → Rules N i j (eliminate N i j)
-eliminate-rules N S i j d =
-    let m = eliminate-moves N i j d in
-    record {
-      rule-1 =
-          λ a. (
-            λ h. let t : trimmed N i j a ≡ true = sym (domain-i N i j a) ∙ h in
-                (trimmed-domain N i j a t, trimmed-e N i j a t (λ b db ab. (b, db, ab))),
-            λ h. domain-i N i j a ∙ trimmed-i N i j S a (h .1 .0) (h .0) (h .1 .1) (h .1 .2),
-          );
-      rule-1-rest = domain-other N i j;
-      rule-2-stated = m .stated-moved .at-ik;
-      rule-2 =
-          λ k a c t. (
-            λ h. let e = composed-e N i j k a c _ (sym (m .allows-moved a c .at-ik k t) ∙ h) in
-                (domain-i N i j a ∙ e .0, e .1, joined-e N i j k a c (e .2) (λ b db ab bc. (b, db, ab, bc)), implies-e _ _ (e .3)),
-            λ h. let p = h .2 in
-                m .allows-moved a c .at-ik k t
-                ∙ composed-i N i j k a c _ (sym (domain-i N i j a) ∙ h .0) (h .1)
-                (joined-i N i j S k a (p .0) c (p .1) (p .2) (p .3)) (implies-i _ _ (h .3)),
-          );
-      rule-2-side = λ k a c t. (moved-stated-sym N S i j _ _ m k i, moved-allows-sym N S i j _ _ m k i c a);
-      rule-2-gone =
-          λ k b c t. (m .stated-moved .at-jk k t, m .stated-moved .at-kj k t, m .allows-moved b c .at-jk k t, m .allows-moved c b .at-kj k t);
-      rule-2-rest = λ x y a b r. (m .stated-moved .elsewhere x y r, m .allows-moved a b .elsewhere x y r);
-      rule-3-followers = leader-of-j N i j;
-      rule-3 = leader-j N i j;
-      rule-3-rest = leader-other N i j;
-    }

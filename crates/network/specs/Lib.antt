@@ -4,6 +4,7 @@ pub mod Sound
 pub mod Pairs
 pub mod Substitution
 pub mod Step
+pub mod Rules
 pub mod Reduction
 pub mod Completion
 pub mod Count

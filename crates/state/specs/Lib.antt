@@ -4,6 +4,7 @@ pub mod Answers
 pub mod Read
 pub mod Write
 pub mod Steps
+pub mod Rules
 pub mod Worked
 pub mod Solutions
 pub mod Cut
