@@ -13,3 +13,4 @@ pub mod Sheet
 pub mod SheetOf
 pub mod Rules
 pub mod Sheets
+pub mod Lists

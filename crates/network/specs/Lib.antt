@@ -12,3 +12,4 @@ pub mod Calls
 pub mod Promise
 pub mod Sheet
 pub mod Sheets
+pub mod Lists

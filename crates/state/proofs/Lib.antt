@@ -4,5 +4,6 @@ pub mod Sizeless
 pub mod Stepping
 pub mod Steps
 pub mod Rules
+pub mod Lists
 pub mod Reducing
 pub mod Solutions
