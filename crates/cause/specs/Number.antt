@@ -1,7 +1,7 @@
 -- Document 01, "Causes and their numbers".
 use Prim.Native.Nat.{ℕ}
 use Rattle.cause.specs.declared.Cause.{Cause}
-use Rattle.cause.specs.declared.Cause.the-variants.{Length, Version, VariableCount, Size, ConstraintCount, CutOff, LeftOver, PairRange, PairOrder, PairRepeated, RowRange, Unsound, VariableNumber, SameVariable, NotFree, NotStated, NotFunctional, SolutionLength, ValueRange, ValuesForbidden, BufferLength, NotFresh}
+use Rattle.cause.specs.declared.Cause.the-variants.{Length, Version, VariableCount, Size, ConstraintCount, Extent, PairRange, PairOrder, PairRepeated, RowRange, Unsound, VariableNumber, NotTwoFree, NotStated, NotFunctional, SolutionLength, ValueRange, ValuesForbidden, BufferLength, NotFresh}
 
 abbrev pub numberOf : Cause → ℕ
 numberOf Length = 1  -- under 3 bytes, over 4,101, or not 3 plus the count
@@ -9,16 +9,14 @@ numberOf Version = 2  -- version not 1
 numberOf VariableCount = 3  -- n is 0 or above 16
 numberOf Size = 4  -- a size is 0 or above 16
 numberOf ConstraintCount = 5  -- p above n(n-1)/2
-numberOf CutOff = 6  -- a field is cut off,
-numberOf LeftOver = 6  -- or bytes are left over
+numberOf Extent = 6  -- a field is cut off, or bytes are left over
 numberOf PairRange = 7  -- a is 0, b above n,
 numberOf PairOrder = 7  -- a not below b,
 numberOf PairRepeated = 7  -- or pair not after the one before
 numberOf RowRange = 8  -- row has a bit at or above the size of b
 numberOf Unsound = 9  -- state not sound
 numberOf VariableNumber = 10  -- option number 0 or above n
-numberOf SameVariable = 11  -- the two options equal,
-numberOf NotFree = 11  -- or one not live
+numberOf NotTwoFree = 11  -- the two options equal, or one not live
 numberOf NotStated = 12  -- pair not stated
 numberOf NotFunctional = 13  -- not functional from leader to follower
 numberOf SolutionLength = 14  -- build buffer not n bytes
@@ -26,3 +24,7 @@ numberOf ValueRange = 15  -- completer: a live value not in its list; tester: a 
 numberOf ValuesForbidden = 16  -- completer: two live values that their stated pair does not allow
 numberOf BufferLength = 17  -- written sheet longer than the buffer
 numberOf NotFresh = 18  -- writer: a follower exists or a list is not full
+
+-- The greatest of these numbers.
+abbrev pub greatest : ℕ
+greatest = 18

@@ -2,7 +2,7 @@
 ghost use mathlib.Core.Path.{_≡_};
 ghost use Rattle.cause.specs.Number.{numberOf};
 
-// A variant for each fault that a caller may want told apart; several faults can have one number.
+// One cause for each number, but for number 7, whose three faults a writer of sheets wants told apart.
 pub enum Cause {
     // Reading: the length, the version, then the fields in file order.
     Length,
@@ -10,8 +10,8 @@ pub enum Cause {
     VariableCount,
     Size,
     ConstraintCount,
-    CutOff,
-    LeftOver,
+    // The fields end past the bytes, or before them.
+    Extent,
     PairRange,
     PairOrder,
     PairRepeated,
@@ -19,8 +19,8 @@ pub enum Cause {
     // Calls on a state.
     Unsound,
     VariableNumber,
-    SameVariable,
-    NotFree,
+    // Not two variables, each of them free.
+    NotTwoFree,
     NotStated,
     NotFunctional,
     SolutionLength,
@@ -40,16 +40,14 @@ pub fn number(cause: Cause) -> u8
         Cause::VariableCount => 3,
         Cause::Size => 4,
         Cause::ConstraintCount => 5,
-        Cause::CutOff => 6,
-        Cause::LeftOver => 6,
+        Cause::Extent => 6,
         Cause::PairRange => 7,
         Cause::PairOrder => 7,
         Cause::PairRepeated => 7,
         Cause::RowRange => 8,
         Cause::Unsound => 9,
         Cause::VariableNumber => 10,
-        Cause::SameVariable => 11,
-        Cause::NotFree => 11,
+        Cause::NotTwoFree => 11,
         Cause::NotStated => 12,
         Cause::NotFunctional => 13,
         Cause::SolutionLength => 14,

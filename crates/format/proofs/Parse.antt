@@ -10,7 +10,7 @@ use borrow.Author.Tests.{lt-ltb, le-ltb, eq-eqb, ne-eqb, lt-leb, ltb-true, ltb-f
 use Rattle.bounded.specs.Bool.{or, if}
 use Rattle.bounded.proofs.Bool.{by-cases, or-false-l, or-false-r, or-false-i, not-false-e, not-false-i, if-true, if-false}
 use Rattle.cause.specs.declared.Cause.{Cause}
-use Rattle.cause.specs.declared.Cause.the-variants.{Length, Version, CutOff}
+use Rattle.cause.specs.declared.Cause.the-variants.{Length, Version, Extent}
 use Rattle.format.specs.Layout.{Layout, Test, fine, fault, countTest, sizeTest, constraintsTest, pairTest, withinTest, longest, found, unknown, layoutOf}
 use Rattle.format.specs.Parse.{Parse, got, bad, bind, numberAt, judged, field, many, parseBody, wrongLength, parseIn, parse}
 
@@ -44,7 +44,7 @@ module _ {A B : Type 0} (f : A → ℕ → Parse B) where
 
 -- A field: cut off, at fault, or fine.
 module _ (k : ℕ) (test : ℕ → Test) (bytes : List ℕ) (at : ℕ) where
-  pub field-cut-off : length bytes < at + k → field k test bytes at ≡ bad CutOff at
+  pub field-cut-off : length bytes < at + k → field k test bytes at ≡ bad Extent at
   unfolding field
   field-cut-off h = if-true _ _ _ (lt-ltb _ _ h)
 

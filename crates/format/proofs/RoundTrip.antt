@@ -7,7 +7,7 @@ use lib.Dec.{ltb}
 use lib.ListN.{length, getD}
 use borrow.Author.Tests.{le-ltb, ltb-false}
 use Rattle.bounded.proofs.Bool.{by-cases, if-true, if-false}
-use Rattle.cause.specs.declared.Cause.the-variants.{LeftOver}
+use Rattle.cause.specs.declared.Cause.the-variants.{Extent}
 use Rattle.network.specs.Sheet.{Table, Sheet}
 use Rattle.format.specs.Layout.{Layout, Test, fine, countTest, sizeTest, constraintsTest, pairTest, longest, found, layoutOf}
 use Rattle.format.specs.Parse.{Octets, Parse, got, bad, numberAt, field, many, fields, pairOf, sizeOf, parseTable, parseTables, ended, parseBody}
@@ -280,8 +280,8 @@ pub record BodyRead (L : Layout) (bytes : List ℕ) (s : Sheet) (next : ℕ) : T
 ended-where : (P : Sheet → ℕ → Type 0) (s : Sheet) (bytes : List ℕ) (at : ℕ) → (length bytes ≤ at → P s at) → Where P (ended s bytes at)
 unfolding ended
 ended-where P s bytes at h =
-    by-cases (ltb at (length bytes)) (λ t. rw (if-true _ (bad LeftOver at) (got s at) t) of-bad)
-    (λ t. rw (if-false _ (bad LeftOver at) (got s at) t) (of-got (h (ltb-false _ _ t))))
+    by-cases (ltb at (length bytes)) (λ t. rw (if-true _ (bad Extent at) (got s at) t) of-bad)
+    (λ t. rw (if-false _ (bad Extent at) (got s at) t) (of-got (h (ltb-false _ _ t))))
 
 ended-got : (s : Sheet) (bytes : List ℕ) → ended s bytes (length bytes) ≡ got s (length bytes)
 unfolding ended

@@ -6,7 +6,7 @@ use lib.Dec.{eqb, ltb}
 use lib.ListN.{length, getD}
 use Rattle.bounded.specs.Bool.{or, not, if}
 use Rattle.cause.specs.declared.Cause.{Cause}
-use Rattle.cause.specs.declared.Cause.the-variants.{Length, Version, CutOff, LeftOver}
+use Rattle.cause.specs.declared.Cause.the-variants.{Length, Version, Extent}
 use Rattle.network.specs.Sheet.{Table, Sheet}
 use Rattle.format.specs.Layout.{Test, fine, fault, Layout, countTest, sizeTest, constraintsTest, pairTest, longest, Lookup, found, unknown, layoutOf}
 
@@ -35,7 +35,7 @@ judged (fault c) v at k = bad c at
 
 -- A field of k bytes: "at each field 6 precedes its own number", "place where that field .. begins".
 unfoldable pub field : ℕ → (ℕ → Test) → List ℕ → ℕ → Parse ℕ
-field k test bytes at = if (ltb (length bytes) (at + k)) (bad CutOff at) (judged (test (numberAt k bytes at)) (numberAt k bytes at) at k)
+field k test bytes at = if (ltb (length bytes) (at + k)) (bad Extent at) (judged (test (numberAt k bytes at)) (numberAt k bytes at) at k)
 
 -- So many items in a row. What each must know of the ones before it is handed on as s.
 unfoldable pub many : {S A : Type 0} → (S → A → S) → (S → List ℕ → ℕ → Parse A) → ℕ → S → List ℕ → ℕ → Parse (List A)
@@ -67,7 +67,7 @@ parseTables L sizes count previous bytes at = many (λ (s : ℕ) (t : Table). pa
 
 -- "bytes are left over": "place where .. the rest begins"
 unfoldable pub ended : Sheet → List ℕ → ℕ → Parse Sheet
-ended s bytes at = if (ltb at (length bytes)) (bad LeftOver at) (got s at)
+ended s bytes at = if (ltb at (length bytes)) (bad Extent at) (got s at)
 
 -- "Then: n ..; n sizes ..; p, the number of tables ..; p tables."
 unfoldable pub parseBody : Layout → List ℕ → Parse Sheet

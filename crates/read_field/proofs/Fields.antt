@@ -15,7 +15,7 @@ use Rattle.bounded.specs.Bool.{or, not, if}
 use Rattle.bounded.proofs.Bool.{by-cases, bool-ext, if-true, if-false, not-i, not-false-i, not-false-e, or-l, or-r, or-false-l, or-false-r}
 use Rattle.words.proofs.Machine.{shl-is}
 use Rattle.cause.specs.declared.Cause.{Cause}
-use Rattle.cause.specs.declared.Cause.the-variants.{VariableCount, Size, ConstraintCount, PairRange, PairOrder, PairRepeated, RowRange, CutOff}
+use Rattle.cause.specs.declared.Cause.the-variants.{VariableCount, Size, ConstraintCount, PairRange, PairOrder, PairRepeated, RowRange, Extent}
 use Rattle.read_field.specs.declared.field.Read.{Read}
 use Rattle.read_field.specs.declared.field.Read.the-variants.{Value, Refused}
 use Rattle.format.specs.Layout.{Test, fine, fault, countTest, sizeTest, constraintsTest, pairTest, withinTest, longest}
@@ -58,7 +58,7 @@ pub record FieldGot (k : ℕ) (test : ℕ → Test) (bytes : List ℕ) (at v nex
   pub inside : next ≤ length bytes
 
 module _ (k : ℕ) (test : ℕ → Test) (bytes : List ℕ) (at : ℕ) where
-  pub field-cut : length bytes < at + k → field k test bytes at ≡ readOf (Refused CutOff at)
+  pub field-cut : length bytes < at + k → field k test bytes at ≡ readOf (Refused Extent at)
   unfolding field readOf
   field-cut h = if-true _ _ _ (lt-ltb _ _ h)
 

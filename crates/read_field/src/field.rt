@@ -20,7 +20,7 @@ pub fn byte_field(bytes: &[u8], at: usize, least: usize, most: usize, cause: Cau
     ensures { λ r. ⌜ field 1 (rangeTest least most cause) (now (bytes .entry)) at ≡ readOf r ⌝ }
 {
     if bytes.len() <= at {
-        return Read::Refused(Cause::CutOff, at);
+        return Read::Refused(Cause::Extent, at);
     }
     let value = bytes[at] as usize;
     if (value < least) | (most < value) {
@@ -46,7 +46,7 @@ pub fn pair_field(bytes: &[u8], first: usize, n: usize, previous: usize) -> Read
 {
     let second = first + 1;
     if bytes.len() <= second {
-        return Read::Refused(Cause::CutOff, first);
+        return Read::Refused(Cause::Extent, first);
     }
     let pair = number(bytes, first);
     let a = pair / 256;
@@ -69,7 +69,7 @@ pub fn row_field(bytes: &[u8], at: usize, size: usize) -> Read
     ensures { λ r. ⌜ field 2 (withinTest size) (now (bytes .entry)) at ≡ readOf r ⌝ }
 {
     if bytes.len() < at + 2 {
-        return Read::Refused(Cause::CutOff, at);
+        return Read::Refused(Cause::Extent, at);
     }
     let row = number(bytes, at);
     if (1 << size) <= row {

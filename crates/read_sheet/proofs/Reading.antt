@@ -16,7 +16,7 @@ use Rattle.bounded.proofs.Bool.{by-cases, if-true, if-false}
 use Rattle.bounded.proofs.Table.{is-table}
 use Rattle.words.specs.Word.{word}
 use Rattle.cause.specs.declared.Cause.{Cause}
-use Rattle.cause.specs.declared.Cause.the-variants.{Length, Version, VariableCount, ConstraintCount, LeftOver}
+use Rattle.cause.specs.declared.Cause.the-variants.{Length, Version, VariableCount, ConstraintCount, Extent}
 use Rattle.network.specs.Sheet.{Table, Sheet, networkOf}
 use Rattle.rows.specs.Rows.{place, rowAt, rowsOf}
 use Rattle.rows.proofs.Laws.{every-place, place-first, place-second, place-value}
@@ -179,9 +179,9 @@ module _ (bytes : List ℕ) where
           }
 
   module _ {n : ℕ} {sizes stated rows : List ℕ} {end : ℕ} (so-far : Tabled bytes n sizes stated rows end) where
-    pub left-over : end < length bytes → SheetRead (parseBody version1 bytes) sizes stated rows (Refused LeftOver end)
+    pub left-over : end < length bytes → SheetRead (parseBody version1 bytes) sizes stated rows (Refused Extent end)
     unfolding afterTables ended
-    left-over h = sheet-refused _ sizes stated rows LeftOver end (so-far .left ∙ if-true _ _ _ (lt-ltb _ _ h))
+    left-over h = sheet-refused _ sizes stated rows Extent end (so-far .left ∙ if-true _ _ _ (lt-ltb _ _ h))
 
     pub body-read : length bytes ≤ end → SheetRead (parseBody version1 bytes) sizes stated rows (Value n end)
     unfolding afterTables ended readAs

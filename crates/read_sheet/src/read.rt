@@ -42,7 +42,7 @@ fn read_body(
         return all;
     };
     if end < bytes.len() {
-        return Read::Refused(Cause::LeftOver, end);
+        return Read::Refused(Cause::Extent, end);
     }
     Read::Value(n, end)
 }

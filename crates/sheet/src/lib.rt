@@ -12,6 +12,8 @@ pub use call_solutions::complete;
 pub use call_solutions::is_sound;
 pub use call_solutions::test;
 pub use call_solutions::verdict;
+pub use cause::Cause;
+pub use cause::number as cause_number;
 pub use state::Answer;
 pub use state::CutAnswer;
 pub use state::ReadAnswer;

@@ -30,10 +30,10 @@ fn judge_pair<'a>(
     ensures { λ r. ⌜ ((n : ℕ) → judgedNumber r ≡ pairRefusal (sizeless n (now (domains .entry)) (now (leaders .entry)) (now (stated .entry)) (now (rows .entry))) i j) ⌝ }
 {
     if leaders[i] != 0 {
-        return Judgement::Refused(Cause::NotFree);
+        return Judgement::Refused(Cause::NotTwoFree);
     }
     if leaders[j] != 0 {
-        return Judgement::Refused(Cause::NotFree);
+        return Judgement::Refused(Cause::NotTwoFree);
     }
     if !words::member(stated[i], j) {
         return Judgement::Refused(Cause::NotStated);
@@ -70,7 +70,7 @@ pub fn judge<'a>(
         return Judgement::Refused(Cause::VariableNumber);
     }
     if leader == follower {
-        return Judgement::Refused(Cause::SameVariable);
+        return Judgement::Refused(Cause::NotTwoFree);
     }
     judge_pair(domains, leaders, stated, rows, leader - 1, follower - 1)
 }
