@@ -52,17 +52,18 @@ fn with_stated_bit(state: State, seed: &mut u64) -> State {
     other
 }
 
-// Two options are stated together, or not, where it was the other way round; their rows do not change with it.
-fn with_stated_pair(state: State, i: usize, j: usize, seed: &mut u64) -> State {
+// `i` is stated with the first option past n, on both sides.
+fn with_stated_pair(state: State, i: usize, seed: &mut u64) -> State {
     let mut other = state;
+    let j = state.n;
     if 15 < i {
-        return with_row_bit(state, seed);
+        return with_stated_bit(state, seed);
     }
     if 15 < j {
-        return with_row_bit(state, seed);
+        return with_stated_bit(state, seed);
     }
-    other.stated[i] = other.stated[i] ^ (1u16 << j);
-    other.stated[j] = other.stated[j] ^ (1u16 << i);
+    other.stated[i] = other.stated[i] | (1u16 << j);
+    other.stated[j] = other.stated[j] | (1u16 << i);
     other
 }
 
@@ -143,7 +144,7 @@ fn with_wrong_leader(kind: u64, state: State, places: Places, seed: &mut u64) ->
         9 => with_leader(state, places.any, low_byte(places.above)),
         10 => with_strange_leader(state, i, places.j, seed),
         11 => with_stated_bit(state, seed),
-        12 => with_stated_pair(state, i, places.j, seed),
+        12 => with_stated_pair(state, i, seed),
         _ => with_row_bit(state, seed),
     }
 }
