@@ -210,7 +210,7 @@ static void check_writing(void) {
 
 /* Each number has a text of its own. */
 static void check_texts(void) {
-    CHECK(SHEET_GREATEST_CAUSE == 18);
+    CHECK(SHEET_GREATEST_CAUSE == 20);
     for (unsigned one = 0; one <= SHEET_GREATEST_CAUSE + 1; one++) {
         for (unsigned other = 0; other < one; other++) {
             CHECK(strcmp(sheet_cause_text(one), sheet_cause_text(other)) != 0);

@@ -36,7 +36,7 @@
 /* The version of these declarations: MAJOR rises where a caller has to be changed or compiled anew, MINOR where something is
  * added. The version in byte 0 of a sheet is another number. */
 #define SHEET_VERSION_MAJOR 1
-#define SHEET_VERSION_MINOR 0
+#define SHEET_VERSION_MINOR 1
 
 #define SHEET_LARGEST_BYTES 4101 /* "The largest sheet has 4,101 bytes" */
 #define SHEET_MOST_OPTIONS 16    /* length of the arrays that hold something for each option */
@@ -49,7 +49,7 @@
 extern "C" {
 #endif
 
-/* The causes of a refusal by their numbers, each in document 01's words. */
+/* The causes of a refusal by their numbers, each in the words of document 01, or of document 02 where that changed it. */
 enum sheet_cause {
     SHEET_NOT_REFUSED = 0,
     SHEET_CAUSE_LENGTH = 1,             /* "under 3 bytes, over 4,101, or not 3 plus the count" */
@@ -58,7 +58,7 @@ enum sheet_cause {
     SHEET_CAUSE_SIZE = 4,               /* "a size is 0 or above 16" */
     SHEET_CAUSE_TABLE_COUNT = 5,        /* "p above n(n-1)/2" */
     SHEET_CAUSE_CUT_OFF = 6,            /* "a field is cut off, or bytes are left over" */
-    SHEET_CAUSE_PAIR = 7,               /* "a is 0, b above n, a not below b, or pair not after the one before" */
+    SHEET_CAUSE_PAIR = 7,               /* "a of 0, b of 0, or either above n" */
     SHEET_CAUSE_ROW = 8,                /* "row has a bit at or above the size of b" */
     SHEET_CAUSE_NOT_SOUND = 9,          /* "state not sound" */
     SHEET_CAUSE_OPTION_NUMBER = 10,     /* "option number 0 or above n" */
@@ -69,10 +69,12 @@ enum sheet_cause {
     SHEET_CAUSE_VALUE = 15,             /* "completer: a live value not in its list; tester: a value at or above its size" */
     SHEET_CAUSE_VALUES_FORBIDDEN = 16,  /* "completer: two live values that their stated pair does not allow" */
     SHEET_CAUSE_BUFFER_LENGTH = 17,     /* "written sheet longer than the buffer" */
-    SHEET_CAUSE_NOT_AS_READ = 18        /* "writer: a follower exists or a list is not full" */
+    SHEET_CAUSE_NOT_AS_READ = 18,       /* "writer: a follower exists or a list is not full" */
+    SHEET_CAUSE_PAIR_ORDER = 19,        /* "a is not below b" */
+    SHEET_CAUSE_PAIR_SEQUENCE = 20      /* "the pair is not after the one before" */
 };
 
-#define SHEET_GREATEST_CAUSE SHEET_CAUSE_NOT_AS_READ
+#define SHEET_GREATEST_CAUSE SHEET_CAUSE_PAIR_SEQUENCE
 
 /* The cause in English, for any number; never NULL. */
 static inline const char *sheet_cause_text(unsigned number) {
@@ -84,7 +86,7 @@ static inline const char *sheet_cause_text(unsigned number) {
     case SHEET_CAUSE_SIZE: return "the size of an option is 0 or above 16";
     case SHEET_CAUSE_TABLE_COUNT: return "there are more tables than pairs of options";
     case SHEET_CAUSE_CUT_OFF: return "a field is cut off, or bytes are left over";
-    case SHEET_CAUSE_PAIR: return "the pair of a table is out of range, not ascending, or not after the one before";
+    case SHEET_CAUSE_PAIR: return "a table names an option 0 or above the number of options";
     case SHEET_CAUSE_ROW: return "a row allows a value at or above the size of its option";
     case SHEET_CAUSE_NOT_SOUND: return "the state is not sound";
     case SHEET_CAUSE_OPTION_NUMBER: return "an option number is 0 or above the number of options";
@@ -96,6 +98,8 @@ static inline const char *sheet_cause_text(unsigned number) {
     case SHEET_CAUSE_VALUES_FORBIDDEN: return "a table forbids the values of two live options";
     case SHEET_CAUSE_BUFFER_LENGTH: return "the sheet is longer than the buffer";
     case SHEET_CAUSE_NOT_AS_READ: return "an option follows another, or a list is not full";
+    case SHEET_CAUSE_PAIR_ORDER: return "the first option of a table is not below its second";
+    case SHEET_CAUSE_PAIR_SEQUENCE: return "a table's pair is not after the one before";
     default: return "no cause has this number";
     }
 }
@@ -162,7 +166,7 @@ struct sheet_text_answer {
 };
 
 /* Reads a sheet of any length and contents: full lists, no leader, and exactly the tables of the sheet are stated.
- * Numbers 1 to 8: "Number 1 is tested first, then 2, then fields in file order; at each field 6 precedes its own number."
+ * Numbers 1 to 8, 19 and 20: "Number 1 is tested first, then 2, then fields in file order; at each field 6 precedes its own number."
  * A refusal answers its place and the zero state. */
 struct sheet_read_answer sheet_read(const uint8_t *bytes, size_t length);
 
@@ -215,7 +219,7 @@ uint8_t sheet_complete(struct sheet_state state, uint8_t *build, size_t length);
 struct sheet_verdict_answer sheet_verdict(struct sheet_state state);
 
 /* What sheet_read, sheet_reduce and sheet_verdict answer one after the other.
- * Numbers 1 to 8, as sheet_read. A refusal answers its place and the zero state, 0 steps, kind 0 and no build. */
+ * Numbers 1 to 8, 19 and 20, as sheet_read. A refusal answers its place and the zero state, 0 steps, kind 0 and no build. */
 struct sheet_cut_answer sheet_cut(const uint8_t *bytes, size_t length);
 
 /* The text that sheetcut prints for these bytes, which may be a refusal's. No numbers. */

@@ -87,8 +87,14 @@ fn fields(bytes: &[u8], state: &mut State) -> Result<(), (u8, usize)> {
             return Err((6, at));
         }
         let (a, b) = (bytes[at] as usize, bytes[at + 1] as usize);
-        if a == 0 || b > n || a >= b || a * 256 + b <= previous {
+        if a == 0 || b == 0 || a > n || b > n {
             return Err((7, at));
+        }
+        if a >= b {
+            return Err((19, at));
+        }
+        if a * 256 + b <= previous {
+            return Err((20, at));
         }
         previous = a * 256 + b;
         at = table(bytes, at + 2, a - 1, b - 1, state)?;

@@ -1,7 +1,7 @@
 use std::error::Error;
 use std::fmt;
 
-/// The causes of a refusal, each with its number and in document 01's words.
+/// The causes of a refusal, each with its number and in the words of document 01, or of document 02 where that changed it.
 #[derive(Clone, Copy, PartialEq, Eq, Hash, Debug)]
 #[non_exhaustive]
 #[repr(u8)]
@@ -18,7 +18,7 @@ pub enum Cause {
     TableCount = 5,
     /// "a field is cut off, or bytes are left over"
     CutOff = 6,
-    /// "a is 0, b above n, a not below b, or pair not after the one before"
+    /// "a of 0, b of 0, or either above n"
     Pair = 7,
     /// "row has a bit at or above the size of b"
     Row = 8,
@@ -42,13 +42,17 @@ pub enum Cause {
     BufferLength = 17,
     /// "writer: a follower exists or a list is not full"
     NotAsRead = 18,
+    /// "a is not below b"
+    PairOrder = 19,
+    /// "the pair is not after the one before"
+    PairSequence = 20,
 }
 
 use Cause::*;
 
 impl Cause {
     /// All causes, in the order of their numbers.
-    pub const ALL: [Cause; 18] = [
+    pub const ALL: [Cause; 20] = [
         Length,
         Version,
         OptionCount,
@@ -67,6 +71,8 @@ impl Cause {
         ValuesForbidden,
         BufferLength,
         NotAsRead,
+        PairOrder,
+        PairSequence,
     ];
 
     /// The greatest number that a call answers.
@@ -100,7 +106,7 @@ impl fmt::Display for Cause {
             Size => "the size of an option is 0 or above 16",
             TableCount => "there are more tables than pairs of options",
             CutOff => "a field is cut off, or bytes are left over",
-            Pair => "the pair of a table is out of range, not ascending, or not after the one before",
+            Pair => "a table names an option 0 or above the number of options",
             Row => "a row allows a value at or above the size of its option",
             NotSound => "the state is not sound",
             OptionNumber => "an option number is 0 or above the number of options",
@@ -112,6 +118,8 @@ impl fmt::Display for Cause {
             ValuesForbidden => "a table forbids the values of two live options",
             BufferLength => "the sheet is longer than the buffer",
             NotAsRead => "an option follows another, or a list is not full",
+            PairOrder => "the first option of a table is not below its second",
+            PairSequence => "a table's pair is not after the one before",
         })
     }
 }

@@ -58,7 +58,7 @@ extern "C" {
 
 /// Reads a sheet of any length and contents: full lists, no leader, and exactly the tables of the sheet are stated.
 ///
-/// Numbers 1 to 8: "Number 1 is tested first, then 2, then fields in file order; at each field 6 precedes its own number."
+/// Numbers 1 to 8, 19 and 20: "Number 1 is tested first, then 2, then fields in file order; at each field 6 precedes its own number."
 /// A refusal answers its place and [`State::ZERO`].
 #[inline]
 pub fn read(bytes: &[u8]) -> Read {
@@ -142,7 +142,7 @@ pub fn verdict(state: &State) -> Verdict {
 
 /// What [`read`], [`reduce`] and [`verdict`] answer one after the other.
 ///
-/// Numbers 1 to 8, as [`read`]. A refusal answers its place and [`State::ZERO`], 0 steps, kind 0 and no build.
+/// Numbers 1 to 8, 19 and 20, as [`read`]. A refusal answers its place and [`State::ZERO`], 0 steps, kind 0 and no build.
 #[inline]
 pub fn cut(bytes: &[u8]) -> Cut {
     unsafe { sheet_cut(bytes.as_ptr(), bytes.len()) }

@@ -22,7 +22,7 @@ use Rattle.network.specs.Reduction.{freeCount, leading, reducible, nextLeader, 
 use Rattle.network.specs.Sheet.{Sheet, isFor, tabled, rowFor, networkOf}
 use Rattle.network.specs.Completion.{BUILT, follow, completed, lowest, exhausted, decided, verdict, lowestBuild, shown}
 use Rattle.network.proofs.Reduction.{reduce-run, run-keeps}
-use Rattle.format.specs.Layout.{countTest, sizeTest, constraintsTest, pairTest, withinTest, longest, version1, layouts, layoutAmong, layoutOf}
+use Rattle.format.specs.Layout.{countTest, sizeTest, constraintsTest, outOfRange, pairTest, withinTest, longest, version1, layouts, layoutAmong, layoutOf}
 use Rattle.format.specs.Parse.{got, bind, numberAt, judged, field, many, fields, pairOf, sizeOf, parseTable, parseTables, ended, parseBody, wrongLength, parseIn, parse}
 use Rattle.rows.specs.Rows.{rowsOf}
 use Rattle.state.specs.declared.state.State.{State}
@@ -58,11 +58,11 @@ sheetLast =
     }
 
 parsed-A : parse bytesA ≡ got sheetA 22
-unfolding or not if countTest sizeTest constraintsTest pairTest withinTest longest version1 layouts layoutAmong layoutOf bind numberAt judged field many fields pairOf sizeOf parseTable parseTables ended parseBody wrongLength parseIn parse bytesA sheetA
+unfolding or not if countTest sizeTest constraintsTest outOfRange pairTest withinTest longest version1 layouts layoutAmong layoutOf bind numberAt judged field many fields pairOf sizeOf parseTable parseTables ended parseBody wrongLength parseIn parse bytesA sheetA
 parsed-A = refl
 
 parsed-last : parse bytesLast ≡ got sheetLast 20
-unfolding or not if countTest sizeTest constraintsTest pairTest withinTest longest version1 layouts layoutAmong layoutOf bind numberAt judged field many fields pairOf sizeOf parseTable parseTables ended parseBody wrongLength parseIn parse bytesLast sheetLast
+unfolding or not if countTest sizeTest constraintsTest outOfRange pairTest withinTest longest version1 layouts layoutAmong layoutOf bind numberAt judged field many fields pairOf sizeOf parseTable parseTables ended parseBody wrongLength parseIn parse bytesLast sheetLast
 parsed-last = refl
 
 -- Bytes are below 256.

@@ -13,31 +13,32 @@ abbrev causeOf : ℕ → Cause
 causeOf k =
     getD
     (Length ∷ Version ∷ VariableCount ∷ Size ∷ ConstraintCount ∷ Extent ∷ PairRange ∷ RowRange ∷ Unsound ∷ VariableNumber
-    ∷ NotTwoFree ∷ NotStated ∷ NotFunctional ∷ SolutionLength ∷ ValueRange ∷ ValuesForbidden ∷ BufferLength ∷ NotFresh ∷ [])
+    ∷ NotTwoFree ∷ NotStated ∷ NotFunctional ∷ SolutionLength ∷ ValueRange ∷ ValuesForbidden ∷ BufferLength ∷ NotFresh
+    ∷ PairOrder ∷ PairRepeated ∷ [])
     (k - 1) Length
 
--- Each cause: its number is one of the table's, and but for number 7 it gives the cause back.
-numbered : (c : Cause) → ((1 ≤ numberOf c) × (numberOf c ≤ greatest)) × ((numberOf c ≡ 7 → ⊥) → c ≡ causeOf (numberOf c))
-numbered Length = (omega arith, λ other. refl)
-numbered Version = (omega arith, λ other. refl)
-numbered VariableCount = (omega arith, λ other. refl)
-numbered Size = (omega arith, λ other. refl)
-numbered ConstraintCount = (omega arith, λ other. refl)
-numbered Extent = (omega arith, λ other. refl)
-numbered PairRange = (omega arith, λ other. refl)
-numbered PairOrder = (omega arith, λ other. absurd (other refl))
-numbered PairRepeated = (omega arith, λ other. absurd (other refl))
-numbered RowRange = (omega arith, λ other. refl)
-numbered Unsound = (omega arith, λ other. refl)
-numbered VariableNumber = (omega arith, λ other. refl)
-numbered NotTwoFree = (omega arith, λ other. refl)
-numbered NotStated = (omega arith, λ other. refl)
-numbered NotFunctional = (omega arith, λ other. refl)
-numbered SolutionLength = (omega arith, λ other. refl)
-numbered ValueRange = (omega arith, λ other. refl)
-numbered ValuesForbidden = (omega arith, λ other. refl)
-numbered BufferLength = (omega arith, λ other. refl)
-numbered NotFresh = (omega arith, λ other. refl)
+-- Each cause: its number is one of the table's, and gives the cause back.
+numbered : (c : Cause) → ((1 ≤ numberOf c) × (numberOf c ≤ greatest)) × (c ≡ causeOf (numberOf c))
+numbered Length = (omega arith, refl)
+numbered Version = (omega arith, refl)
+numbered VariableCount = (omega arith, refl)
+numbered Size = (omega arith, refl)
+numbered ConstraintCount = (omega arith, refl)
+numbered Extent = (omega arith, refl)
+numbered PairRange = (omega arith, refl)
+numbered PairOrder = (omega arith, refl)
+numbered PairRepeated = (omega arith, refl)
+numbered RowRange = (omega arith, refl)
+numbered Unsound = (omega arith, refl)
+numbered VariableNumber = (omega arith, refl)
+numbered NotTwoFree = (omega arith, refl)
+numbered NotStated = (omega arith, refl)
+numbered NotFunctional = (omega arith, refl)
+numbered SolutionLength = (omega arith, refl)
+numbered ValueRange = (omega arith, refl)
+numbered ValuesForbidden = (omega arith, refl)
+numbered BufferLength = (omega arith, refl)
+numbered NotFresh = (omega arith, refl)
 
 -- "Causes and their numbers": from 1 on. No cause has number 0, which stands for "not refused".
 pub number-range : (c : Cause) → (1 ≤ numberOf c) × (numberOf c ≤ greatest)
@@ -46,6 +47,6 @@ number-range c = numbered c .0
 pub number-positive : (c : Cause) → 1 ≤ numberOf c
 number-positive c = number-range c .0
 
--- A number has one cause, but for number 7: a contract that fixes the number fixes the cause.
-pub number-one : (c d : Cause) → (numberOf c ≡ 7 → ⊥) → numberOf c ≡ numberOf d → c ≡ d
-number-one c d other e = numbered c .1 other ∙ ap causeOf e ∙ sym (numbered d .1 (λ s. other (e ∙ s)))
+-- A number has one cause, so a contract that fixes the number fixes the cause.
+pub number-one : (c d : Cause) → numberOf c ≡ numberOf d → c ≡ d
+number-one c d e = numbered c .1 ∙ ap causeOf e ∙ sym (numbered d .1)

@@ -1,4 +1,4 @@
--- Document 01, "Causes and their numbers".
+-- Document 01, "Causes and their numbers"; 7, 19 and 20 are those of document 02, L1.
 use Prim.Native.Nat.{ℕ}
 use Rattle.cause.specs.declared.Cause.{Cause}
 use Rattle.cause.specs.declared.Cause.the-variants.{Length, Version, VariableCount, Size, ConstraintCount, Extent, PairRange, PairOrder, PairRepeated, RowRange, Unsound, VariableNumber, NotTwoFree, NotStated, NotFunctional, SolutionLength, ValueRange, ValuesForbidden, BufferLength, NotFresh}
@@ -10,9 +10,9 @@ numberOf VariableCount = 3  -- n is 0 or above 16
 numberOf Size = 4  -- a size is 0 or above 16
 numberOf ConstraintCount = 5  -- p above n(n-1)/2
 numberOf Extent = 6  -- a field is cut off, or bytes are left over
-numberOf PairRange = 7  -- a is 0, b above n,
-numberOf PairOrder = 7  -- a not below b,
-numberOf PairRepeated = 7  -- or pair not after the one before
+numberOf PairRange = 7  -- option numbers out of range, that is a of 0, b of 0, or either above n
+numberOf PairOrder = 19  -- a is not below b
+numberOf PairRepeated = 20  -- the pair is not after the one before
 numberOf RowRange = 8  -- row has a bit at or above the size of b
 numberOf Unsound = 9  -- state not sound
 numberOf VariableNumber = 10  -- option number 0 or above n
@@ -27,4 +27,4 @@ numberOf NotFresh = 18  -- writer: a follower exists or a list is not full
 
 -- The greatest of these numbers.
 abbrev pub greatest : ℕ
-greatest = 18
+greatest = 20

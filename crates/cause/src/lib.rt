@@ -1,8 +1,8 @@
-// The causes of a refusal, and the number that document 01 gives each.
+// The causes of a refusal, and the number that documents 01 and 02 give each.
 ghost use mathlib.Core.Path.{_≡_};
 ghost use Rattle.cause.specs.Number.{numberOf};
 
-// One cause for each number, but for number 7, whose three faults a writer of sheets wants told apart.
+// One cause for each number.
 pub enum Cause {
     // Reading: the length, the version, then the fields in file order.
     Length,
@@ -13,7 +13,9 @@ pub enum Cause {
     // The fields end past the bytes, or before them.
     Extent,
     PairRange,
+    // a is not below b.
     PairOrder,
+    // The pair is not after the one before.
     PairRepeated,
     RowRange,
     // Calls on a state.
@@ -30,7 +32,7 @@ pub enum Cause {
     NotFresh,
 }
 
-// The number of document 01's table of causes.
+// The number of the table of causes.
 pub fn number(cause: Cause) -> u8
     ensures { λ r. ⌜ r ≡ numberOf cause ⌝ }
 {
@@ -42,8 +44,8 @@ pub fn number(cause: Cause) -> u8
         Cause::ConstraintCount => 5,
         Cause::Extent => 6,
         Cause::PairRange => 7,
-        Cause::PairOrder => 7,
-        Cause::PairRepeated => 7,
+        Cause::PairOrder => 19,
+        Cause::PairRepeated => 20,
         Cause::RowRange => 8,
         Cause::Unsound => 9,
         Cause::VariableNumber => 10,

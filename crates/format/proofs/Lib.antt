@@ -1,5 +1,6 @@
 pub mod Numbers
 pub mod Parse
+pub mod Pairs
 pub mod Layouts
 pub mod All
 pub mod Lengths

@@ -1,8 +1,8 @@
 -- The parser's pieces: one law for each case, and what holds of whatever a piece gets.
 use mathlib.Core.Bool.{Bool, true, false}
-use mathlib.Core.List.{List, [], _∷_}
+use mathlib.Core.List.{List, _∷_}
 use mathlib.Core.Path.{_≡_, refl, _∙_, subst}
-use Prim.Native.Nat.{ℕ, suc, _+_, _-_, _*_, _/_, _%_, _≤_, _<_, _^_}
+use Prim.Native.Nat.{ℕ, suc, _+_, _-_, _*_, _/_, _≤_, _<_, _^_}
 use native.Mathlib.Omega.{arith}
 use lib.Dec.{eqb, ltb}
 use lib.ListN.{length, getD}
@@ -11,7 +11,7 @@ use Rattle.bounded.specs.Bool.{or, if}
 use Rattle.bounded.proofs.Bool.{by-cases, or-false-l, or-false-r, or-false-i, not-false-e, not-false-i, if-true, if-false}
 use Rattle.cause.specs.declared.Cause.{Cause}
 use Rattle.cause.specs.declared.Cause.the-variants.{Length, Version, Extent}
-use Rattle.format.specs.Layout.{Layout, Test, fine, fault, countTest, sizeTest, constraintsTest, pairTest, withinTest, longest, found, unknown, layoutOf}
+use Rattle.format.specs.Layout.{Layout, Test, fine, fault, countTest, sizeTest, constraintsTest, withinTest, longest, found, unknown, layoutOf}
 use Rattle.format.specs.Parse.{Parse, got, bad, bind, numberAt, judged, field, many, parseBody, wrongLength, parseIn, parse}
 
 -- P holds of the value and of the place after it, if the parser gets one.
@@ -122,33 +122,6 @@ constraints-of-fine n p h = ltb-false _ p (fine-unless _ _ _ h .0)
 pub fine-constraints : (n p : ℕ) → p ≤ n * (n - 1) / 2 → constraintsTest n p ≡ fine
 unfolding constraintsTest
 fine-constraints n p h = if-false _ _ _ (le-ltb _ p h)
-
-pub record PairFits (n previous pair : ℕ) : Type 0 where
-  pub first-in : 1 ≤ pair / 256
-  pub ordered : pair / 256 < pair % 256
-  pub second-in : pair % 256 ≤ n
-  pub after : previous < pair
-
-pub pair-of-fine : (n previous pair : ℕ) → pairTest n previous pair ≡ fine → PairFits n previous pair
-unfolding pairTest
-pair-of-fine n previous pair h =
-    let (range, h₁) = fine-unless _ _ _ h in
-    let (order, h₂) = fine-unless _ _ _ h₁ in
-    let repeat = fine-unless _ _ _ h₂ .0 in
-    record {
-      first-in = omega (arith, eqb-false (pair / 256) 0 (or-false-l _ _ (or-false-l _ _ range)));
-      ordered = ltb-true _ _ (not-false-e _ order);
-      second-in = ltb-false _ _ (or-false-r _ _ (or-false-r _ _ range));
-      after = ltb-true _ _ (not-false-e _ repeat);
-    }
-
-pub fine-pair : (n previous pair : ℕ) → PairFits n previous pair → pairTest n previous pair ≡ fine
-unfolding pairTest
-fine-pair n previous pair h =
-    let zeros = or-false-i _ _ (ne-eqb (pair / 256) 0 (omega arith)) (ne-eqb (pair % 256) 0 (omega arith)) in
-    let highs = or-false-i _ _ (le-ltb n (pair / 256) (omega arith)) (le-ltb n (pair % 256) (omega arith)) in
-    if-false _ _ _ (or-false-i _ _ zeros highs) ∙ if-false _ _ _ (not-false-i _ (lt-ltb _ _ (h .ordered)))
-    ∙ if-false _ _ _ (not-false-i _ (lt-ltb _ _ (h .after)))
 
 pub row-of-fine : (size row : ℕ) → withinTest size row ≡ fine → row < 2 ^ size
 unfolding withinTest

@@ -17,7 +17,8 @@ use Rattle.format.specs.WellFormed.{All, TableFits, Ascend, WellFormed}
 use Rattle.format.proofs.Numbers.{Stands, stands-none, stands-byte, stands-append, stands-front, stands-back, stands-whole, stands-self}
 use Rattle.format.proofs.Numbers.{length-bytesOf, number-of-bytes, number-below, bytes-of-number}
 use Rattle.format.proofs.Parse.{Where, of-got, of-bad, holds-of-got, where-map, bind-got, bind-where, field-fine, field-where, many-got}
-use Rattle.format.proofs.Parse.{PairFits, pair-of-fine, fine-pair, size-of-fine, fine-size, count-of-fine, fine-count}
+use Rattle.format.proofs.Pairs.{PairFits, pair-of-fine, fine-pair}
+use Rattle.format.proofs.Parse.{size-of-fine, fine-size, count-of-fine, fine-count}
 use Rattle.format.proofs.Parse.{constraints-of-fine, fine-constraints}
 use Rattle.format.proofs.Parse.{LengthFits, length-fits, right-length, parse-wrong-length, parse-wrong-version, parse-is-body}
 use Rattle.format.proofs.Layouts.{Usable, longest-counted, found-version, found-usable, found-or-unknown}

@@ -1,4 +1,5 @@
 -- What a version of the format fixes, and the tests of the fields: each answers "fine", or which cause.
+use mathlib.Core.Bool.{Bool}
 use mathlib.Core.List.{List, [], _∷_}
 use Prim.Native.Nat.{ℕ, _-_, _*_, _/_, _%_, _^_}
 use lib.Dec.{eqb, ltb, leb}
@@ -34,11 +35,16 @@ sizeTest most size = if (or (eqb size 0) (ltb most size)) (fault Size) fine
 unfoldable pub constraintsTest : ℕ → ℕ → Test
 constraintsTest n p = if (ltb (n * (n - 1) / 2) p) (fault ConstraintCount) fine
 
--- 7 "a is 0, b above n, a not below b, or pair not after the one before". The pair is one number of two bytes, a * 256 + b, so that
--- "Pairs ascend, by a and then by b, none twice" is that this number grows; before the first it is 0.
+-- Document 02: "Number 7 keeps only option numbers out of range, that is a of 0, b of 0, or either above n." The pair is one number of two bytes,
+-- a * 256 + b.
+unfoldable pub outOfRange : ℕ → ℕ → Bool
+outOfRange n pair = or (or (eqb (pair / 256) 0) (eqb (pair % 256) 0)) (or (ltb n (pair / 256)) (ltb n (pair % 256)))
+
+-- "It refuses with 19 when a is not below b, and with 20 when the pair is not after the one before; the order is 7, 19, 20": "Pairs ascend, by a and then
+-- by b, none twice" is that the pair as a number grows; before the first it is 0.
 unfoldable pub pairTest : ℕ → ℕ → ℕ → Test
 pairTest n previous pair =
-    if (or (or (eqb (pair / 256) 0) (eqb (pair % 256) 0)) (or (ltb n (pair / 256)) (ltb n (pair % 256)))) (fault PairRange)
+    if (outOfRange n pair) (fault PairRange)
     (if (not (ltb (pair / 256) (pair % 256))) (fault PairOrder)
     (if (not (ltb previous pair)) (fault PairRepeated)
     fine))

@@ -1,4 +1,4 @@
--- The parser: document 01, "A sheet on disk", with the numbers 1 to 8 in their order.
+-- The parser: document 01, "A sheet on disk", with the numbers 1 to 8, and 19 and 20 after 7, in their order.
 use mathlib.Core.Bool.{Bool}
 use mathlib.Core.List.{List, [], _∷_}
 use Prim.Native.Nat.{ℕ, zero, suc, _+_, _-_, _*_, _/_, _%_, _^_, _<_}

@@ -12,13 +12,13 @@ use lib.Dec.{eqb, ltb}
 use lib.ListN.{length, getD}
 use borrow.Author.Tests.{lt-ltb, le-ltb, le-leb, eq-eqb, ltb-true, ltb-false, leb-false, eqb-true}
 use Rattle.bounded.specs.Bool.{or, not, if}
-use Rattle.bounded.proofs.Bool.{by-cases, bool-ext, if-true, if-false, not-i, not-false-i, not-false-e, or-l, or-r, or-false-l, or-false-r}
+use Rattle.bounded.proofs.Bool.{by-cases, bool-ext, if-true, if-false, not-i, not-false-i, or-l, or-r, or-false-l, or-false-r}
 use Rattle.words.proofs.Machine.{shl-is}
 use Rattle.cause.specs.declared.Cause.{Cause}
 use Rattle.cause.specs.declared.Cause.the-variants.{VariableCount, Size, ConstraintCount, PairRange, PairOrder, PairRepeated, RowRange, Extent}
 use Rattle.read_field.specs.declared.field.Read.{Read}
 use Rattle.read_field.specs.declared.field.Read.the-variants.{Value, Refused}
-use Rattle.format.specs.Layout.{Test, fine, fault, countTest, sizeTest, constraintsTest, pairTest, withinTest, longest}
+use Rattle.format.specs.Layout.{Test, fine, fault, countTest, sizeTest, constraintsTest, outOfRange, pairTest, withinTest, longest}
 use Rattle.format.specs.Parse.{Parse, got, bad, numberAt, judged, field, wrongLength}
 use Rattle.format.proofs.Parse.{fine-row}
 use Rattle.read_field.specs.Fields.{readAs, readOf, rangeTest}
@@ -141,21 +141,21 @@ four-machine false false false d = refl
 module _ (n previous pair : ℕ) where
   pub pair-range : eqb (pair / 256) 0 || eqb (pair % 256) 0 || ltb n (pair / 256) || ltb n (pair % 256) ≡ true
       → pairTest n previous pair ≡ fault PairRange
-  unfolding pairTest
+  unfolding outOfRange pairTest
   pair-range h = if-true _ _ _ (four-machine _ _ _ _ ∙ h)
 
   module _ (h : eqb (pair / 256) 0 || eqb (pair % 256) 0 || ltb n (pair / 256) || ltb n (pair % 256) ≡ false) where
     pub pair-order : pair % 256 ≤ pair / 256 → pairTest n previous pair ≡ fault PairOrder
-    unfolding pairTest
+    unfolding outOfRange pairTest
     pair-order o = if-false _ _ _ (four-machine _ _ _ _ ∙ h) ∙ if-true _ _ _ (not-i _ (le-ltb _ _ o))
 
     pub pair-repeated : pair / 256 < pair % 256 → pair ≤ previous → pairTest n previous pair ≡ fault PairRepeated
-    unfolding pairTest
+    unfolding outOfRange pairTest
     pair-repeated o r =
         if-false _ _ _ (four-machine _ _ _ _ ∙ h) ∙ if-false _ _ _ (not-false-i _ (lt-ltb _ _ o)) ∙ if-true _ _ _ (not-i _ (le-ltb _ _ r))
 
     pub pair-fine : pair / 256 < pair % 256 → previous < pair → pairTest n previous pair ≡ fine
-    unfolding pairTest
+    unfolding outOfRange pairTest
     pair-fine o r =
         if-false _ _ _ (four-machine _ _ _ _ ∙ h) ∙ if-false _ _ _ (not-false-i _ (lt-ltb _ _ o)) ∙ if-false _ _ _ (not-false-i _ (lt-ltb _ _ r))
 
@@ -222,16 +222,3 @@ range-passed least most v c e =
 pub within-passed : (size row : ℕ) → withinTest size row ≡ fine → row < 2 ^ size
 unfolding withinTest
 within-passed size row e = leb-false _ _ (or-fault _ _ _ e .0)
-
-pub pair-passed : (n previous pair : ℕ) → pairTest n previous pair ≡ fine
-    → (1 ≤ pair / 256) × (pair / 256 < pair % 256) × (pair % 256 ≤ n) × (previous < pair)
-unfolding pairTest
-pair-passed n previous pair e =
-    let f = or-fault _ _ _ e in
-    let g = or-fault _ _ _ (f .1) in
-    let h = or-fault _ _ _ (g .1) in (
-      ltb-false _ _ (sym (eqb-zero (pair / 256)) ∙ or-false-l _ _ (or-false-l _ _ (f .0))),
-      ltb-true _ _ (not-false-e _ (g .0)),
-      ltb-false _ _ (or-false-r _ _ (or-false-r _ _ (f .0))),
-      ltb-true _ _ (not-false-e _ (h .0)),
-    )

@@ -39,7 +39,8 @@ pub fn number(bytes: &[u8], at: usize) -> usize
     high * 256 + low
 }
 
-// The pair of a table: a at `first` and b after it.
+// The pair of a table: a at `first` and b after it. Tested for 6, then 7 "option numbers out of range", 19 "a is not below b", 20 "the pair is not after
+// the one before".
 pub fn pair_field(bytes: &[u8], first: usize, n: usize, previous: usize) -> Read
     requires { ⌜ first ≤ length (now bytes) ⌝ }
     ensures { λ r. ⌜ field 2 (pairTest n previous) (now (bytes .entry)) first ≡ readOf r ⌝ }

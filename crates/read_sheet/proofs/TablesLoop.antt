@@ -14,10 +14,11 @@ use Rattle.read_field.specs.declared.field.Read.{Read}
 use Rattle.read_field.specs.declared.field.Read.the-variants.{Value, Refused}
 use Rattle.format.specs.Layout.{pairTest, withinTest, version1}
 use Rattle.format.specs.Parse.{got, bad, bind, field, fields, pairOf, sizeOf, parseTable, parseTables}
+use Rattle.format.proofs.Pairs.{pair-of-fine}
 use Rattle.read_field.specs.Fields.{readAs}
 use Rattle.read_rows.specs.Sides.{rowIn, SidesRead}
 use Rattle.read_sheet.specs.Reading.{Sized, marked, Held, TableStored, TableRead, TablesRead}
-use Rattle.read_field.proofs.Fields.{as-got, as-bad, no-value, value-is, field-got, pair-passed}
+use Rattle.read_field.proofs.Fields.{as-got, as-bad, no-value, value-is, field-got}
 use Rattle.read_sheet.proofs.Held.{held-none, zero-before, held-more}
 use Rattle.read_field.proofs.Many.{prepend, many-begins, many-ends, many-goes-on, many-stops}
 
@@ -38,12 +39,12 @@ pub pair-in : {bytes : List ℕ} (at : ℕ) {n previous : ℕ} {sizes : List ℕ
     → field 2 (pairTest n previous) bytes at ≡ got pair next → PairIn bytes n previous sizes pair next
 pair-in at {n} {previous} {pair} sized e =
     let g = field-got e in
-    let p = pair-passed n previous pair (g .passed) in
+    let p = pair-of-fine n previous pair (g .passed) in
     record {
-      first-in = p .0;
-      ordered = p .1;
-      second-in = p .2;
-      later = p .3;
+      first-in = p .first-in;
+      ordered = p .ordered;
+      second-in = p .second-in;
+      later = p .after;
       ends = g .inside;
       first-small = sized .small _;
       second-small = sized .small _;

@@ -70,21 +70,29 @@ fn pairs_of(n: usize) -> usize {
     sum
 }
 
-// The pair at a place, after the pair at the place `before`, 0 for the first.
+// "option numbers out of range, that is a of 0, b of 0, or either above n"
+fn is_outside(option: usize, n: usize) -> bool {
+    if option == 0 {
+        return true;
+    }
+    n < option
+}
+
+// The pair at a place, after the pair at the place `before`, 0 for the first: "the order is 7, 19, 20".
 fn judge_pair(bytes: &[u8], n: usize, at: usize, before: usize) -> u8 {
     if bytes.len() < past(at, 2) {
         return 6;
     }
     let a = byte(bytes, at) as usize;
     let b = byte(bytes, past(at, 1)) as usize;
-    if a == 0 {
+    if is_outside(a, n) {
         return 7;
     }
-    if n < b {
+    if is_outside(b, n) {
         return 7;
     }
     if b <= a {
-        return 7;
+        return 19;
     }
     if before == 0 {
         return 0;
@@ -92,7 +100,7 @@ fn judge_pair(bytes: &[u8], n: usize, at: usize, before: usize) -> u8 {
     if is_after(bytes, at, before) {
         return 0;
     }
-    7
+    20
 }
 
 // The pair at `at` is after the pair at `before`: "by a and then by b, none twice".
