@@ -36,7 +36,7 @@
 /* The version of these declarations: MAJOR rises where a caller has to be changed or compiled anew, MINOR where something is
  * added. The version in byte 0 of a sheet is another number. */
 #define SHEET_VERSION_MAJOR 1
-#define SHEET_VERSION_MINOR 1
+#define SHEET_VERSION_MINOR 2
 
 #define SHEET_LARGEST_BYTES 4101 /* "The largest sheet has 4,101 bytes" */
 #define SHEET_MOST_OPTIONS 16    /* length of the arrays that hold something for each option */
@@ -213,8 +213,8 @@ struct sheet_test_answer sheet_test(struct sheet_state state, const uint8_t *bui
  * Numbers 9, 14, 15, 16, tested in this order. A refusal leaves the buffer as it was. */
 uint8_t sheet_complete(struct sheet_state state, uint8_t *build, size_t length);
 
-/* The verdict of a state as it is: "NONE if some live list is empty; else BUILT if exactly one option is live, with the build in
- * which it takes its lowest value; else OPEN. The verdict does not reduce first."
+/* The verdict of a state as it is: NONE if some live list is empty; else "BUILT when no live list is empty and no two live options
+ * are stated together. Each live option then takes its lowest value"; else OPEN. "The verdict does not reduce first."
  * Number 9. A refusal answers kind 0 (as SHEET_NONE) and no build: look at the number first. */
 struct sheet_verdict_answer sheet_verdict(struct sheet_state state);
 

@@ -395,11 +395,12 @@ fn verdict_sound(s: &State) -> (u8, [u8; 16]) {
     if members(live).any(|i| s.lists[i] == 0) {
         return (NONE, build);
     }
-    if live & (live - 1) != 0 {
+    if members(live).any(|i| s.stated[i] & live != 0) {
         return (OPEN, build);
     }
-    let i = live.trailing_zeros() as usize & 15;
-    build[i] = s.lists[i].trailing_zeros() as u8;
+    for i in members(live) {
+        build[i] = s.lists[i].trailing_zeros() as u8;
+    }
     follow(s, &mut build);
     (BUILT, build)
 }

@@ -131,8 +131,8 @@ pub fn complete(state: &State, build: &mut [u8]) -> u8 {
     unsafe { sheet_complete(*state, build.as_mut_ptr(), build.len()) }
 }
 
-/// The verdict of a state as it is: "NONE if some live list is empty; else BUILT if exactly one option is live, with the build in
-/// which it takes its lowest value; else OPEN. The verdict does not reduce first."
+/// The verdict of a state as it is: NONE if some live list is empty; else "BUILT when no live list is empty and no two live options
+/// are stated together. Each live option then takes its lowest value"; else OPEN. "The verdict does not reduce first."
 ///
 /// Number 9. A refusal answers kind 0 (as [`NONE`]) and no build: look at the number first.
 #[inline]

@@ -82,7 +82,7 @@ pub struct Tested {
 pub const NONE: u8 = 0;
 /// a build is shown,
 pub const BUILT: u8 = 1;
-/// or more than one option is live.
+/// or two live options are stated together.
 pub const OPEN: u8 = 2;
 
 /// What [`verdict`](crate::verdict) answers.

@@ -1,13 +1,14 @@
--- The completer, the allowed choices and the verdict: what document 01 says of them, of every sound network.
+-- The completer, the allowed choices and the verdict: what documents 01 and 02 say of them, of every sound network.
 use mathlib.Core.Bool.{true, false}
+use mathlib.Core.Logic.{_↔_}
 use mathlib.Core.Path.{_≡_, sym, _∙_}
 use Prim.Native.Nat.{ℕ, suc, _≤_, _<_}
 use native.Mathlib.Omega.{arith}
-use borrow.Author.Tests.{lt-ltb, le-ltb, eqb-true}
-use Rattle.bounded.specs.Fold.{some, count, first}
+use borrow.Author.Tests.{lt-ltb, le-ltb}
+use Rattle.bounded.specs.Fold.{some, first}
 use Rattle.bounded.proofs.Bool.{by-cases, clash, bool-ext, not-true→false, and-i, and-l, and-r}
 use Rattle.bounded.proofs.Bool.{implies-i, implies-e, not-i, not-e, not-false-i, if-true, if-false}
-use Rattle.bounded.proofs.Fold.{every-i, every-e, some-i, some-e, none-of, count-pos, count-two, first-below, first-some, first-passes}
+use Rattle.bounded.proofs.Fold.{every-i, every-e, pairs-i, pairs-e, some-i, some-e, none-of, count-pos, count-two, first-below, first-some, first-passes}
 use Rattle.network.specs.Network.{Network, free, partner, inDomains, pairsAllow, solves}
 use Rattle.network.specs.Sound.{Sound}
 use Rattle.network.specs.Reduction.{freeCount}
@@ -247,12 +248,19 @@ module _ (N : Network) where
   unfolding lowest
   lowest-below i b l = first-below (N .size i) _ b l
 
-  -- If no two free variables are stated together besides, the lowest values are an allowed choice. (`apart` asks it of i and i too, where
-  -- `Sound` gives it.)
-  pub lowest-allowed : exhausted N ≡ false
-      → ((i j : ℕ) → i < N .n → j < N .n → free N i ≡ true → free N j ≡ true → N .stated i j ≡ false)
-      → allowedChoice N (lowest N) ≡ true
-  lowest-allowed h apart = allowed-i N (lowest N) (lowest-domain h) (λ i j li lj ti tj s. clash s (apart i j li lj ti tj))
+  -- "no two live options are stated together", exactly: the one law that knows how `decided` is defined. (It speaks of i and i too, which `Sound`
+  -- never has stated.)
+  pub decided-apart : (decided N ≡ true)
+      ↔ ((i j : ℕ) → i < N .n → j < N .n → free N i ≡ true → free N j ≡ true → N .stated i j ≡ false)
+  unfolding decided
+  decided-apart = (
+    λ k i j li lj ti tj. not-e _ (implies-e _ _ (pairs-e (N .n) _ k i j li lj) (and-i _ _ ti tj)),
+    λ apart. pairs-i (N .n) _ λ i j li lj. implies-i _ _ λ t. not-i _ (apart i j li lj (and-l _ _ t) (and-r _ _ t)),
+  )
+
+  -- Then the lowest values are an allowed choice.
+  pub lowest-allowed : exhausted N ≡ false → decided N ≡ true → allowedChoice N (lowest N) ≡ true
+  lowest-allowed h k = allowed-i N (lowest N) (lowest-domain h) (λ i j li lj ti tj s. clash s (decided-apart .0 k i j li lj ti tj))
 
   -- With BUILT each free variable shows the lowest value of its domain.
   pub shown-lowest : verdict N ≡ BUILT → (i : ℕ) → i < N .n → free N i ≡ true
@@ -279,22 +287,21 @@ module _ (N : Network) (S : Sound N) where
       let d = solves-domain N f s i l in
       clash (some-i (N .size i) (N .domain i) (f i) (S .domain-in i (f i) d) d) e
 
-  -- In a decided network no two free variables are stated together: the one law here that knows how `decided` is defined.
-  pub decided-apart : decided N ≡ true → (i j : ℕ) → i < N .n → j < N .n → free N i ≡ true → free N j ≡ true → N .stated i j ≡ false
-  unfolding decided freeCount
-  decided-apart h i j li lj ti tj =
-      let one : count (N .n) (free N) ≤ 1 = omega (arith, eqb-true (count (N .n) (free N)) 1 h) in
-      rw (count-two (N .n) (free N) one i j li lj ti tj) (S .no-self j)
+  -- With one free variable the only pair of free variables is that variable with itself, which is never stated.
+  pub one-live-decided : freeCount N ≡ 1 → decided N ≡ true
+  unfolding freeCount
+  one-live-decided e = decided-apart N .1 λ i j li lj ti tj.
+      rw (count-two (N .n) (free N) (omega arith) i j li lj ti tj) (S .no-self j)
 
   decided-solves : exhausted N ≡ false → decided N ≡ true → solves N (lowestBuild N) ≡ true
   unfolding lowestBuild
-  decided-solves h k = completed-solves N S (lowest N) (lowest-allowed N h (decided-apart k))
+  decided-solves h k = completed-solves N S (lowest N) (lowest-allowed N h k)
 
-  -- "With exactly one live option it is NONE exactly when the sheet has no build,"
+  -- "wherever no two live options are stated together": "it is NONE exactly when the sheet has no build,
   pub decided-none : decided N ≡ true → ((f : ℕ → ℕ) → solves N f ≡ false) → verdict N ≡ NONE
   decided-none k none = by-cases (exhausted N) (none-verdict N) (λ h. clash (decided-solves h k) (none (lowestBuild N)))
 
-  -- "and otherwise BUILT, and the first n bytes shown are a build of the sheet"
+  -- and otherwise BUILT, and the first n bytes shown are a build of the sheet"
   pub decided-built : decided N ≡ true → (verdict N ≡ NONE → ⊥) → (verdict N ≡ BUILT) × (solves N (shown N) ≡ true)
   decided-built k not-none =
       let h = not-true→false (exhausted N) (λ t. not-none (none-verdict N t)) in

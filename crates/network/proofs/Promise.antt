@@ -7,8 +7,8 @@ use Rattle.network.specs.Network.{Network}
 use Rattle.network.specs.Sound.{Sound}
 use Rattle.network.specs.Completion.{completed, shown}
 use Rattle.network.specs.Calls.{Call, after}
-use Rattle.network.specs.Promise.{Keeps, Promised}
-use Rattle.network.proofs.Completion.{completed-keeps, accepted, completed-solves, completed-only, exhausted-none, verdict-none, decided-none, decided-built}
+use Rattle.network.specs.Promise.{Keeps, Promised, OneLive}
+use Rattle.network.proofs.Completion.{completed-keeps, accepted, completed-solves, completed-only, exhausted-none, verdict-none, one-live-decided, decided-none, decided-built}
 use Rattle.network.proofs.Count.{keeps-count}
 use Rattle.network.proofs.Calls.{after-keeps}
 
@@ -37,3 +37,10 @@ keeps-promise N M p k =
 -- For every sound network and every list of calls.
 pub promise : (N : Network) → Sound N → (cs : List Call) → Promised N (after N cs) (λ (f : ℕ → ℕ). true)
 promise N s cs = keeps-promise N (after N cs) _ (after-keeps N s cs)
+
+-- and with one live option, as document 01 has it.
+pub one-live : (N : Network) → Sound N → (cs : List Call) → OneLive N (after N cs) (λ (f : ℕ → ℕ). true)
+one-live N s cs =
+    let P = promise N s cs in
+    let decides = one-live-decided (after N cs) (after-keeps N s cs .still-sound) in
+    record { none-exactly = λ e. (P .none-only, P .none-when (decides e)); built-otherwise = λ e. P .built (decides e) }

@@ -1,4 +1,4 @@
--- The twelve sheets A to L give what document 01 says: one claim over the rows of its table, by computation.
+-- The twelve sheets A to L give what documents 01 and 02 say: one claim over the rows of its table, by computation.
 use mathlib.Core.Bool.{true}
 use mathlib.Core.Path.{_≡_, refl}
 use Rattle.bounded.specs.Bool.{and, or, implies, not, bit, if}

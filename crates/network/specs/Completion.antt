@@ -1,11 +1,10 @@
 -- The completer, the allowed choices and the verdict.
 use mathlib.Core.Bool.{Bool}
 use Prim.Native.Nat.{ℕ, pred}
-use lib.Dec.{eqb, ltb}
+use lib.Dec.{ltb}
 use Rattle.bounded.specs.Bool.{and, implies, not, if}
 use Rattle.bounded.specs.Fold.{every, some, first}
 use Rattle.network.specs.Network.{Network, free, partner}
-use Rattle.network.specs.Reduction.{freeCount}
 
 -- The value of the eliminated variable i that goes with value a of its leader: the lowest partner, and in a sound network the only one.
 unfoldable pub follow : Network → ℕ → ℕ → ℕ
@@ -46,15 +45,20 @@ lowest N i = first (N .size i) (N .domain i)
 unfoldable pub exhausted : Network → Bool
 exhausted N = some (N .n) (λ (i : ℕ). and (free N i) (not (some (N .size i) (N .domain i))))
 
--- Where no free domain is empty, the lowest values are a build exactly when this holds: today "exactly one option is live".
+-- "no two live options are stated together" (document 02). Stated is the mark, whatever the table allows. In a sound network where this holds and no free
+-- domain is empty, the lowest values are a build.
 unfoldable pub decided : Network → Bool
-decided N = eqb (freeCount N) 1
+decided N =
+    every (N .n) (λ (i : ℕ).
+    every (N .n) (λ (j : ℕ).
+    implies (and (free N i) (free N j)) (not (N .stated i j))))
 
--- "NONE if some live list is empty; else BUILT if exactly one option is live ..; else OPEN."
+-- "NONE if some live list is empty; .. else OPEN" (document 01), and between them "the verdict is BUILT when no live list is empty and no two live
+-- options are stated together" (document 02).
 unfoldable pub verdict : Network → Verdict
 verdict N = if (exhausted N) NONE (if (decided N) BUILT OPEN)
 
--- "the build in which it takes its lowest value"
+-- "Each live option then takes its lowest value."
 unfoldable pub lowestBuild : Network → ℕ → ℕ
 lowestBuild N = completed N (lowest N)
 

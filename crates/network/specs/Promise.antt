@@ -1,10 +1,12 @@
 -- Demand 3 over the definitions ("What demand 3 counts"): of the network M that a list of calls hands back for N.
 use mathlib.Core.Bool.{Bool, true, false}
+use mathlib.Core.Logic.{_↔_}
 use mathlib.Core.Path.{_≡_}
 use Prim.Native.Nat.{ℕ, _<_}
 use Rattle.bounded.specs.Bool.{and}
 use Rattle.network.specs.Network.{Network, free, solves}
 use Rattle.network.specs.Sound.{Sound}
+use Rattle.network.specs.Reduction.{freeCount}
 use Rattle.network.specs.Completion.{completed, allowedChoice, completeRefusal, NONE, BUILT, verdict, decided, shown}
 use Rattle.network.specs.Count.{solutionCount, choiceCount}
 
@@ -32,7 +34,14 @@ pub record Promised (N M : Network) (p : (ℕ → ℕ) → Bool) : Type 0 where
   pub counted : choiceCount M ≡ solutionCount N p
   -- "the verdict is NONE only when the sheet has no build"
   pub none-only : verdict M ≡ NONE → (f : ℕ → ℕ) → and (solves N f) (p f) ≡ false
-  -- "With exactly one live option it is NONE exactly when the sheet has no build,"
+  -- "what demand 3 says of the verdict with one live option, NONE and the build shown alike, now holds wherever no two live options are stated
+  -- together" (document 02): "it is NONE exactly when the sheet has no build,
   pub none-when : decided M ≡ true → ((f : ℕ → ℕ) → and (solves N f) (p f) ≡ false) → verdict M ≡ NONE
-  -- "and otherwise BUILT, and the first n bytes shown are a build of the sheet"
+  -- and otherwise BUILT, and the first n bytes shown are a build of the sheet"
   pub built : decided M ≡ true → (verdict M ≡ NONE → ⊥) → (verdict M ≡ BUILT) × (and (solves N (shown M)) (p (shown M)) ≡ true)
+
+-- One live option is such a case, and so document 01's own sentence still holds: "With exactly one live option it is NONE exactly when the sheet has no
+-- build, and otherwise BUILT, and the first n bytes shown are a build of the sheet".
+pub record OneLive (N M : Network) (p : (ℕ → ℕ) → Bool) : Type 0 where
+  pub none-exactly : freeCount M ≡ 1 → (verdict M ≡ NONE) ↔ ((f : ℕ → ℕ) → and (solves N f) (p f) ≡ false)
+  pub built-otherwise : freeCount M ≡ 1 → (verdict M ≡ NONE → ⊥) → (verdict M ≡ BUILT) × (and (solves N (shown M)) (p (shown M)) ≡ true)

@@ -127,8 +127,8 @@ twelve =
     ∷ square (0x0002 ∷ 0x0001 ∷ 0x0004 ∷ []) 0x0000 NONE []
     -- G
     ∷ example (2 ∷ 2 ∷ []) (table 1 2 (0x0003 ∷ 0x0003 ∷ []) ∷ []) [] 0 (LIVE 0x0003 ∷ LIVE 0x0003 ∷ []) OPEN []
-    -- H
-    ∷ example (2 ∷ 2 ∷ []) [] [] 0 (LIVE 0x0003 ∷ LIVE 0x0003 ∷ []) OPEN []
+    -- H: "Case H becomes BUILT 0 0" (document 02)
+    ∷ example (2 ∷ 2 ∷ []) [] [] 0 (LIVE 0x0003 ∷ LIVE 0x0003 ∷ []) BUILT (0 ∷ 0 ∷ [])
     -- I
     ∷ example (1 ∷ []) [] [] 0 (LIVE 0x0001 ∷ []) BUILT (0 ∷ [])
     -- J

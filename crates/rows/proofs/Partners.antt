@@ -24,7 +24,7 @@ machine-implies true true c = refl
 machine-implies true false c = refl
 machine-implies false b c = refl
 
-byte-bit : (t : Bool) → boolByte t ≡ bit t
+pub byte-bit : (t : Bool) → boolByte t ≡ bit t
 unfolding bit
 byte-bit true = refl
 byte-bit false = refl

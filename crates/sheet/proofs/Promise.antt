@@ -14,13 +14,13 @@ use Rattle.bounded.specs.Table.{tabulate}
 use Rattle.bounded.proofs.Bool.{not-true→false, clash, and-i, and-l, and-r, and-true}
 use Rattle.bounded.proofs.Table.{length-tabulate, getD-tabulate, is-table}
 use Rattle.network.specs.Network.{Network, free, solves}
-use Rattle.network.specs.Reduction.{freeCount}
+use Rattle.network.specs.Sound.{Sound}
 use Rattle.network.specs.Completion.{NONE, BUILT, allowedChoice, completed, verdict, decided, shown}
 use Rattle.network.specs.Count.{countTuples, sumTuples, choiceCount, solutionCount}
 use Rattle.network.specs.Sheet.{Sheet, networkOf}
 use Rattle.network.specs.Calls.{Call, follow-step, full-reduction, answer, after}
 use Rattle.network.specs.Promise.{Promised}
-use Rattle.network.proofs.Completion.{solves-cong}
+use Rattle.network.proofs.Completion.{solves-cong, one-live-decided}
 use Rattle.network.proofs.Count.{sumTuples-sizes}
 use Rattle.network.proofs.Calls.{after-keeps}
 use Rattle.network.proofs.Promise as network
@@ -32,7 +32,7 @@ use Rattle.state.specs.View.{view, pack, soundState}
 use Rattle.answers.specs.Answers.{says, rules}
 use Rattle.state.specs.Read.{readSheet}
 use Rattle.state.specs.Solutions.{valuesOf, tested, completeNumber, completedBuffer, verdictOf}
-use Rattle.sheet.specs.Promise.{handedBack, stateAfter, adds, addedBy, keepsTo, networkRead, ruledAs, lastState, lastNetwork, buildOfSheet, buildCount, Promise, Demand3}
+use Rattle.sheet.specs.Promise.{handedBack, stateAfter, adds, addedBy, keepsTo, networkRead, ruledAs, lastState, lastNetwork, buildOfSheet, buildCount, Promise, OneLive, Demand3}
 use Rattle.state.proofs.View.{Shaped, Packed, pack-view}
 use Rattle.state.proofs.Keep.{after-packed}
 use Rattle.state.proofs.Steps.{answer-packed}
@@ -145,14 +145,10 @@ module _ (N M : Network) (t : State) (n : ℕ) (build : List ℕ → Bool) (S : 
     λ none f. not-true→false _ (λ k. clash (build-table f (sym (and-true _) ∙ k)) (none (tabulate n f))),
   )
 
-  one-live : freeCount M ≡ 1 → decided M ≡ true
-  unfolding decided
-  one-live e = eq-eqb _ 1 e
-
-  shows-build : freeCount M ≡ 1 → (ruledAs NONE (verdictOf t) → ⊥)
+  shows-build : decided M ≡ true → (ruledAs NONE (verdictOf t) → ⊥)
       → (shows : List ℕ) × (verdictOf t ≡ rules BUILT shows) × (build (take n shows) ≡ true)
-  shows-build e not-none =
-      let b = S .promised .built (one-live e) (λ v. not-none (rules-none .1 v)) in (
+  shows-build d not-none =
+      let b = S .promised .built d (λ v. not-none (rules-none .1 v)) in (
         tabulate 16 (shown M),
         verdict-of t (S .sound) ∙ rw (S .holds, b .0),
         rw (take-tabulate n 16 (shown M) (S .at-most)) (build-table (shown M) (sym (and-true _) ∙ b .1)),
@@ -180,6 +176,9 @@ module _ (bytes : List ℕ) (octets : Octets bytes) (h : readSheet bytes .number
   last-packed =
       let r = read-sound bytes octets h in
       rw (last-network, ← A .view-is) (after-packed (readSheet bytes .state) (r .read-shaped) (r .is-sound) cs)
+
+  last-sound : Sound (lastNetwork bytes cs)
+  last-sound = rw last-network (after-keeps (networkOf s) (A .sheet-sound) cs .still-sound)
 
   n-options : networkOf s .n ≡ options bytes
   n-options = sym (options-are bytes octets s (length bytes) (A .got-sheet))
@@ -232,7 +231,7 @@ module _ (bytes : List ℕ) (octets : Octets bytes) (h : readSheet bytes .number
         completer-only = λ b c e a x live. only-build _ _ _ _ _ S b e a c x live;
         counted = counts;
         none-only = λ r. no-build _ _ _ _ _ S .0 (S .promised .none-only (rules-none _ _ _ _ _ S .0 r));
-        none-when = λ e none. rules-none _ _ _ _ _ S .1 (S .promised .none-when (one-live _ _ _ _ _ S e) (no-build _ _ _ _ _ S .1 none));
+        none-when = λ d none. rules-none _ _ _ _ _ S .1 (S .promised .none-when d (no-build _ _ _ _ _ S .1 none));
         built = shows-build _ _ _ _ _ S;
       }
 
@@ -240,3 +239,11 @@ module _ (bytes : List ℕ) (octets : Octets bytes) (h : readSheet bytes .number
 pub demand3 : Demand3
 unfolding Demand3
 demand3 bytes octets h cs = let (s, A) = accepted bytes octets h in promise bytes octets h s A cs
+
+-- The same accepted sheets and lists of calls, with one live option.
+pub one-live : (bytes : List ℕ) → ((k : ℕ) → getD bytes k 0 < 256) → readSheet bytes .number ≡ 0 → (cs : List Call) → OneLive bytes cs
+one-live bytes octets h cs =
+    let (s, A) = accepted bytes octets h in
+    let P = promise bytes octets h s A cs in
+    let decides = one-live-decided (lastNetwork bytes cs) (last-sound bytes octets h s A cs) in
+    record { none-exactly = λ e. (P .none-only, P .none-when (decides e)); built-otherwise = λ e. P .built (decides e) }

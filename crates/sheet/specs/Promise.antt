@@ -1,4 +1,4 @@
--- Demand 3: "What demand 3 counts" of document 01, sentence by sentence. Together with the contracts of the calls, which cite the same definitions
+-- Demand 3: "What demand 3 counts" of document 01, sentence by sentence, with what document 02 adds to it. Together with the contracts of the calls, which cite the same definitions
 -- (`readSheet`, `stepped`, `reduced`, `tested`, `completeNumber`, `completedBuffer`, `verdictOf`), it speaks of the code.
 use mathlib.Core.Bool.{Bool, true, false}
 use mathlib.Core.List.{List, [], _∷_, _++_}
@@ -10,7 +10,7 @@ use Rattle.bounded.specs.Bool.{and}
 use Rattle.words.specs.Word.{has}
 use Rattle.network.specs.Network.{Network, free}
 use Rattle.network.specs.Reduction.{freeCount}
-use Rattle.network.specs.Completion.{Verdict, NONE, BUILT, allowedChoice}
+use Rattle.network.specs.Completion.{Verdict, NONE, BUILT, allowedChoice, decided}
 use Rattle.network.specs.Count.{countTuples, choiceCount}
 use Rattle.network.specs.Sheet.{Table, Sheet, networkOf}
 use Rattle.network.specs.Calls.{Call, follow-step, full-reduction, after}
@@ -78,6 +78,10 @@ module _ (bytes : List ℕ) (cs : List Call) where
   abbrev pub SameLive : List ℕ → List ℕ → Type 0
   SameLive b c = (i : ℕ) → i < options bytes → free lastNetwork i ≡ true → getD b i 0 ≡ getD c i 0
 
+  -- The verdict is BUILT, "and the first n bytes shown are a build of the sheet".
+  abbrev pub ShowsBuild : Type 0
+  ShowsBuild = (build : List ℕ) × (verdictOf lastState ≡ rules BUILT build) × (buildOfSheet (take (options bytes) build) ≡ true)
+
   pub record Promise : Type 0 where
     -- The state handed back last is the one of that network.
     pub packed : lastState ≡ pack lastNetwork
@@ -98,11 +102,17 @@ module _ (bytes : List ℕ) (cs : List Call) where
     pub counted : choiceCount lastNetwork ≡ buildCount
     -- "the verdict is NONE only when the sheet has no build."
     pub none-only : ruledAs NONE (verdictOf lastState) → (b : List ℕ) → buildOfSheet b ≡ false
-    -- "With exactly one live option it is NONE exactly when the sheet has no build"
-    pub none-when : freeCount lastNetwork ≡ 1 → ((b : List ℕ) → buildOfSheet b ≡ false) → ruledAs NONE (verdictOf lastState)
-    -- "and otherwise BUILT, and the first n bytes shown are a build of the sheet"
-    pub built : freeCount lastNetwork ≡ 1 → (ruledAs NONE (verdictOf lastState) → ⊥)
-        → (build : List ℕ) × (verdictOf lastState ≡ rules BUILT build) × (buildOfSheet (take (options bytes) build) ≡ true)
+    -- "what demand 3 says of the verdict with one live option, NONE and the build shown alike, now holds wherever no two live options are stated
+    -- together" (document 02): "it is NONE exactly when the sheet has no build,
+    pub none-when : decided lastNetwork ≡ true → ((b : List ℕ) → buildOfSheet b ≡ false) → ruledAs NONE (verdictOf lastState)
+    -- and otherwise BUILT, and the first n bytes shown are a build of the sheet."
+    pub built : decided lastNetwork ≡ true → (ruledAs NONE (verdictOf lastState) → ⊥) → ShowsBuild
+
+  -- One live option is such a case, and so document 01's own sentence still holds (`one-live`): "With exactly one live option it is NONE exactly when the
+  -- sheet has no build, and otherwise BUILT, and the first n bytes shown are a build of the sheet."
+  pub record OneLive : Type 0 where
+    pub none-exactly : freeCount lastNetwork ≡ 1 → ruledAs NONE (verdictOf lastState) ↔ ((b : List ℕ) → buildOfSheet b ≡ false)
+    pub built-otherwise : freeCount lastNetwork ≡ 1 → (ruledAs NONE (verdictOf lastState) → ⊥) → ShowsBuild
 
 -- Demand 3, whole: "Take any accepted sheet. For every list of follow steps and full reductions asked of it, in any order, refused ones included".
 unfoldable pub Demand3 : Type 0

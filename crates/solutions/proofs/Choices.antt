@@ -4,24 +4,23 @@ use mathlib.Core.Bool.{Bool, true, false, not as flip}
 use mathlib.Core.List.{List}
 use mathlib.Core.Path.{_≡_, refl, sym, ap, _∙_}
 use Prim.Native.Nat.{ℕ, suc, pred, _+_, _≤_, _<_}
-use native.Mathlib.Nat.{add-comm}
-use native.Mathlib.Numerals.{add-one}
 use native.Mathlib.Omega.{arith}
 use lib.Dec.{eqb, ltb}
 use lib.ListN.{length, getD, set, length-set, replicate, length-replicate, getD-replicate}
 use lib.Seq.{getD-set-same, getD-set-other}
 use borrow.Author.Tests.{lt-ltb, le-ltb, eq-eqb, ne-eqb, ltb-true, ltb-false, eqb-true, eqb-false}
-use Rattle.bounded.specs.Bool.{and, not, bit, if}
-use Rattle.bounded.specs.Fold.{sum, count, first}
+use Rattle.bounded.specs.Bool.{and, implies, not, if}
+use Rattle.bounded.specs.Fold.{every, first}
 use Rattle.bounded.specs.Table.{tabulate}
-use Rattle.bounded.proofs.Bool.{by-cases, bool-ext, true-and, false-and, and-false, and-fails, and-holds, implies-true, implies-false, if-true, if-false}
-use Rattle.bounded.proofs.Fold.{below-suc, count-le, first-cong}
+use Rattle.bounded.proofs.Bool.{by-cases, clash, bool-ext, not-true→false, true-and, false-and, and-i, and-l, and-r, and-false, and-fails, and-holds}
+use Rattle.bounded.proofs.Bool.{implies-i, implies-e, implies-true, implies-false, not-i, not-e, if-true, if-false}
+use Rattle.bounded.proofs.Fold.{below-suc, every-i, every-e, first-cong}
 use Rattle.bounded.proofs.Table.{length-tabulate, getD-tabulate, is-table}
 use Rattle.words.specs.Word.{has, word}
-use Rattle.words.proofs.Laws.{has-word}
+use Rattle.words.proofs.Laws.{word-lt, has-word, has-below, has-zero, empty}
 use Rattle.rows.specs.Rows.{rowAt, allowsOf}
 use Rattle.rows.proofs.Laws.{allows-row}
-use Rattle.solutions.specs.Choices.{valueKept, pairKept, partnerOf, valueCompleted, Led, Completed, domainOpen, lowestOf, freshValue}
+use Rattle.solutions.specs.Choices.{valueKept, pairKept, partnerOf, valueCompleted, Led, Completed, domainOpen, lowestOf, freeWord, sideApart, freshValue}
 
 -- ---- the value of a variable
 
@@ -149,13 +148,29 @@ module _ (leader domain : ℕ) where
   unfolding domainOpen
   domain-live h = flip-not (eqb domain 0) ∙ sym (implies-true _ _ (eq-eqb leader 0 h))
 
--- One more test of a count.
-pub count-joins : (p : ℕ → Bool) (r t i : ℕ) → r ≡ count i p → t ≡ bit (p i) → r + t ≡ count (i + 1) p
-unfolding count sum
-count-joins p r t i e f = rw (e, f, add-one i) (add-comm (sum i (λ (k : ℕ). bit (p k))) (bit (p i)))
+module _ (leader stated free : ℕ) where
+  pub side-led : (leader ≡ 0 → ⊥) → true ≡ sideApart leader stated free
+  unfolding sideApart
+  side-led h = sym (implies-false _ _ (ne-eqb leader 0 h))
 
-pub count-fits : (p : ℕ → Bool) (r t i : ℕ) → r ≡ count i p → t ≡ bit (p i) → r + t ≤ i + 1
-count-fits p r t i e f = omega (arith, count-joins p r t i e f, count-le (i + 1) p)
+  pub side-free : (common : ℕ) → leader ≡ 0 → common ≡ word 16 (λ (j : ℕ). and (has stated j) (has free j))
+      → eqb common 0 ≡ sideApart leader stated free
+  unfolding sideApart
+  side-free common h e = rw e (sym (implies-true _ _ (eq-eqb leader 0 h)))
+
+  -- Against the word of all free variables this is the test of every pair of this one.
+  pub side-pairs : (n : ℕ) (leaders : List ℕ) → n ≤ 16 → free ≡ freeWord n leaders
+      → sideApart leader stated free ≡ every n (λ (j : ℕ). implies (and (eqb leader 0) (eqb (getD leaders j 0) 0)) (not (has stated j)))
+  unfolding sideApart freeWord
+  side-pairs n leaders l e =
+      let is-free : (j : ℕ) → j < n → has free j ≡ eqb (getD leaders j 0) 0 = λ j m. rw e (has-word n _ j m) in
+      bool-ext _ _
+      (λ k. every-i n _ λ j m. implies-i _ _ λ t. not-i _ (not-true→false _ λ s.
+      let none = eqb-true _ 0 (implies-e _ _ k (and-l _ _ t)) in
+      clash (and-i _ _ s (is-free j m ∙ and-r _ _ t)) (sym (has-word 16 _ j (omega arith)) ∙ ap (λ (x : ℕ). has x j) none ∙ has-zero j)))
+      (λ k. implies-i _ _ λ t. eq-eqb _ 0 (empty 16 _ (word-lt 16 _) λ j b. has-word 16 _ j b ∙ not-true→false _ λ s.
+      let m = has-below n free j (and-r _ _ s) (rw e (word-lt n _)) in
+      clash (and-l _ _ s) (not-e _ (implies-e _ _ (every-e n _ k j m) (and-i _ _ t (sym (is-free j m) ∙ and-r _ _ s))))))
 
 -- A store makes a table of another that differs there alone.
 set-table : (n : ℕ) (f g : ℕ → ℕ) (i v : ℕ) → i < n → v ≡ g i → ((k : ℕ) → (k ≡ i → ⊥) → f k ≡ g k) → set (tabulate n f) i v ≡ tabulate n g

@@ -7,7 +7,7 @@ use Prim.Native.Nat.{ℕ, suc, pred, _≤_, _<_}
 use lib.Dec.{eqb, ltb}
 use lib.ListN.{length, getD}
 use Rattle.bounded.specs.Bool.{and, implies, not, if}
-use Rattle.bounded.specs.Fold.{every, count, first}
+use Rattle.bounded.specs.Fold.{every, first}
 use Rattle.words.specs.Word.{has, word}
 use Rattle.rows.specs.Rows.{rowAt, allowsOf}
 
@@ -69,9 +69,20 @@ domainsOpen n leaders domains = every n (λ (i : ℕ). domainOpen (getD leaders 
 unfoldable pub lowestOf : ℕ → List ℕ → ℕ → ℕ
 lowestOf n domains i = if (ltb i n) (first 16 (has (getD domains i 0))) 0
 
--- How many options are live.
-unfoldable pub liveCount : ℕ → List ℕ → ℕ
-liveCount n leaders = count n (λ (i : ℕ). eqb (getD leaders i 0) 0)
+-- The free variables as a word.
+unfoldable pub freeWord : ℕ → List ℕ → ℕ
+freeWord n leaders = word n (λ (i : ℕ). eqb (getD leaders i 0) 0)
+
+-- A free variable is stated with none of `free`.
+unfoldable pub sideApart : ℕ → ℕ → ℕ → Bool
+sideApart leader stated free = implies (eqb leader 0) (eqb (word 16 (λ (j : ℕ). and (has stated j) (has free j))) 0)
+
+-- "no two live options are stated together"
+unfoldable pub freeApart : ℕ → List ℕ → List ℕ → Bool
+freeApart n leaders stated =
+    every n (λ (i : ℕ).
+    every n (λ (j : ℕ).
+    implies (and (eqb (getD leaders i 0) 0) (eqb (getD leaders j 0) 0)) (not (has (getD stated i 0) j))))
 
 -- A live option with a full list: what the writer asks of each, "a follower exists or a list is not full".
 unfoldable pub freshValue : ℕ → ℕ → ℕ → Bool

@@ -3,8 +3,8 @@ mod values;
 
 pub use values::complete_values;
 pub use values::domains_open;
+pub use values::free_apart;
 pub use values::fresh_parts;
-pub use values::live_count;
 pub use values::lowest_build;
 pub use values::pairs_kept;
 pub use values::values_below;

@@ -2,13 +2,11 @@
 ghost use mathlib.Core.Path.{_≡_};
 ghost use mathlib.Core.Bool.{true};
 ghost use Prim.Native.Nat.{ℕ, suc, _<_, _≤_};
-ghost use lib.Dec.{eqb};
 ghost use lib.ListN.{length, getD};
-ghost use Rattle.bounded.specs.Bool.{bit};
 ghost use Rattle.bounded.specs.Fold.{first};
 ghost use Rattle.bounded.specs.Table.{tabulate};
 ghost use Rattle.words.specs.Word.{has};
-ghost use Rattle.solutions.specs.Choices.{valuesBelow, valueKept, valuesKept, pairKept, sideKept, pairsKept, partnerOf, valueCompleted, Led, Completed, domainOpen, domainsOpen, lowestOf, liveCount, freshValue, freshParts};
+ghost use Rattle.solutions.specs.Choices.{valuesBelow, valueKept, valuesKept, pairKept, sideKept, pairsKept, partnerOf, valueCompleted, Led, Completed, domainOpen, domainsOpen, lowestOf, freeWord, sideApart, freeApart, freshValue, freshParts};
 
 // Each value is below its size.
 pub fn values_below(n: usize, sizes: &[u8; 16], values: &[u8]) -> bool
@@ -203,25 +201,39 @@ pub fn domains_open<'a>(n: usize, leaders: &'a [u8; 16], domains: &'a [u16; 16])
     all
 }
 
-// What an option adds to the count of live ones.
-fn live_one(leader: u8) -> usize
-    ensures { λ r. ⌜ r ≡ bit (eqb leader 0) ⌝ }
+// The free variables, as a word.
+fn free_variables(n: usize, leaders: &[u8; 16]) -> u16
+    requires { ⌜ n ≤ 16 ⌝ }
+    ensures { λ r. ⌜ r ≡ freeWord n (now (leaders .entry)) ⌝ }
 {
-    if leader == 0 {
-        return 1;
+    let mut free: u16 = 0;
+    for i in 0..n {
+        free |= ((leaders[i] == 0) as u16) << i;
     }
-    0
+    free
 }
 
-pub fn live_count(n: usize, leaders: &[u8; 16]) -> usize
-    requires { ⌜ n ≤ 16 ⌝ }
-    ensures { λ r. ⌜ r ≡ liveCount n (now (leaders .entry)) ⌝ }
+// A free variable is stated with none of the free ones.
+fn side_apart(leader: u8, stated: u16, free: u16) -> bool
+    ensures { λ r. ⌜ r ≡ sideApart leader stated free ⌝ }
 {
-    let mut live = 0;
-    for i in 0..n {
-        live += live_one(leaders[i]);
+    if leader != 0 {
+        return true;
     }
-    live
+    words::both(stated, free) == 0
+}
+
+// No two free variables are stated together. No row is read: stated is the mark, whatever the rows allow.
+pub fn free_apart<'a>(n: usize, leaders: &'a [u8; 16], stated: &'a [u16; 16]) -> bool
+    requires { ⌜ n ≤ 16 ⌝ }
+    ensures { λ r. ⌜ r ≡ freeApart n (now (leaders .entry)) (now (stated .entry)) ⌝ }
+{
+    let free = free_variables(n, leaders);
+    let mut all = true;
+    for i in 0..n {
+        all &= side_apart(leaders[i], stated[i], free);
+    }
+    all
 }
 
 // The lowest value of each list.

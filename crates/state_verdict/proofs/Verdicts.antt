@@ -6,7 +6,7 @@ use Prim.Native.Nat.{ℕ, _<_}
 use native.Mathlib.Omega.{arith}
 use lib.Dec.{ltb}
 use lib.ListN.{length, getD, replicate, length-replicate, getD-replicate}
-use borrow.Author.Tests.{lt-ltb, eq-eqb, ne-eqb, ltb-true, ltb-false, eqb-false}
+use borrow.Author.Tests.{lt-ltb, ne-eqb, ltb-true, ltb-false, eqb-false}
 use Rattle.bounded.specs.Fold.{some, first}
 use Rattle.bounded.specs.Table.{tabulate}
 use Rattle.bounded.proofs.Bool.{by-cases, clash, not-true→false, implies-i, implies-e, not-i, not-e, if-true, if-false}
@@ -15,7 +15,6 @@ use Rattle.bounded.proofs.Table.{length-tabulate, getD-tabulate, is-table}
 use Rattle.words.specs.Word.{has}
 use Rattle.words.proofs.Laws.{has-zero, nonempty}
 use Rattle.network.specs.Network.{free, partner}
-use Rattle.network.specs.Reduction.{freeCount}
 use Rattle.network.specs.Completion as network
 use Rattle.network.specs.Completion.{NONE, BUILT, OPEN, completed, lowest, exhausted, decided, verdict, lowestBuild, shown}
 use Rattle.network.proofs.Sound.{free-or-led, leader-n, leader-is-free}
@@ -23,7 +22,7 @@ use Rattle.network.proofs.Completion.{completed-keeps, completed-led, none-verd
 use Rattle.state.specs.View.{view, soundState}
 use Rattle.answers.specs.Answers.{rules}
 use Rattle.state.specs.Solutions.{valuesOf, verdictOf}
-use Rattle.solutions.specs.Choices.{Led, Completed, domainOpen, domainsOpen, lowestOf, liveCount}
+use Rattle.solutions.specs.Choices.{Led, Completed, domainOpen, domainsOpen, lowestOf, freeApart}
 use Rattle.state.specs.declared.state.State.{State}
 use Rattle.state.proofs.Solutions.{verdict-of}
 use Rattle.state.proofs.View.{Shaped, state-sound, n-most, state-size}
@@ -61,17 +60,16 @@ module _ (s : State) (h : Shaped s) (t : soundState s ≡ true) where
   pub told-none : domainsOpen (s .n) (s .leaders) (s .domains) ≡ false → rules NONE (replicate 16 0) ≡ verdictOf s
   told-none o = told NONE _ (none-verdict (view s) (none o)) (zeros (λ w. clash (none o) (verdict-built (view s) w .0)))
 
-  -- "exactly one option is live"
-  counted : liveCount (s .n) (s .leaders) ≡ freeCount (view s)
-  unfolding liveCount freeCount free view
-  counted = refl
+  -- "no two live options are stated together"
+  apart : freeApart (s .n) (s .leaders) (s .stated) ≡ decided (view s)
+  unfolding freeApart decided free view
+  apart = refl
 
-  pub told-open : domainsOpen (s .n) (s .leaders) (s .domains) ≡ true → (liveCount (s .n) (s .leaders) ≡ 1 → ⊥)
+  pub told-open : domainsOpen (s .n) (s .leaders) (s .domains) ≡ true → freeApart (s .n) (s .leaders) (s .stated) ≡ false
       → rules OPEN (replicate 16 0) ≡ verdictOf s
-  unfolding decided
   told-open o d =
-      let not-one = ne-eqb (freeCount (view s)) 1 (λ e. d (counted ∙ e)) in
-      told OPEN _ (open-verdict (view s) (left o) not-one) (zeros (λ w. clash (verdict-built (view s) w .1) not-one))
+      let open-pair = sym apart ∙ d in
+      told OPEN _ (open-verdict (view s) (left o) open-pair) (zeros (λ w. clash (verdict-built (view s) w .1) open-pair))
 
   module _ (o : domainsOpen (s .n) (s .leaders) (s .domains) ≡ true) where
     -- The lowest values are a choice in the lists of live options.
@@ -101,12 +99,12 @@ module _ (s : State) (h : Shaped s) (t : soundState s ≡ true) where
         ∙ ap (λ (a : ℕ). first (view s .size i) (partner (view s) l i a)) (lowest-is l (leader-n (view s) S i l e) (leader-is-free (view s) S i l e))
         ∙ sym (completed-led (view s) (lowest (view s)) i l e))
 
-    pub told-built : (build : List ℕ) → length build ≡ 16 → liveCount (s .n) (s .leaders) ≡ 1
+    pub told-built : (build : List ℕ) → length build ≡ 16 → freeApart (s .n) (s .leaders) (s .stated) ≡ true
         → Completed (s .n) (s .domains) (s .leaders) (s .rows) (tabulate 16 (lowestOf (s .n) (s .domains))) build
         → rules BUILT build ≡ verdictOf s
-    unfolding decided lowestOf view
+    unfolding lowestOf view
     told-built build e d C =
-        let v = built-verdict (view s) (left o) (eq-eqb (freeCount (view s)) 1 (sym counted ∙ d)) in
+        let v = built-verdict (view s) (left o) (sym apart ∙ d) in
         told BUILT build v
         (is-table 16 _ build 0 e
         (λ i l. by-cases (ltb i (s .n))

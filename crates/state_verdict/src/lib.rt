@@ -2,7 +2,7 @@
 use answers::Verdict;
 use answers::VerdictAnswer;
 use solutions::domains_open;
-use solutions::live_count;
+use solutions::free_apart;
 use solutions::lowest_build;
 ghost use mathlib.Core.Path.{_≡_};
 ghost use mathlib.Core.Bool.{true};
@@ -11,7 +11,8 @@ ghost use Rattle.answers.specs.Answers.{verdictTold};
 ghost use Rattle.state.specs.View.{stateOf, soundState};
 ghost use Rattle.state.specs.Solutions.{verdictOf};
 
-// The verdict of the parts of a sound state: "NONE if some live list is empty; else BUILT if exactly one option is live ..; else OPEN".
+// The verdict of the parts of a sound state: NONE "if some live list is empty", even where two live options are stated together; else BUILT where "no
+// two live options are stated together"; else OPEN.
 pub fn verdict_of<'a>(
     n: usize,
     sizes: &'a [u8; 16],
@@ -29,7 +30,7 @@ pub fn verdict_of<'a>(
             solution: [0u8; 16],
         };
     }
-    if live_count(n, leaders) != 1 {
+    if !free_apart(n, leaders, stated) {
         return VerdictAnswer {
             verdict: Verdict::Open,
             solution: [0u8; 16],

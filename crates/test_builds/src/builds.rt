@@ -123,13 +123,23 @@ fn check_tuples(bytes: &[u8], state: State, seed: &mut u64, tally: &mut Counts) 
 
 // A verdict by the fields alone.
 fn expected_verdict(state: State) -> u8 {
-    if choices::has_empty_list(states::free(state), &state.domains) {
+    let free = states::free(state);
+    if choices::has_empty_list(free, &state.domains) {
         return NONE;
     }
-    if states::free_count(state) == 1 {
+    if choices::are_apart(free, &state.stated) {
         return BUILT;
     }
     OPEN
+}
+
+// How often a build is shown with two or more live options.
+fn count_apart(state: State, verdict: u8, tally: &mut Counts) {
+    if verdict == BUILT {
+        if 1 < states::free_count(state) {
+            tally::count(tally, tally::APART);
+        }
+    }
 }
 
 // The build shown is a build of the sheet, each live option at its lowest value, zero past n; with NONE or OPEN it is all zero.
@@ -150,6 +160,7 @@ pub fn check_verdict(bytes: &[u8], state: State, tally: &mut Counts) -> u8 {
     let is_shown = is_shown(bytes, state, expected, &answer.solution);
     let is_same = answer.verdict == expected;
     tally::expect(tally, tally::VERDICTS, is_same & is_shown);
+    count_apart(state, expected, tally);
     expected
 }
 

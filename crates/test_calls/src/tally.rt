@@ -1,7 +1,7 @@
 // How often each thing was tried, and how often it came out wrong.
 
 // One more than the greatest of the kinds that are counted.
-pub const KINDS: usize = 32;
+pub const KINDS: usize = 33;
 
 pub type Counts = [u64; KINDS];
 
@@ -52,6 +52,8 @@ pub const UNSOUND: usize = 29;
 pub const SOUND: usize = 30;
 
 pub const CUTS: usize = 31;
+// Verdicts that show a build with two or more live options.
+pub const APART: usize = 32;
 
 // One more of the kind `k`.
 pub fn count(tally: &mut Counts, k: usize) {
@@ -112,7 +114,7 @@ pub fn print_checks(tally: &Counts) {
         b"damaged states\nsheets with all tuples tried\nbuilds\nreads accepted\nreads refused\n\
         steps taken\nsteps refused\nreductions\ntests\ntests refused\ncompletions\n\
         completions refused\nverdicts\nwrites\nwrites refused\ncalls on unsound states\n\
-        states called sound\ncuts\n",
+        states called sound\ncuts\nbuilt with two or more live options\n",
         DAMAGED_STATES,
         tally,
     );

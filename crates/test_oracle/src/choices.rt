@@ -125,3 +125,20 @@ pub fn are_lowest(free: u16, domains: &[u16; 16], tuple: &[u8; 16]) -> bool {
     }
     true
 }
+
+fn is_apart(free: u16, stated: &[u16; 16], i: usize) -> bool {
+    if !has(free, i) {
+        return true;
+    }
+    word_at(stated, i) & free == 0
+}
+
+// No two live options are stated together.
+pub fn are_apart(free: u16, stated: &[u16; 16]) -> bool {
+    for i in 0..16 {
+        if !is_apart(free, stated, i) {
+            return false;
+        }
+    }
+    true
+}

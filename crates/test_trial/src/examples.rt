@@ -1,6 +1,8 @@
 // Fixed examples, each with what it must come to: sheets, refused bytes, steps, and answers on sheet A.
 use crate::lists;
 use crate::lists::expect_text;
+use test_calls::calls;
+use test_calls::tally;
 use test_calls::tally::Counts;
 use test_checks::rows::expect_refused;
 
@@ -41,8 +43,8 @@ fn g_to_l(seed: &mut u64, tally: &mut Counts) {
     lists::run(
         b"S\x0d\x01\x00\x0a\x02\x02\x02\x01\x01\x02\x00\x03\x00\x03\x080O030030\
         \x41OPTIONS 2\nLIVE 1 LIST 0003\nLIVE 2 LIST 0003\nSTEPS 0\nVERDICT OPEN\n\
-        S\x07\x01\x00\x04\x02\x02\x02\x00\x080O030030\
-        \x41OPTIONS 2\nLIVE 1 LIST 0003\nLIVE 2 LIST 0003\nSTEPS 0\nVERDICT OPEN\n\
+        S\x07\x01\x00\x04\x02\x02\x02\x00\x080B030030\
+        \x4cOPTIONS 2\nLIVE 1 LIST 0003\nLIVE 2 LIST 0003\nSTEPS 0\nVERDICT BUILT\nBUILD 0 0\n\
         S\x06\x01\x00\x03\x01\x01\x00\x050B010\
         \x39OPTIONS 1\nLIVE 1 LIST 0001\nSTEPS 0\nVERDICT BUILT\nBUILD 0\n\
         S\x0d\x01\x00\x0a\x02\x02\x01\x01\x01\x02\x00\x01\x00\x00\x081B010100\
@@ -86,7 +88,7 @@ fn shrunk(seed: &mut u64, tally: &mut Counts) {
 fn empty(seed: &mut u64, tally: &mut Counts) {
     lists::run(
         b"S\x21\x01\x00\x1e\x04\x02\x02\x02\x02\x04\x01\x02\x00\x01\x00\x02\x01\x04\x00\x02\x00\x01\x02\x03\x00\x01\x00\x02\x03\x04\x00\x01\x00\x02\x0e3N000100100100\x00\
-        S\x15\x01\x00\x12\x04\x02\x02\x02\x02\x02\x01\x02\x00\x01\x00\x02\x03\x04\x00\x02\x00\x01\x0e2O030100030300\x00\
+        S\x15\x01\x00\x12\x04\x02\x02\x02\x02\x02\x01\x02\x00\x01\x00\x02\x03\x04\x00\x02\x00\x01\x0e2B030100030301\x00\
         S\x0d\x01\x00\x0a\x02\x02\x02\x01\x01\x02\x00\x00\x00\x00\x081N000100\x00\
         S\x14\x01\x00\x11\x03\x02\x02\x02\x02\x01\x02\x00\x00\x00\x00\x01\x03\x00\x03\x00\x03\x0b2N000100100\x00\
         S\x10\x01\x00\x0d\x03\x01\x01\x01\x02\x01\x03\x00\x01\x02\x03\x00\x01\x0b2B010100100\x00\
@@ -94,6 +96,32 @@ fn empty(seed: &mut u64, tally: &mut Counts) {
         seed,
         tally,
     );
+}
+
+// Groups that no table joins:
+// sizes 2,3,2,4; (1,2) 0001 0004; (2,3) 0002 0001 0001
+// sizes 2,1,2,1; (1,2) 0000 0001; (3,4) 0000 0001
+// sizes 1,1,2; (1,2) 0000
+// sizes 2,2,1,1; (1,2) 0003 0003; (3,4) 0000
+fn apart(seed: &mut u64, tally: &mut Counts) {
+    lists::run(
+        b"S\x17\x01\x00\x14\x04\x02\x03\x02\x04\x02\x01\x02\x00\x01\x00\x04\x02\x03\x00\x02\x00\x01\x00\x01\x0e2B0301001010?0\
+        \x6eOPTIONS 4\nLIVE 1 LIST 0003\nFOLLOWS 2 OF 1\nFOLLOWS 3 OF 1\nLIVE 4 LIST 000F\nSTEPS 2\nVERDICT BUILT\nBUILD 0 0 1 0\n\
+        S\x15\x01\x00\x12\x04\x02\x01\x02\x01\x02\x01\x02\x00\x00\x00\x01\x03\x04\x00\x00\x00\x01\x0e2B021100021300\x00\
+        S\x0c\x01\x00\x09\x03\x01\x01\x02\x01\x01\x02\x00\x00\x0b1N000100030\x00\
+        S\x13\x01\x00\x10\x04\x02\x02\x01\x01\x02\x01\x02\x00\x03\x00\x03\x03\x04\x00\x00\x0e1N030030000300\x00",
+        seed,
+        tally,
+    );
+}
+
+// As read, options 1, 2 and 3 of the first are live and stated with one another.
+fn apart_as_read(tally: &mut Counts) {
+    let reading = calls::read(
+        b"\x01\x00\x14\x04\x02\x03\x02\x04\x02\x01\x02\x00\x01\x00\x04\x02\x03\x00\x02\x00\x01\x00\x01",
+    );
+    let judged = calls::verdict(reading.state);
+    tally::expect(tally, tally::EXAMPLES, judged.verdict == calls::OPEN);
 }
 
 // Number 1 is tested first, then 2, and then the fields in file order: n, the sizes and the number of tables, each cut off, wrong, or left over.
@@ -261,6 +289,8 @@ fn run_sheets(seed: &mut u64, tally: &mut Counts) {
     g_to_l(seed, tally);
     shrunk(seed, tally);
     empty(seed, tally);
+    apart(seed, tally);
+    apart_as_read(tally);
 }
 
 fn run_refused(seed: &mut u64, tally: &mut Counts) {

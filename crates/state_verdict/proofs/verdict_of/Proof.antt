@@ -33,15 +33,15 @@ returns c =
     let s = c .before .before in
     told-none (state s) (shaped s) (s .pre .1) (sym (c .before .domains-open .ensures) ∙ not-true _ (c .if1 .taken))
 
-live-count-requires : tie.Need-live-count-requires
-live-count-requires c κs = let s = c .before .before in n-most (state s) (s .pre .1)
+free-apart-requires : tie.Need-free-apart-requires
+free-apart-requires c κs = let s = c .before .before in n-most (state s) (s .pre .1)
 
 returns-2 : tie.Need-returns-2
 unfolding verdictTold
 returns-2 c =
     let e = c .before .before in
     let s = e .before .before in
-    told-open (state s) (shaped s) (s .pre .1) (left e) (λ q. c .if2 .taken (c .before .live-count .ensures ∙ q))
+    told-open (state s) (shaped s) (s .pre .1) (left e) (sym (c .before .free-apart .ensures) ∙ not-true _ (c .if2 .taken))
 
 lowest-build-requires : tie.Need-lowest-build-requires
 lowest-build-requires c κs =
@@ -56,7 +56,7 @@ returns-3 c =
     let e = f .before .before in
     let s = e .before .before in
     told-built (state s) (shaped s) (s .pre .1) (left e) _ (search needs)
-    (sym (f .before .live-count .ensures) ∙ f .if2 .left) (c .lowest-build .ensures)
+    (sym (f .before .free-apart .ensures) ∙ not-false _ (f .if2 .left)) (c .lowest-build .ensures)
 
 pub verdict-of-spec : {M : Type 1} → statement M
 verdict-of-spec =
@@ -64,7 +64,7 @@ verdict-of-spec =
     (tie.spec
     domains-open-requires
     returns
-    live-count-requires
+    free-apart-requires
     returns-2
     lowest-build-requires
     returns-3)
