@@ -166,13 +166,11 @@ pub fn check_verdict(bytes: &[u8], state: State, tally: &mut Counts) -> u8 {
 
 // NONE only where there is no build, BUILT only where there is one.
 fn is_borne_out(verdict: u8, builds: u64) -> bool {
-    if verdict == NONE {
-        return builds == 0;
+    match verdict {
+        NONE => builds == 0,
+        BUILT => builds != 0,
+        _ => true,
     }
-    if verdict == BUILT {
-        return builds != 0;
-    }
-    true
 }
 
 // There are as many allowed choices as builds.

@@ -46,22 +46,18 @@ pub(crate) fn drawn_unlisted(bytes: &[u8], free: u16, seed: &mut u64) -> [u8; 16
     with_value(drawn(bytes, seed), i, 16 + random::byte(seed) % 240)
 }
 
-fn garbage_at(free: u16, tuple: &[u8; 16], i: usize, seed: &mut u64) -> u8 {
-    let garbage = random::byte(seed);
-    if 15 < i {
-        return 0;
+fn chosen(is_first: bool, first: u8, second: u8) -> u8 {
+    if is_first {
+        return first;
     }
-    if fields::has(free, i) {
-        return tuple[i];
-    }
-    garbage
+    second
 }
 
 // The tuple with any bytes at the followers and past n.
 pub(crate) fn with_garbage(free: u16, tuple: &[u8; 16], seed: &mut u64) -> [u8; 16] {
     let mut made = [0u8; 16];
     for i in 0..16 {
-        made[i] = garbage_at(free, tuple, i, seed);
+        made[i] = chosen(fields::has(free, i), tuple[i], random::byte(seed));
     }
     made
 }

@@ -102,14 +102,11 @@ fn check_any_step(run: Run, seed: &mut u64, tally: &mut Counts) -> Run {
 }
 
 fn check_call(run: Run, seed: &mut u64, tally: &mut Counts) -> Run {
-    let kind = random::below(seed, 8);
-    if kind == 0 {
-        return check_reduction(run, tally);
+    match random::below(seed, 8) {
+        0 => check_reduction(run, tally),
+        1 | 2 | 3 => check_legal_step(run, seed, tally),
+        _ => check_any_step(run, seed, tally),
     }
-    if kind < 4 {
-        return check_legal_step(run, seed, tally);
-    }
-    check_any_step(run, seed, tally)
 }
 
 // So many calls, each on the state that the one before it handed back.

@@ -5,30 +5,16 @@ use test_calls::calls::Reading;
 use test_calls::states;
 use test_calls::tally;
 use test_calls::tally::Counts;
+use test_inputs::families;
 use test_inputs::families::ROOM;
 use test_oracle::brute;
 use test_oracle::fields;
 use test_oracle::judge;
 
-fn is_full(list: u16, size: u8) -> bool {
-    if size == 0 {
-        return list == 0;
-    }
-    if 16 < size {
-        return false;
-    }
-    list == (65535u16 >> (16 - size))
-}
-
 // A size and a list as a sheet just read has them; zero past n.
 fn is_fresh_at(bytes: &[u8], size: u8, list: u16, leader: u8, i: usize) -> bool {
-    if leader != 0 {
-        return false;
-    }
-    if brute::options(bytes) <= i {
-        return (size == 0) & (list == 0);
-    }
-    (size as usize == brute::size(bytes, i)) & is_full(list, size)
+    let is_full = list == families::within(size);
+    (leader == 0) & (size as usize == brute::size(bytes, i)) & is_full
 }
 
 // "A sheet just read has full lists, no leader".

@@ -70,20 +70,27 @@ fn longer(sheet: Sheet, seed: &mut u64) -> Sheet {
     with_length(with_byte(sheet, length, any_byte(seed)), more)
 }
 
-// One change to a sheet; it may leave a sheet that is accepted.
-fn changed(sheet: Sheet, seed: &mut u64) -> Sheet {
+fn altered(kind: u64, sheet: Sheet, at: usize, seed: &mut u64) -> Sheet {
     let length = sheet.length;
-    let at = place(length, seed);
-    match random::below(seed, 9) {
+    match kind {
         0 => with_byte(sheet, at, any_byte(seed)),
         1 => with_bit(sheet, at, seed),
         2 => with_two_exchanged(sheet, at, place(length, seed)),
-        3 => with_length(sheet, at),
-        4 => mended(with_length(sheet, at)),
-        5 => longer(sheet, seed),
-        6 => mended(longer(sheet, seed)),
-        7 => mended(with_length(sheet, random::from(seed, 4100, 100))),
+        3 | 4 => with_length(sheet, at),
+        5 | 6 => longer(sheet, seed),
+        7 => with_length(sheet, random::from(seed, 4100, 100)),
         _ => with_byte(sheet, random::from(seed, 4, 20), any_byte(seed)),
+    }
+}
+
+// One change to a sheet; it may leave a sheet that is accepted.
+fn changed(sheet: Sheet, seed: &mut u64) -> Sheet {
+    let at = place(sheet.length, seed);
+    let kind = random::below(seed, 9);
+    let other = altered(kind, sheet, at, seed);
+    match kind {
+        4 | 6 | 7 => mended(other),
+        _ => other,
     }
 }
 

@@ -10,12 +10,6 @@ pub struct Sheet {
     pub length: usize,
 }
 
-// The place of the next byte, and how many tables stand before it.
-struct Mark {
-    at: usize,
-    tables: usize,
-}
-
 pub const SPARSE: u8 = 0;
 
 pub const CHAINS: u8 = 1;
@@ -116,33 +110,33 @@ fn size(family: u8, i: usize, common: u8, seed: &mut u64) -> u8 {
     random::from_one(seed, most_values(family, i))
 }
 
-fn put_sizes(bytes: &mut [u8; ROOM], n: usize, family: u8, seed: &mut u64) -> usize {
+fn put_sizes(bytes: &mut [u8; ROOM], n: usize, family: u8, seed: &mut u64) {
     let common = random::from_one(seed, 4);
-    let mut at = 4;
     for i in 0..n {
-        at = put(bytes, at, size(family, i, common, seed));
+        put(
+            bytes,
+            std::num::wrapping_add_usize(4, i),
+            size(family, i, common, seed),
+        );
     }
-    at
 }
 
 // Chains state each option with the next, and seldom with another.
-fn is_stated(family: u8, a: usize, b: usize, seed: &mut u64) -> bool {
-    if family == CHAINS {
-        if std::num::wrapping_add_usize(a, 1) == b {
-            return true;
-        }
-        return random::once_in(seed, 6);
-    }
-    if family == LARGE {
-        return random::once_in(seed, 3);
-    }
-    if family == LARGEST {
+fn is_chained(a: usize, b: usize, seed: &mut u64) -> bool {
+    if std::num::wrapping_add_usize(a, 1) == b {
         return true;
     }
-    if family == DENSE {
-        return !random::once_in(seed, 4);
+    random::once_in(seed, 6)
+}
+
+fn is_stated(family: u8, a: usize, b: usize, seed: &mut u64) -> bool {
+    match family {
+        CHAINS => is_chained(a, b, seed),
+        DENSE => !random::once_in(seed, 4),
+        LARGE => random::once_in(seed, 3),
+        LARGEST => true,
+        _ => random::once_in(seed, 2),
     }
-    random::once_in(seed, 2)
 }
 
 // The kind of a table's rows: that of its family, or drawn for each table.
@@ -154,7 +148,7 @@ fn kind_of(family: u8, seed: &mut u64) -> u8 {
 }
 
 // All values below `size`.
-fn within(size: u8) -> u16 {
+pub fn within(size: u8) -> u16 {
     if size == 0 {
         return 0;
     }
@@ -173,26 +167,23 @@ fn one_value(drawn: usize, size: u8) -> u16 {
     1u16 << (value % 16)
 }
 
-// The row of value `v`.
-fn row(kind: u8, shift: u8, v: usize, size: u8, seed: &mut u64) -> u16 {
-    let r = random::word(seed);
-    let q = random::word(seed);
-    if kind == SPARSE {
-        return r & q & within(size);
-    }
-    if kind == CHAINS {
-        return one_value(r as usize, size);
-    }
-    if kind == BIJECTIVE {
-        return one_value(std::num::wrapping_add_usize(v, shift as usize), size);
-    }
-    if kind == DENSE {
-        return (r | q) & within(size);
-    }
+// No value once in four rows, else one.
+fn one_or_none(r: u16, q: u16, size: u8) -> u16 {
     if r % 4 == 0 {
         return 0;
     }
     one_value(q as usize, size)
+}
+
+// The row of value `v`, from two words that are drawn for it.
+fn row(kind: u8, r: u16, q: u16, shift: u8, v: usize, size: u8) -> u16 {
+    match kind {
+        SPARSE => r & q & within(size),
+        CHAINS => one_value(r as usize, size),
+        BIJECTIVE => one_value(std::num::wrapping_add_usize(v, shift as usize), size),
+        DENSE => (r | q) & within(size),
+        _ => one_or_none(r, q, size),
+    }
 }
 
 fn put_rows(
@@ -206,7 +197,9 @@ fn put_rows(
     let shift = random::byte(seed);
     let mut at = from;
     for v in 0..count {
-        at = put_number(bytes, at, row(kind, shift, v, size, seed) as usize);
+        let r = random::word(seed);
+        let q = random::word(seed);
+        at = put_number(bytes, at, row(kind, r, q, shift, v, size) as usize);
     }
     at
 }
@@ -219,56 +212,60 @@ fn size_in(bytes: &[u8; ROOM], option: usize) -> u8 {
     byte_at(bytes, option + 3)
 }
 
-// The table of the options `a` and `b`, counted from 1, where they are to be stated.
+// The table of the options `a` and `b`, counted from 1. Answers the place after it.
 fn put_table(
     bytes: &mut [u8; ROOM],
-    mark: Mark,
+    at: usize,
     a: usize,
     b: usize,
-    family: u8,
+    kind: u8,
     seed: &mut u64,
-) -> Mark {
-    if !is_stated(family, a, b, seed) {
-        return mark;
-    }
-    let second = put(bytes, mark.at, low_byte(a));
+) -> usize {
+    let second = put(bytes, at, low_byte(a));
     let first_row = put(bytes, second, low_byte(b));
-    let kind = kind_of(family, seed);
     let count = size_in(bytes, a) as usize;
     let size = size_in(bytes, b);
-    let at = put_rows(bytes, first_row, kind, count, size, seed);
-    let tables = std::num::wrapping_add_usize(mark.tables, 1);
-    Mark { at, tables }
+    put_rows(bytes, first_row, kind, count, size, seed)
 }
 
-// The tables of all pairs, in order: the pair number `k` is of the options k / 16 and k % 16, counted from 0.
-fn put_tables(bytes: &mut [u8; ROOM], from: Mark, n: usize, family: u8, seed: &mut u64) -> Mark {
-    let mut mark = from;
-    for k in 0..256 {
-        mark = put_pair(bytes, mark, k / 16, k % 16, n, family, seed);
-    }
-    mark
+// The place of the number of tables.
+fn count_place(n: usize) -> usize {
+    std::num::wrapping_add_usize(4, n)
 }
 
+// One table more.
+fn count_table(bytes: &mut [u8; ROOM], n: usize) {
+    let tables = byte_at(bytes, count_place(n));
+    put(bytes, count_place(n), std::num::wrapping_add_u8(tables, 1));
+}
+
+// The table of a pair, where it is in order and to be stated.
 fn put_pair(
     bytes: &mut [u8; ROOM],
-    mark: Mark,
-    i: usize,
-    j: usize,
+    at: usize,
+    a: usize,
+    b: usize,
     n: usize,
     family: u8,
     seed: &mut u64,
-) -> Mark {
-    if n <= j {
-        return mark;
+) -> usize {
+    if (n < b) | (b <= a) {
+        return at;
     }
-    if j <= i {
-        return mark;
+    if !is_stated(family, a, b, seed) {
+        return at;
     }
-    if 16 < j {
-        return mark;
+    count_table(bytes, n);
+    put_table(bytes, at, a, b, kind_of(family, seed), seed)
+}
+
+// The tables of all pairs, in order: the pair number `k` is of the options k / 16 and k % 16, counted from 0.
+fn put_tables(bytes: &mut [u8; ROOM], n: usize, family: u8, seed: &mut u64) -> usize {
+    let mut at = std::num::wrapping_add_usize(count_place(n), 1);
+    for k in 0..256 {
+        at = put_pair(bytes, at, k / 16 + 1, k % 16 + 1, n, family, seed);
     }
-    put_table(bytes, mark, i + 1, j + 1, family, seed)
+    at
 }
 
 // The count of the bytes that follow it.
@@ -284,20 +281,8 @@ pub fn make(family: u8, seed: &mut u64) -> Sheet {
     let n = options(family, seed);
     put(&mut bytes, 0, 1);
     put(&mut bytes, 3, n);
-    let count_place = put_sizes(&mut bytes, n as usize, family, seed);
-    let first = put(&mut bytes, count_place, 0);
-    let mark = put_tables(
-        &mut bytes,
-        Mark {
-            at: first,
-            tables: 0,
-        },
-        n as usize,
-        family,
-        seed,
-    );
-    put(&mut bytes, count_place, low_byte(mark.tables));
-    let length = mark.at;
+    put_sizes(&mut bytes, n as usize, family, seed);
+    let length = put_tables(&mut bytes, n as usize, family, seed);
     mend(&mut bytes, length);
     Sheet { bytes, length }
 }

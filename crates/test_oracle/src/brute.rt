@@ -29,8 +29,11 @@ pub fn options(bytes: &[u8]) -> usize {
     byte(bytes, 3) as usize
 }
 
-// The size of the option `i`, counted from 0.
+// The size of the option `i`, counted from 0; 0 past the last.
 pub fn size(bytes: &[u8], i: usize) -> usize {
+    if options(bytes) <= i {
+        return 0;
+    }
     byte(bytes, past(4, i)) as usize
 }
 
@@ -107,12 +110,13 @@ pub fn is_build(bytes: &[u8], tuple: &[u8; 16]) -> bool {
     tables_allow(bytes, tuple)
 }
 
-// A quotient and the remainder that it leaves.
+// A digit, and what is left of the number.
 struct Digit {
     value: u8,
     rest: usize,
 }
 
+// The last digit of a number in base `size`: 0 in base 0.
 fn divided(rest: usize, size: usize) -> Digit {
     if size == 0 {
         return Digit { value: 0, rest };
@@ -134,16 +138,9 @@ pub fn numbered(bytes: &[u8], k: usize) -> Tuple {
     let mut values = [0u8; 16];
     let mut rest = k;
     for i in 0..16 {
-        let next = divided(rest, size_or_one(bytes, i));
+        let next = divided(rest, size(bytes, i));
         values[i] = next.value;
         rest = next.rest;
     }
     Tuple { values, rest }
-}
-
-fn size_or_one(bytes: &[u8], i: usize) -> usize {
-    if options(bytes) <= i {
-        return 1;
-    }
-    size(bytes, i)
 }

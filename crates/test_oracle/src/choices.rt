@@ -6,10 +6,7 @@ use crate::fields::row_at;
 use crate::fields::word_at;
 
 fn is_listed(free: u16, domains: &[u16; 16], tuple: &[u8; 16], i: usize) -> bool {
-    if !has(free, i) {
-        return true;
-    }
-    has(word_at(domains, i), byte_at(tuple, i))
+    !has(free, i) | has(word_at(domains, i), byte_at(tuple, i))
 }
 
 // Each live option's value is in its list.
@@ -55,10 +52,7 @@ pub fn are_allowed<'a>(
 }
 
 fn is_choice_at(free: u16, tuple: &[u8; 16], i: usize) -> bool {
-    if has(free, i) {
-        return true;
-    }
-    byte_at(tuple, i) == 0
+    has(free, i) | (byte_at(tuple, i) == 0)
 }
 
 // The values of followers are 0: of the tuples that agree at the live options, one.
@@ -72,12 +66,8 @@ pub fn is_choice(free: u16, tuple: &[u8; 16]) -> bool {
 }
 
 fn is_kept(n: usize, free: u16, before: &[u8; 16], after: &[u8; 16], i: usize) -> bool {
-    if i < n {
-        if !has(free, i) {
-            return true;
-        }
-    }
-    byte_at(before, i) == byte_at(after, i)
+    let is_follower = (i < n) & !has(free, i);
+    is_follower | (byte_at(before, i) == byte_at(after, i))
 }
 
 // The bytes of live options, and those past n, are as they were.
@@ -127,10 +117,7 @@ pub fn are_lowest(free: u16, domains: &[u16; 16], tuple: &[u8; 16]) -> bool {
 }
 
 fn is_apart(free: u16, stated: &[u16; 16], i: usize) -> bool {
-    if !has(free, i) {
-        return true;
-    }
-    word_at(stated, i) & free == 0
+    !has(free, i) | (word_at(stated, i) & free == 0)
 }
 
 // No two live options are stated together.

@@ -1,6 +1,7 @@
 // What the reader is to say of some bytes, written from the table of causes; nothing here calls the library.
 use crate::brute::byte;
 use crate::brute::number;
+use crate::brute::options;
 use crate::brute::past;
 use crate::brute::size_of;
 
@@ -17,24 +18,19 @@ fn fault(number: u8, place: usize) -> Judged {
 // "under 3 bytes, over 4,101, or not 3 plus the count"
 fn is_length_wrong(bytes: &[u8]) -> bool {
     let length = bytes.len();
-    if length < 3 {
-        return true;
-    }
-    if 4101 < length {
-        return true;
-    }
-    past(3, number(bytes, 1)) != length
+    (length < 3) | (4101 < length) | (past(3, number(bytes, 1)) != length)
+}
+
+// "0 or above 16"
+fn is_wrong(number: u8) -> bool {
+    (number == 0) | (16 < number)
 }
 
 fn judge_size(bytes: &[u8], at: usize) -> u8 {
     if bytes.len() <= at {
         return 6;
     }
-    let size = byte(bytes, at);
-    if size == 0 {
-        return 4;
-    }
-    if 16 < size {
+    if is_wrong(byte(bytes, at)) {
         return 4;
     }
     0
@@ -50,32 +46,13 @@ fn judge_sizes(bytes: &[u8], n: usize) -> Judged {
     fault(0, past(4, n))
 }
 
-// n(n-1)/2
+// n(n-1)/2, as the sum of the numbers below `n`.
 fn most_tables(n: usize) -> usize {
-    if 16 < n {
-        return 0;
-    }
-    if n == 0 {
-        return 0;
-    }
-    pairs_of(n)
-}
-
-// The sum of the numbers below `n`.
-fn pairs_of(n: usize) -> usize {
     let mut sum = 0;
     for k in 0..n {
         sum = past(sum, k);
     }
     sum
-}
-
-// "option numbers out of range, that is a of 0, b of 0, or either above n"
-fn is_outside(option: usize, n: usize) -> bool {
-    if option == 0 {
-        return true;
-    }
-    n < option
 }
 
 // The pair at a place, after the pair at the place `before`, 0 for the first: "the order is 7, 19, 20".
@@ -85,19 +62,14 @@ fn judge_pair(bytes: &[u8], n: usize, at: usize, before: usize) -> u8 {
     }
     let a = byte(bytes, at) as usize;
     let b = byte(bytes, past(at, 1)) as usize;
-    if is_outside(a, n) {
-        return 7;
-    }
-    if is_outside(b, n) {
+    // "option numbers out of range, that is a of 0, b of 0, or either above n"
+    if (a == 0) | (b == 0) | (n < a) | (n < b) {
         return 7;
     }
     if b <= a {
         return 19;
     }
-    if before == 0 {
-        return 0;
-    }
-    if is_after(bytes, at, before) {
+    if (before == 0) | is_after(bytes, at, before) {
         return 0;
     }
     20
@@ -105,12 +77,7 @@ fn judge_pair(bytes: &[u8], n: usize, at: usize, before: usize) -> u8 {
 
 // The pair at `at` is after the pair at `before`: "by a and then by b, none twice".
 fn is_after(bytes: &[u8], at: usize, before: usize) -> bool {
-    let a = byte(bytes, at);
-    let old_a = byte(bytes, before);
-    if a != old_a {
-        return old_a < a;
-    }
-    byte(bytes, past(before, 1)) < byte(bytes, past(at, 1))
+    number(bytes, before) < number(bytes, at)
 }
 
 // A bit of a row at or above the size.
@@ -196,13 +163,10 @@ pub fn judge(bytes: &[u8]) -> Judged {
     if bytes.len() <= 3 {
         return fault(6, 3);
     }
-    let n = byte(bytes, 3) as usize;
-    if n == 0 {
+    if is_wrong(byte(bytes, 3)) {
         return fault(3, 3);
     }
-    if 16 < n {
-        return fault(3, 3);
-    }
+    let n = options(bytes);
     let sizes = judge_sizes(bytes, n);
     if sizes.number != 0 {
         return sizes;

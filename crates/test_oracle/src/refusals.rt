@@ -5,10 +5,7 @@ use crate::fields::row_at;
 use crate::fields::word_at;
 
 fn is_option(n: usize, number: usize) -> bool {
-    if number == 0 {
-        return false;
-    }
-    number <= n
+    (number != 0) & (number <= n)
 }
 
 // No value in the list of `i` has more than one allowed partner in the list of `j`.
@@ -28,10 +25,8 @@ fn has_two_partners<'a>(
     j: usize,
     a: usize,
 ) -> bool {
-    if !has(word_at(domains, i), a) {
-        return false;
-    }
-    1 < u16::count_ones(row_at(rows, i, j, a) & word_at(domains, j))
+    let partners = row_at(rows, i, j, a) & word_at(domains, j);
+    has(word_at(domains, i), a) & (1 < u16::count_ones(partners))
 }
 
 // What a step is to be refused with, options counted from 1; 0 where it is legal.

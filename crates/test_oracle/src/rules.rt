@@ -12,10 +12,7 @@ fn is_kept<'a>(
     j: usize,
     a: usize,
 ) -> bool {
-    if !has(word_at(domains, i), a) {
-        return false;
-    }
-    row_at(rows, i, j, a) & word_at(domains, j) != 0
+    has(word_at(domains, i), a) & (row_at(rows, i, j, a) & word_at(domains, j) != 0)
 }
 
 // Rule 1: "The list of i loses each value that has no allowed partner in the list of j."
@@ -29,13 +26,7 @@ pub fn trimmed<'a>(domains: &'a [u16; 16], rows: &'a [u16; 4096], i: usize, j: u
 
 // "each third option k stated with j"
 fn is_third(stated: &[u16; 16], i: usize, j: usize, k: usize) -> bool {
-    if k == i {
-        return false;
-    }
-    if k == j {
-        return false;
-    }
-    has(word_at(stated, j), k)
+    (k != i) & (k != j) & has(word_at(stated, j), k)
 }
 
 // "some b in the list of j goes with both"
@@ -60,10 +51,7 @@ fn was_allowed<'a>(
     a: usize,
     c: usize,
 ) -> bool {
-    if !has(word_at(stated, i), k) {
-        return true;
-    }
-    has(row_at(rows, i, k, a), c)
+    !has(word_at(stated, i), k) | has(row_at(rows, i, k, a), c)
 }
 
 // Rule 2 for the values `a` of `i` and `c` of `k`; `domains` has the new list of `i`.
@@ -77,16 +65,9 @@ fn is_composed<'a>(
     a: usize,
     c: usize,
 ) -> bool {
-    if !has(word_at(domains, i), a) {
-        return false;
-    }
-    if !has(word_at(domains, k), c) {
-        return false;
-    }
-    if !is_joined(domains, rows, i, j, k, a, c) {
-        return false;
-    }
-    was_allowed(stated, rows, i, k, a, c)
+    let are_listed = has(word_at(domains, i), a) & has(word_at(domains, k), c);
+    let is_joined = is_joined(domains, rows, i, j, k, a, c);
+    are_listed & is_joined & was_allowed(stated, rows, i, k, a, c)
 }
 
 // The same for the values `a` of `p` and `c` of `q`, where one of the two is `i` and the other a third option.
@@ -197,10 +178,7 @@ fn number(i: usize) -> u8 {
 }
 
 fn leader_after(leader: u8, i: usize, j: usize, x: usize) -> u8 {
-    if x == j {
-        return number(i);
-    }
-    if leader == number(j) {
+    if (x == j) | (leader == number(j)) {
         return number(i);
     }
     leader
