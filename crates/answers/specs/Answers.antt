@@ -58,7 +58,7 @@ unfoldable pub testAgrees : TestTold → Bool
 testAgrees (says b) = b
 testAgrees (refuses k) = false
 
--- The verdict: NONE, BUILT, OPEN, or refused with a number, and the build shown, of 16 values.
+-- The verdict: NONE, BUILT, OPEN, or refused with a number, and the solution shown, of 16 values.
 pub data VerdictTold : Type 0 where
   rules : network.Verdict → List ℕ → VerdictTold
   no-verdict : ℕ → List ℕ → VerdictTold
@@ -83,6 +83,6 @@ unfoldable pub verdictKind : VerdictTold → ℕ
 verdictKind (rules v build) = kindOf v
 verdictKind (no-verdict k build) = 0
 
-unfoldable pub verdictBuild : VerdictTold → List ℕ
-verdictBuild (rules v build) = build
-verdictBuild (no-verdict k build) = build
+unfoldable pub verdictSolution : VerdictTold → List ℕ
+verdictSolution (rules v build) = build
+verdictSolution (no-verdict k build) = build

@@ -38,7 +38,7 @@ pub enum Verdict {
 
 pub struct VerdictAnswer {
     pub verdict: Verdict,
-    // The build shown, zero past n; all zero unless the verdict is Built.
+    // The solution shown, zero past n; all zero unless the verdict is Built.
     pub solution: [u8; 16],
 }
 

@@ -1,4 +1,4 @@
--- Sixteen rows as a block: four words of four rows each, the first row in the lowest 16 digits.
+-- Sixteen rows as a block: four words of four rows each, the first row in the lowest 16 bits.
 use mathlib.Core.Bool.{Bool, true}
 use mathlib.Core.List.{List}
 use mathlib.Core.Path.{_≡_}
@@ -49,9 +49,9 @@ Turned x r = (a v : ℕ) → a < 16 → v < 16 → hasIn r a v ≡ hasIn x v a
 abbrev pub Same : Block → Block → Type 0
 Same x y = (a v : ℕ) → a < 16 → v < 16 → hasIn x a v ≡ hasIn y a v
 
--- ---- where a stage of the transposition finds a digit of its result
+-- ---- where a stage of the transposition finds a bit of its result
 
--- A digit of a block: its word and its number there.
+-- A bit of a block: its word and its number there.
 pub record Place : Type 0 where
   pub word : ℕ
   pub digit : ℕ
@@ -59,21 +59,21 @@ pub record Place : Type 0 where
 unfoldable pub digitAt : Block → Place → Bool
 digitAt x p = has (wordOf x (p .word)) (p .digit)
 
--- Digits of the mask m change places with those s higher, which the mask has not.
+-- Bits of the mask m change places with those s higher, which the mask has not.
 abbrev pub Apart : ℕ → ℕ → Type 0
 Apart s m = every 64 (λ (k : ℕ). not (and (has m k) (and (leb s k) (has m (k - s))))) ≡ true
 
 unfoldable pub swapFrom : ℕ → ℕ → ℕ → ℕ
 swapFrom s m k = if (has m k) (s + k) (if (and (leb s k) (has m (k - s))) (k - s) k)
 
--- The same between two words: digits of the mask of the upper one with those s higher of the lower one.
+-- The same between two words: bits of the mask of the upper one with those s higher of the lower one.
 unfoldable pub upperFrom : ℕ → ℕ → ℕ → ℕ → ℕ → Place
 upperFrom s m low w k = if (has m k) (record { word = low; digit = s + k }) (record { word = w; digit = k })
 
 unfoldable pub lowerFrom : ℕ → ℕ → ℕ → ℕ → ℕ → Place
 lowerFrom s m high w k = if (and (leb s k) (has m (k - s))) (record { word = high; digit = k - s }) (record { word = w; digit = k })
 
--- The digits of weight 8 of row and value change places: the words of rows 0 to 7 with those of rows 8 to 15.
+-- The bits of weight 8 of row and value change places: the words of rows 0 to 7 with those of rows 8 to 15.
 unfoldable pub eightsFrom : ℕ → ℕ → Place
 eightsFrom zero k = lowerFrom 8 0x00ff00ff00ff00ff 2 0 k
 eightsFrom (suc zero) k = lowerFrom 8 0x00ff00ff00ff00ff 3 1 k

@@ -1,4 +1,4 @@
-// Rows four at a time, in words of 64 digits: the first row in the lowest 16. Sixteen of them, the rows of a pair, are a block.
+// Rows four at a time, in words of 64 bits: the first row in the lowest 16. Sixteen of them, the rows of a pair, are a block.
 ghost use mathlib.Core.Bool.{true};
 ghost use mathlib.Core.Path.{_≡_};
 ghost use Prim.Native.Nat.{ℕ, _+_, _-_, _*_, _%_, _≤_, _<_};
@@ -22,7 +22,7 @@ fn wide(x: u16) -> u64
     x as u64
 }
 
-// The four rows from `at` on: one load. Each is a word of 16 digits.
+// The four rows from `at` on: one load. Each is a word of 16 bits.
 fn loaded(rows: &[u16; 4096], at: usize) -> u64
     requires { ⌜ at + 4 ≤ 4096 ⌝ }
     ensures { λ r. ⌜ FourOf (now (rows .entry)) at r × ((q : ℕ) → q < 4 → getD (now (rows .entry)) (at + q) 0 < 65536) ⌝ }
@@ -54,7 +54,7 @@ pub fn sixteen(rows: &[u16; 4096], at: usize) -> Block
     }
 }
 
-// The digits of the mask change places with those `shift` higher.
+// The bits of the mask change places with those `shift` higher.
 pub fn swapped(x: u64, shift: u64, mask: u64) -> u64
     requires { ⌜ (shift < 64) × Apart shift mask ⌝ }
     ensures { λ r. ⌜ ((k : ℕ) → k < 64 → has r k ≡ has x (swapFrom shift mask k)) ⌝ }
@@ -63,7 +63,7 @@ pub fn swapped(x: u64, shift: u64, mask: u64) -> u64
     x ^ t ^ (t << shift)
 }
 
-// Where the digits of the mask of `high` differ from those of `low` that stand `shift` higher.
+// Where the bits of the mask of `high` differ from those of `low` that stand `shift` higher.
 fn changes(low: u64, high: u64, shift: u64, mask: u64) -> u64
     requires { ⌜ shift < 64 ⌝ }
     ensures { λ r. ⌜ ((k : ℕ) → has r k ≡ and (if (has low (shift + k)) (not (has high k)) (has high k)) (has mask k)) ⌝ }
@@ -71,7 +71,7 @@ fn changes(low: u64, high: u64, shift: u64, mask: u64) -> u64
     ((low >> shift) ^ high) & mask
 }
 
-// `high` with those digits of `low` in the place of its own.
+// `high` with those bits of `low` in the place of its own.
 fn upper(low: u64, high: u64, shift: u64, mask: u64) -> u64
     requires { ⌜ shift < 64 ⌝ }
     ensures { λ r. ⌜ ((k : ℕ) → has r k ≡ if (has mask k) (has low (shift + k)) (has high k)) ⌝ }
@@ -79,7 +79,7 @@ fn upper(low: u64, high: u64, shift: u64, mask: u64) -> u64
     high ^ changes(low, high, shift, mask)
 }
 
-// `low` with those digits of `high` in the place of its own.
+// `low` with those bits of `high` in the place of its own.
 fn lower(low: u64, high: u64, shift: u64, mask: u64) -> u64
     requires { ⌜ shift < 64 ⌝ }
     ensures { λ r. ⌜ ((k : ℕ) → k < 64 → has r k ≡ if (and (leb shift k) (has mask (k - shift))) (has high (k - shift)) (has low k)) ⌝ }
@@ -87,7 +87,7 @@ fn lower(low: u64, high: u64, shift: u64, mask: u64) -> u64
     low ^ (changes(low, high, shift, mask) << shift)
 }
 
-// The digits of weight 8 of row and value change places.
+// The bits of weight 8 of row and value change places.
 fn eights(x: Block) -> Block
     ensures { λ r. ⌜ ((w k : ℕ) → k < 64 → has (wordOf r w) k ≡ digitAt x (eightsFrom w k)) ⌝ }
 {
@@ -118,7 +118,7 @@ fn last_two(x: u64) -> u64
     swapped(swapped(x, 30, 0xcccccccc), 15, 0x0000aaaa0000aaaa)
 }
 
-// Rows for values and values for rows: the four digits of the one change places with those of the other.
+// Rows for values and values for rows: the four bits of the one change places with those of the other.
 pub fn transposed(x: Block) -> Block
     ensures { λ r. ⌜ Turned x r ⌝ }
 {
@@ -138,7 +138,7 @@ pub fn same(x: Block, y: Block) -> bool
     (x.a == y.a) & (x.b == y.b) & (x.c == y.c) & (x.d == y.d)
 }
 
-// The lowest 16 digits.
+// The lowest 16 bits.
 fn narrow(x: u64) -> u16
     ensures { λ r. ⌜ r ≡ x % 65536 ⌝ }
 {
@@ -167,7 +167,7 @@ pub fn put_sixteen(rows: &mut [u16; 4096], at: usize, x: Block)
     put_four(rows, at + 12, x.d);
 }
 
-// A word of 16 digits four times.
+// A word of 16 bits four times.
 pub fn repeated(x: u16) -> u64
     ensures { λ r. ⌜ ((q v : ℕ) → q < 4 → v < 16 → has r (16 * q + v) ≡ has x v) ⌝ }
 {
@@ -175,7 +175,7 @@ pub fn repeated(x: u16) -> u64
     y | (y << 16) | (y << 32) | (y << 48)
 }
 
-// The rows of `y` joined to those of the four rows of `reached` whose row of `x` has value 0: the lowest digits of the four rows, side by side, times a
+// The rows of `y` joined to those of the four rows of `reached` whose row of `x` has value 0: the lowest bits of the four rows, side by side, times a
 // full row.
 fn joined_four(x: u64, y: u64, reached: u64) -> u64
     ensures { λ r. ⌜ ((q v : ℕ) → q < 4 → v < 16 → has r (16 * q + v) ≡ or (has reached (16 * q + v)) (and (has x (16 * q)) (has y (16 * q + v)))) ⌝ }
@@ -196,7 +196,7 @@ pub fn joined(x: Block, y: u16, reached: Block) -> Block
     }
 }
 
-// Each digit one lower, so that the next value of each row is its value 0.
+// Each bit one lower, so that the next value of each row is its value 0.
 pub fn halved(x: Block) -> Block
     ensures { λ r. ⌜ ((w k : ℕ) → has (wordOf r w) k ≡ has (wordOf x w) (k + 1)) ⌝ }
 {

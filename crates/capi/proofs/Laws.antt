@@ -5,7 +5,7 @@ use mathlib.Core.Path.{_≡_, refl, sym, ap, _∙_}
 use Prim.Native.Nat.{ℕ}
 use Rattle.answers.specs.declared.Verdict.{Verdict}
 use Rattle.answers.specs.declared.Verdict.the-variants as verdict
-use Rattle.answers.specs.Answers.{outcomeNumber, WriteTold, TestTold, testNumber, testAgrees, VerdictTold, verdictTold, verdictNumber, verdictKind, verdictBuild}
+use Rattle.answers.specs.Answers.{outcomeNumber, WriteTold, TestTold, testNumber, testAgrees, VerdictTold, verdictTold, verdictNumber, verdictKind, verdictSolution}
 use Rattle.state.specs.declared.reduction.Worked.{Worked}
 use Rattle.state.specs.View.{stateOf}
 use Rattle.state.specs.Answers.{ReadTold, Told}
@@ -54,8 +54,8 @@ pub tested-out : {r t : TestTold} {number : ℕ} {agrees : Bool} → r ≡ t →
 unfolding testedOut
 tested-out e p q = (λ i. record { number = p i; agrees = q i }) ∙ ap testedOut e
 
-shown : (v : Verdict) (build : List ℕ) → build ≡ verdictBuild (verdictTold v build)
-unfolding verdictTold verdictBuild
+shown : (v : Verdict) (build : List ℕ) → build ≡ verdictSolution (verdictTold v build)
+unfolding verdictTold verdictSolution
 shown verdict.None build = refl
 shown verdict.Built build = refl
 shown verdict.Open build = refl

@@ -1,7 +1,7 @@
 -- The answers of the library's definitions as the structs that C and Rust are handed. Number 0 stands for "not refused".
 use mathlib.Core.List.{List}
 use Prim.Native.Nat.{ℕ}
-use Rattle.answers.specs.Answers.{WriteTold, TestTold, testNumber, testAgrees, VerdictTold, verdictNumber, verdictKind, verdictBuild}
+use Rattle.answers.specs.Answers.{WriteTold, TestTold, testNumber, testAgrees, VerdictTold, verdictNumber, verdictKind, verdictSolution}
 use Rattle.state.specs.View.{stateOf}
 use Rattle.state.specs.Answers.{ReadTold, Told}
 use Rattle.state.specs.Cut.{CutTold}
@@ -41,7 +41,7 @@ unfoldable pub testedOut : TestTold → SheetTested
 testedOut t = record { number = testNumber t; agrees = testAgrees t }
 
 unfoldable pub verdictOut : VerdictTold → SheetVerdict
-verdictOut t = record { number = verdictNumber t; kind = verdictKind t; solution = verdictBuild t }
+verdictOut t = record { number = verdictNumber t; kind = verdictKind t; solution = verdictSolution t }
 
 unfoldable pub cutOut : CutTold → SheetCut
 cutOut t =
@@ -50,7 +50,7 @@ cutOut t =
       place = t .place;
       steps = t .steps;
       kind = verdictKind (t .verdict);
-      solution = verdictBuild (t .verdict);
+      solution = verdictSolution (t .verdict);
       n = t .state .n;
       sizes = t .state .sizes;
       domains = t .state .domains;

@@ -18,7 +18,7 @@ bytesA = 1 ∷ 0 ∷ 19 ∷ 3 ∷ 2 ∷ 3 ∷ 2 ∷ 2 ∷ 1 ∷ 2 ∷ 0 ∷ 1 �
 unfoldable pub bytesLast : List ℕ
 bytesLast = 1 ∷ 0 ∷ 17 ∷ 3 ∷ 2 ∷ 3 ∷ 2 ∷ 2 ∷ 1 ∷ 2 ∷ 0 ∷ 1 ∷ 0 ∷ 4 ∷ 1 ∷ 3 ∷ 0 ∷ 2 ∷ 0 ∷ 1 ∷ []
 
--- After 2 steps options 2 and 3 follow 1, each list is still full, and 1 is stated with both.
+-- After 2 steps variables 2 and 3 follow 1, each domain is still full, and 1 is stated with both.
 unfoldable pub stateLast : State
 stateLast =
     record {
@@ -33,7 +33,7 @@ stateLast =
 unfoldable pub reducedA : Told
 reducedA = record { number = 0; state = stateLast; steps = 2 }
 
--- The whole cut: option 1 takes value 0, its lowest, and options 2 and 3 their partners of it.
+-- The whole cut: variable 1 takes value 0, its lowest, and variables 2 and 3 their partners of it.
 unfoldable pub cutA : CutTold
 cutA = record { number = 0; place = 0; state = stateLast; steps = 2; verdict = rules BUILT (0 ∷ 0 ∷ 1 ∷ replicate 13 0) }
 

@@ -51,7 +51,7 @@ fields k test count bytes at = many (λ (s x : ℕ). s) (λ (s : ℕ). field k t
 unfoldable pub pairOf : Table → ℕ
 pairOf t = t .first * 256 + t .second
 
--- The size of an option, counted from 1.
+-- The size of a variable, counted from 1.
 unfoldable pub sizeOf : List ℕ → ℕ → ℕ
 sizeOf sizes x = getD sizes (x - 1) 0
 

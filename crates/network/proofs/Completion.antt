@@ -13,7 +13,7 @@ use Rattle.network.specs.Network.{Network, free, partner, inDomains, pai
 use Rattle.network.specs.Sound.{Sound}
 use Rattle.network.specs.Reduction.{freeCount}
 use Rattle.network.specs.Completion.{follow, completed, choiceInDomains, choicePairsAllow, allowedChoice, completeRefusal, NONE, BUILT}
-use Rattle.network.specs.Completion.{OPEN, lowest, exhausted, decided, verdict, lowestBuild, shown}
+use Rattle.network.specs.Completion.{OPEN, lowest, exhausted, decided, verdict, lowestSolution, shown}
 use Rattle.network.proofs.Sound.{led-not-free, led-pred, free-or-led, leader-n, leader-is-free, leader-stated, partner-some, partner-only}
 
 -- Solutions and allowed choices, to and from facts about every variable and every pair.
@@ -212,7 +212,7 @@ module _ (N : Network) where
   verdict-open v = verdict-cases (λ h e. (cc, cc)) (λ h k e. (cc, cc)) (λ h k e. (h, k))
 
   -- The build that is shown, and where it is zero.
-  pub shown-built : verdict N ≡ BUILT → (i : ℕ) → i < N .n → shown N i ≡ lowestBuild N i
+  pub shown-built : verdict N ≡ BUILT → (i : ℕ) → i < N .n → shown N i ≡ lowestSolution N i
   unfolding shown
   shown-built v i l = let b = verdict-built v in if-true _ _ _ (and-i _ _ (not-i _ (b .0)) (and-i _ _ (b .1) (lt-ltb i (N .n) l)))
 
@@ -265,7 +265,7 @@ module _ (N : Network) where
   -- With BUILT each free variable shows the lowest value of its domain.
   pub shown-lowest : verdict N ≡ BUILT → (i : ℕ) → i < N .n → free N i ≡ true
       → ((b : ℕ) → b < shown N i → N .domain i b ≡ false) × (N .domain i (shown N i) ≡ true)
-  unfolding lowestBuild
+  unfolding lowestSolution
   shown-lowest v i l t =
       rw (shown-built v i l ∙ completed-keeps N (lowest N) i t)
       (lowest-below i, lowest-domain (verdict-built v .0) i l t)
@@ -293,17 +293,17 @@ module _ (N : Network) (S : Sound N) where
   one-live-decided e = decided-apart N .1 λ i j li lj ti tj.
       rw (count-two (N .n) (free N) (omega arith) i j li lj ti tj) (S .no-self j)
 
-  decided-solves : exhausted N ≡ false → decided N ≡ true → solves N (lowestBuild N) ≡ true
-  unfolding lowestBuild
+  decided-solves : exhausted N ≡ false → decided N ≡ true → solves N (lowestSolution N) ≡ true
+  unfolding lowestSolution
   decided-solves h k = completed-solves N S (lowest N) (lowest-allowed N h k)
 
   -- "wherever no two live options are stated together": "it is NONE exactly when the sheet has no build,
   pub decided-none : decided N ≡ true → ((f : ℕ → ℕ) → solves N f ≡ false) → verdict N ≡ NONE
-  decided-none k none = by-cases (exhausted N) (none-verdict N) (λ h. clash (decided-solves h k) (none (lowestBuild N)))
+  decided-none k none = by-cases (exhausted N) (none-verdict N) (λ h. clash (decided-solves h k) (none (lowestSolution N)))
 
   -- and otherwise BUILT, and the first n bytes shown are a build of the sheet"
   pub decided-built : decided N ≡ true → (verdict N ≡ NONE → ⊥) → (verdict N ≡ BUILT) × (solves N (shown N) ≡ true)
   decided-built k not-none =
       let h = not-true→false (exhausted N) (λ t. not-none (none-verdict N t)) in
       let v = built-verdict N h k in
-      (v, solves-cong N (shown N) (lowestBuild N) (shown-built N v) ∙ decided-solves h k)
+      (v, solves-cong N (shown N) (lowestSolution N) (shown-built N v) ∙ decided-solves h k)

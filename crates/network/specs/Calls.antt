@@ -8,7 +8,7 @@ use Rattle.network.specs.Step.{refusal, eliminate}
 use Rattle.network.specs.Reduction.{reduce}
 
 pub data Call : Type 0 where
-  follow-step : ℕ → ℕ → Call  -- leader and follower, option numbers counted from 1
+  follow-step : ℕ → ℕ → Call  -- leader and follower, variables counted from 1
   full-reduction : Call
 
 -- What a call hands back: "a refused call hands back what it was given".

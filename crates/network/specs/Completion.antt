@@ -46,7 +46,7 @@ unfoldable pub exhausted : Network → Bool
 exhausted N = some (N .n) (λ (i : ℕ). and (free N i) (not (some (N .size i) (N .domain i))))
 
 -- "no two live options are stated together" (document 02). Stated is the mark, whatever the table allows. In a sound network where this holds and no free
--- domain is empty, the lowest values are a build.
+-- domain is empty, the lowest values, completed, are a solution.
 unfoldable pub decided : Network → Bool
 decided N =
     every (N .n) (λ (i : ℕ).
@@ -59,9 +59,9 @@ unfoldable pub verdict : Network → Verdict
 verdict N = if (exhausted N) NONE (if (decided N) BUILT OPEN)
 
 -- "Each live option then takes its lowest value."
-unfoldable pub lowestBuild : Network → ℕ → ℕ
-lowestBuild N = completed N (lowest N)
+unfoldable pub lowestSolution : Network → ℕ → ℕ
+lowestSolution N = completed N (lowest N)
 
 -- "A build it returns is zero past n, and all zero with NONE or OPEN."
 unfoldable pub shown : Network → ℕ → ℕ
-shown N i = if (and (not (exhausted N)) (and (decided N) (ltb i (N .n)))) (lowestBuild N i) 0
+shown N i = if (and (not (exhausted N)) (and (decided N) (ltb i (N .n)))) (lowestSolution N i) 0

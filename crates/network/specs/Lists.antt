@@ -1,4 +1,4 @@
--- What soundness leaves free: the lists of live options, on every sound network and not only on those that calls hand back.
+-- What soundness does not fix: the domains of free variables, on every sound network and not only on those that calls hand back.
 use mathlib.Core.Bool.{Bool, true, false}
 use mathlib.Core.List.{[], _∷_}
 use mathlib.Core.Path.{_≡_}
@@ -22,26 +22,26 @@ narrowed N i p =
       allows = N .allows;
     }
 
--- Sheet I, its one list empty.
+-- Sheet I, its one domain empty.
 unfoldable pub emptyList : Network
 emptyList = narrowed (networkOf (record { sizes = 1 ∷ []; tables = [] })) 0 (λ (a : ℕ). false)
 
--- Sheet H, the list of its first option short of value 1: nobody follows.
+-- Sheet H, the domain of its first variable short of value 1: nobody follows.
 unfoldable pub shortList : Network
 shortList = narrowed (networkOf (record { sizes = 2 ∷ 2 ∷ []; tables = [] })) 0 (λ (a : ℕ). eqb a 0)
 
--- Two options of one value, and a table between them that allows nothing.
+-- Two variables of one value, and a table between them that allows nothing.
 unfoldable pub blankTable : Network
 blankTable = networkOf (record { sizes = 1 ∷ 1 ∷ []; tables = record { first = 1; second = 2; rows = 0 ∷ [] } ∷ [] })
 
--- The list of i is empty.
+-- The domain of i is empty.
 abbrev pub Empty : Network → ℕ → Type 0
 Empty N i = (a : ℕ) → N .domain i a ≡ false
 
 pub record ListsFree : Type 0 where
-  -- A live option's list may lose any values, whatever the others are.
+  -- A free variable's domain may lose any values, whatever the others are.
   pub any-part : (N : Network) → Sound N → (i : ℕ) → free N i ≡ true → (p : ℕ → Bool) → Sound (narrowed N i p)
-  -- So a list may be short where nobody follows,
+  -- So a domain may be short where nobody follows,
   pub short-sound : Sound shortList
   pub short-list : shortList .domain 0 1 ≡ false
   pub nobody-follows : (i : ℕ) → shortList .leader i ≡ 0

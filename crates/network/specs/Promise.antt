@@ -40,7 +40,7 @@ pub record Promised (N M : Network) (p : (ℕ → ℕ) → Bool) : Type 0 where
   -- and otherwise BUILT, and the first n bytes shown are a build of the sheet"
   pub built : decided M ≡ true → (verdict M ≡ NONE → ⊥) → (verdict M ≡ BUILT) × (and (solves N (shown M)) (p (shown M)) ≡ true)
 
--- One live option is such a case, and so document 01's own sentence still holds: "With exactly one live option it is NONE exactly when the sheet has no
+-- One free variable is such a case, and so document 01's own sentence still holds: "With exactly one live option it is NONE exactly when the sheet has no
 -- build, and otherwise BUILT, and the first n bytes shown are a build of the sheet".
 pub record OneLive (N M : Network) (p : (ℕ → ℕ) → Bool) : Type 0 where
   pub none-exactly : freeCount M ≡ 1 → (verdict M ≡ NONE) ↔ ((f : ℕ → ℕ) → and (solves N f) (p f) ≡ false)

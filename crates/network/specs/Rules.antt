@@ -11,7 +11,7 @@ pub record Rules (N : Network) (i j : ℕ) (M : Network) : Type 0 where
   -- 1. "The list of i loses each value that has no allowed partner in the list of j."
   pub rule-1 : (a : ℕ)
       → (M .domain i a ≡ true) ↔ ((N .domain i a ≡ true) × ((b : ℕ) × (N .domain j b ≡ true) × (N .allows i j a b ≡ true)))
-  -- No other list changes.
+  -- No other domain changes.
   pub rule-1-rest : (x a : ℕ) → (x ≡ i → ⊥) → M .domain x a ≡ N .domain x a
   -- 2. "For each third option k stated with j, the pair i, k becomes stated. It allows (a, c) exactly when a is in the new list of i,
   -- c is in the list of k, some b in the list of j goes with both, and, if i, k was stated before, it allowed (a, c) before."
@@ -33,7 +33,7 @@ pub record Rules (N : Network) (i j : ℕ) (M : Network) : Type 0 where
   -- 3. "Followers of j get i as leader, and so does j."
   pub rule-3-followers : (x : ℕ) → N .leader x ≡ suc j → M .leader x ≡ suc i
   pub rule-3 : M .leader j ≡ suc i
-  -- No other option gets a leader.
+  -- No other variable gets a leader.
   pub rule-3-rest : (x : ℕ) → (x ≡ j → ⊥) → (N .leader x ≡ suc j → ⊥) → M .leader x ≡ N .leader x
   -- Nothing else changes.
   pub same-n : M .n ≡ N .n

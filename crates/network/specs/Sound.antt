@@ -44,7 +44,7 @@ module _ (m w k : ℕ) (N : Network) where
   unfoldable pub sizesSound : Bool
   sizesSound = every m (λ (i : ℕ). if (ltb i (N .n)) (and (leb 1 (N .size i)) (leb (N .size i) k)) (eqb (N .size i) 0))
 
-  -- "each list lies within its size"; past n the size is 0, so the list is empty
+  -- "each list lies within its size"; past n the size is 0, so the domain is empty
   unfoldable pub domainsSound : Bool
   domainsSound = every m (λ (i : ℕ). every w (λ (a : ℕ). implies (N .domain i a) (ltb a (N .size i))))
 

@@ -6,11 +6,11 @@ use Rattle.bounded.specs.Bool.{and, or, implies, not, if}
 use Rattle.bounded.specs.Fold.{some}
 use Rattle.network.specs.Network.{Network, free, partner, functional}
 
--- An option number, counted from 1, that is "0 or above n".
+-- A variable's number, counted from 1, that is "0 or above n".
 unfoldable pub outside : Network → ℕ → Bool
 outside N x = or (eqb x 0) (ltb (N .n) x)
 
--- The number that refuses the step, options counted from 1, or 0 for a legal step. Tested upward:
+-- The number that refuses the step, variables counted from 1, or 0 for a legal step. Tested upward:
 -- 10 "option number 0 or above n", 11 "the two options equal, or one not live", 12 "pair not stated", 13 "not functional from leader to follower".
 unfoldable pub refusal : Network → ℕ → ℕ → ℕ
 refusal N l f =

@@ -26,11 +26,11 @@ readOf (Refused c at) = bad c at
 unfoldable pub rangeTest : ℕ → ℕ → Cause → ℕ → Test
 rangeTest least most c v = if (or (ltb v least) (ltb most v)) (fault c) fine
 
--- Two bytes as they stand, the first in the lowest digits.
+-- Two bytes as they stand, the first in the lowest bits.
 unfoldable pub twoAt : List ℕ → ℕ → ℕ
 twoAt bytes at = getD bytes (at + 1) 0 * 256 + getD bytes at 0
 
--- The word r has the four numbers from a place on, the first in its lowest 16 digits.
+-- The word r has the four numbers from a place on, the first in its lowest 16 bits.
 pub record FourAt (bytes : List ℕ) (at r : ℕ) : Type 0 where
   pub words : (q : ℕ) → q < 4 → numberAt 2 bytes (at + 2 * q) < 2 ^ 16
   pub digits : (q v : ℕ) → q < 4 → v < 16 → has r (16 * q + v) ≡ has (numberAt 2 bytes (at + 2 * q)) v

@@ -1,11 +1,11 @@
-// Four numbers of two bytes each as one word, the first in its lowest 16 digits.
+// Four numbers of two bytes each as one word, the first in its lowest 16 bits.
 ghost use mathlib.Core.Path.{_≡_};
 ghost use Prim.Native.Nat.{ℕ, _+_, _*_, _≤_, _<_};
 ghost use lib.ListN.{length};
 ghost use Rattle.words.specs.Word.{has};
 ghost use Rattle.read_field.specs.Fields.{twoAt, FourAt};
 
-// Two bytes as they stand, the first in the lowest digits.
+// Two bytes as they stand, the first in the lowest bits.
 fn two(bytes: &[u8], at: usize) -> u64
     requires { ⌜ at + 2 ≤ length (now bytes) ⌝ }
     ensures { λ r. ⌜ (r ≡ twoAt (now (bytes .entry)) at) × (r < 65536) ⌝ }

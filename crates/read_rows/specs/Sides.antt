@@ -21,7 +21,7 @@ use Rattle.format.specs.Parse.{numberAt, fields}
 unfoldable pub rowIn : List ℕ → ℕ → ℕ → ℕ
 rowIn bytes from a = numberAt 2 bytes (from + 2 * a)
 
--- The word r has the rows of the four values from `first` on that are below count, the first in its lowest 16 digits.
+-- The word r has the rows of the four values from `first` on that are below count, the first in its lowest 16 bits.
 pub record WordIn (bytes : List ℕ) (from count first r : ℕ) : Type 0 where
   pub words : (q : ℕ) → q < 4 → rowIn bytes from (first + q) < 2 ^ 16
   pub digits : (q v : ℕ) → q < 4 → v < 16 → has r (16 * q + v) ≡ and (ltb (first + q) count) (has (rowIn bytes from (first + q)) v)

@@ -5,7 +5,7 @@ use Prim.Native.Nat.{ℕ, _^_, _<_}
 use lib.ListN.{length, getD}
 use Rattle.rows.specs.Rows.{rowAt, columnAt}
 
--- Every row is a word of w digits.
+-- Every row is a word of w bits.
 abbrev pub Words : ℕ → List ℕ → Type 0
 Words w rows = (k : ℕ) → getD rows k 0 < 2 ^ w
 

@@ -1,4 +1,4 @@
--- Rows that have no values but those that pass a test, and the words of 64 digits by which four rows at a time are searched for the others.
+-- Rows that have no values but those that pass a test, and the words of 64 bits by which four rows at a time are searched for the others.
 use mathlib.Core.Bool.{Bool}
 use mathlib.Core.List.{List}
 use mathlib.Core.Path.{_≡_}
@@ -12,6 +12,6 @@ use Rattle.rows.specs.Rows.{rowAt}
 unfoldable pub rowsIn : ℕ → List ℕ → ℕ → ℕ → (ℕ → Bool) → Bool
 rowsIn w rows i j p = every w (λ (a : ℕ). every w (λ (v : ℕ). implies (has (rowAt w rows i j a) v) (p v)))
 
--- The word x has, in each of its four runs of 16 digits, the values that fail p.
+-- The word x has, in each of its four runs of 16 bits, the values that fail p.
 pub record Bars (p : ℕ → Bool) (x : ℕ) : Type 0 where
   pub bar : (q v : ℕ) → q < 4 → v < 16 → has x (16 * q + v) ≡ not (p v)

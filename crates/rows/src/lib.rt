@@ -63,7 +63,7 @@ pub fn mirrored(rows: &[u16; 4096], i: usize, j: usize) -> bool
     same(transposed(block_at(rows, i, j)), block_at(rows, j, i))
 }
 
-// Each value of the list `di` of `i` has from `least` to `most` partners in the list `dj` of `j`: the ones of row AND list decide. All 16 rows are
+// Each value of the domain `di` of `i` has from `least` to `most` partners in the domain `dj` of `j`: the ones of row AND domain decide. All 16 rows are
 // counted, in vectors, and what a value outside `di` has is passed over.
 pub fn partners_within(
     rows: &[u16; 4096],

@@ -51,7 +51,7 @@ unfoldable pub networkRead : Parse Sheet → Network
 networkRead (got s next) = networkOf s
 networkRead (bad c at) = view zeroState
 
--- The kind of a verdict is k, whatever build is shown.
+-- The kind of a verdict is k, whatever solution is shown.
 unfoldable pub ruledAs : Verdict → VerdictTold → Type 0
 ruledAs k v = (build : List ℕ) × (v ≡ rules k build)
 
@@ -74,9 +74,9 @@ module _ (bytes : List ℕ) (cs : List Call) where
       countTuples (options bytes) (λ (i : ℕ). optionSize bytes (i + 1))
       (λ (f : ℕ → ℕ). and (isBuild bytes f) (keepsTo (addedBy (readSheet bytes .state) cs) f))
 
-  -- Two buffers have the same values at the live options.
-  abbrev pub SameLive : List ℕ → List ℕ → Type 0
-  SameLive b c = (i : ℕ) → i < options bytes → free lastNetwork i ≡ true → getD b i 0 ≡ getD c i 0
+  -- Two buffers have the same values at the free variables.
+  abbrev pub SameFree : List ℕ → List ℕ → Type 0
+  SameFree b c = (i : ℕ) → i < options bytes → free lastNetwork i ≡ true → getD b i 0 ≡ getD c i 0
 
   -- The verdict is BUILT, "and the first n bytes shown are a build of the sheet".
   abbrev pub ShowsBuild : Type 0
@@ -87,17 +87,17 @@ module _ (bytes : List ℕ) (cs : List Call) where
     pub packed : lastState ≡ pack lastNetwork
     -- "the tester says yes to a buffer exactly when its bytes are a build of the sheet"
     pub tester : (b : List ℕ) → (tested lastState b ≡ says true) ↔ (buildOfSheet b ≡ true)
-    -- "From every allowed choice the completer gives a build of the sheet": for n bytes that are an allowed choice at the live options,
-    -- whatever the others hold, it does not refuse, keeps the bytes of live options,
+    -- "From every allowed choice the completer gives a build of the sheet": for n bytes that are an allowed choice at the free variables,
+    -- whatever the others hold, it does not refuse, keeps the bytes of free variables,
     pub completer-accepts : (b : List ℕ) → length b ≡ options bytes → allowedChoice lastNetwork (valuesOf b) ≡ true → completeNumber lastState b ≡ 0
     pub completer-keeps : (b : List ℕ) → length b ≡ options bytes → allowedChoice lastNetwork (valuesOf b) ≡ true
-        → SameLive (completedBuffer lastState b) b
+        → SameFree (completedBuffer lastState b) b
     -- and leaves a build of the sheet,
     pub completer-builds : (b : List ℕ) → length b ≡ options bytes → allowedChoice lastNetwork (valuesOf b) ≡ true
         → buildOfSheet (completedBuffer lastState b) ≡ true
     -- "and no other build of the sheet has these values at the live options".
     pub completer-only : (b c : List ℕ) → length b ≡ options bytes → allowedChoice lastNetwork (valuesOf b) ≡ true
-        → buildOfSheet c ≡ true → SameLive c b → c ≡ completedBuffer lastState b
+        → buildOfSheet c ≡ true → SameFree c b → c ≡ completedBuffer lastState b
     -- "the number of allowed choices equals the number of builds of the sheet"
     pub counted : choiceCount lastNetwork ≡ buildCount
     -- "the verdict is NONE only when the sheet has no build."
@@ -108,7 +108,7 @@ module _ (bytes : List ℕ) (cs : List Call) where
     -- and otherwise BUILT, and the first n bytes shown are a build of the sheet."
     pub built : decided lastNetwork ≡ true → (ruledAs NONE (verdictOf lastState) → ⊥) → ShowsBuild
 
-  -- One live option is such a case, and so document 01's own sentence still holds (`one-live`): "With exactly one live option it is NONE exactly when the
+  -- One free variable is such a case, and so document 01's own sentence still holds (`one-live`): "With exactly one live option it is NONE exactly when the
   -- sheet has no build, and otherwise BUILT, and the first n bytes shown are a build of the sheet."
   pub record OneLive : Type 0 where
     pub none-exactly : freeCount lastNetwork ≡ 1 → ruledAs NONE (verdictOf lastState) ↔ ((b : List ℕ) → buildOfSheet b ≡ false)

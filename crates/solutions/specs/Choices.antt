@@ -1,5 +1,5 @@
--- What the tester, the completer and the verdict test and write, on lent arrays. Where `leaders` is all zero every option is judged as a live one:
--- so the tester asks of all what the completer asks of the live options.
+-- What the tester, the completer and the verdict test and write, on lent arrays. Where `leaders` is all zero every variable is judged as a free one:
+-- so the tester asks of all what the completer asks of the free variables.
 use mathlib.Core.Bool.{Bool}
 use mathlib.Core.List.{List}
 use mathlib.Core.Path.{_≡_}
@@ -15,7 +15,7 @@ use Rattle.rows.specs.Rows.{rowAt, allowsOf}
 unfoldable pub valuesBelow : ℕ → List ℕ → List ℕ → Bool
 valuesBelow n sizes values = every n (λ (i : ℕ). ltb (getD values i 0) (getD sizes i 0))
 
--- "each value is in its option's list", of live options
+-- "each value is in its option's list", of free variables
 unfoldable pub valueKept : ℕ → ℕ → ℕ → Bool
 valueKept leader domain value = implies (eqb leader 0) (has domain value)
 
@@ -37,14 +37,14 @@ pairsKept n leaders stated rows values = every n (λ (i : ℕ). sideKept n leade
 unfoldable pub partnerOf : List ℕ → ℕ → ℕ → ℕ → ℕ → ℕ
 partnerOf rows l i domain a = first 16 (λ (b : ℕ). and (has domain b) (has (rowAt 16 rows l i a) b))
 
--- A live option keeps its value, and a follower gets the partner of its leader's.
+-- A free variable keeps its value, and a follower gets the partner of its leader's.
 unfoldable pub valueCompleted : List ℕ → List ℕ → List ℕ → List ℕ → ℕ → ℕ
 valueCompleted domains leaders rows values i =
     if (eqb (getD leaders i 0) 0)
     (getD values i 0)
     (partnerOf rows (pred (getD leaders i 0)) i (getD domains i 0) (getD values (pred (getD leaders i 0)) 0))
 
--- What the completer goes by: each leader is a live option that has a value.
+-- What the completer goes by: each leader is a free variable that has a value.
 pub record Led (n : ℕ) (leaders values : List ℕ) : Type 0 where
   pub led-n : n ≤ 16
   pub led-length : n ≤ length values
@@ -58,7 +58,7 @@ pub record Completed (n : ℕ) (domains leaders rows before after : List ℕ) : 
   pub value-completed : (i : ℕ) → i < n → getD after i 0 ≡ valueCompleted domains leaders rows before i
   pub value-past : (i : ℕ) → n ≤ i → getD after i 0 ≡ getD before i 0
 
--- A live option has a value left.
+-- A free variable has a value left.
 unfoldable pub domainOpen : ℕ → ℕ → Bool
 domainOpen leader domain = implies (eqb leader 0) (not (eqb domain 0))
 
@@ -84,7 +84,7 @@ freeApart n leaders stated =
     every n (λ (j : ℕ).
     implies (and (eqb (getD leaders i 0) 0) (eqb (getD leaders j 0) 0)) (not (has (getD stated i 0) j))))
 
--- A live option with a full list: what the writer asks of each, "a follower exists or a list is not full".
+-- A free variable with a full domain: what the writer asks of each, "a follower exists or a list is not full".
 unfoldable pub freshValue : ℕ → ℕ → ℕ → Bool
 freshValue leader domain size = and (eqb leader 0) (eqb domain (word 16 (λ (v : ℕ). ltb v size)))
 

@@ -1,2 +1,2 @@
--- Builds against the lent arrays of a state.
+-- Solutions against the lent arrays of a state.
 pub mod Choices

@@ -1,4 +1,4 @@
-// Values of a build against the lent arrays of a state: tests, completion and the lowest build.
+// Values against the lent arrays of a state: tests, completion and the lowest solution.
 ghost use mathlib.Core.Path.{_≡_};
 ghost use mathlib.Core.Bool.{true};
 ghost use Prim.Native.Nat.{ℕ, suc, _<_, _≤_};
@@ -30,7 +30,7 @@ fn has_value(members: u16, value: u8) -> bool
     words::member(members, words::wide(value))
 }
 
-// The value of a live option is in its list.
+// The value of a free variable is in its domain.
 fn value_kept(leader: u8, domain: u16, value: u8) -> bool
     ensures { λ r. ⌜ r ≡ valueKept leader domain value ⌝ }
 {
@@ -56,7 +56,7 @@ pub fn values_kept<'a>(
     all
 }
 
-// A stated pair of two live options allows its two values.
+// A stated pair of two free variables allows its two values.
 fn pair_kept(
     leader: u8,
     other: u8,
@@ -129,7 +129,7 @@ pub fn pairs_kept<'a>(
     all
 }
 
-// The lowest value of a list: its trailing zeros.
+// The lowest value of a domain: its trailing zeros.
 fn lowest_value(domain: u16) -> u8
     ensures { λ r. ⌜ r ≡ first 16 (has domain) ⌝ }
 {
@@ -144,7 +144,7 @@ fn partner_of(rows: &[u16; 4096], l: usize, i: usize, domain: u16, a: usize) -> 
     lowest_value(words::both(domain, rows::row(rows, l, i, a)))
 }
 
-// A live option keeps its value; a follower gets the partner of its leader's.
+// A free variable keeps its value; a follower gets the partner of its leader's.
 fn value_completed(
     domains: &[u16; 16],
     leaders: &[u8; 16],
@@ -163,7 +163,7 @@ fn value_completed(
     partner_of(rows, l, i, domains[i], words::wide(values[l]))
 }
 
-// Writes the values of followers. A leader is live, so its value is that of the entry, whichever of the two is written first.
+// Writes the values of followers. A leader is free, so its value is that of the entry, whichever of the two is written first.
 pub fn complete_values<'a>(
     n: usize,
     domains: &'a [u16; 16],
@@ -180,7 +180,7 @@ pub fn complete_values<'a>(
     }
 }
 
-// A live option has a value left.
+// A free variable has a value left.
 fn domain_open(leader: u8, domain: u16) -> bool
     ensures { λ r. ⌜ r ≡ domainOpen leader domain ⌝ }
 {
@@ -236,7 +236,7 @@ pub fn free_apart<'a>(n: usize, leaders: &'a [u8; 16], stated: &'a [u16; 16]) ->
     all
 }
 
-// The lowest value of each list.
+// The lowest value of each domain.
 fn lowest_values(n: usize, domains: &[u16; 16]) -> [u8; 16]
     requires { ⌜ n ≤ 16 ⌝ }
     ensures { λ r. ⌜ r ≡ tabulate 16 (lowestOf n (now (domains .entry))) ⌝ }
@@ -248,8 +248,8 @@ fn lowest_values(n: usize, domains: &[u16; 16]) -> [u8; 16]
     values
 }
 
-// The build in which live options take their lowest values.
-pub fn lowest_build<'a>(
+// The solution in which free variables take their lowest values.
+pub fn lowest_solution<'a>(
     n: usize,
     domains: &'a [u16; 16],
     leaders: &'a [u8; 16],
@@ -263,7 +263,7 @@ pub fn lowest_build<'a>(
     values
 }
 
-// A live option with a full list.
+// A free variable with a full domain.
 fn fresh_value(leader: u8, domain: u16, size: u8) -> bool
     requires { ⌜ size ≤ 16 ⌝ }
     ensures { λ r. ⌜ r ≡ freshValue leader domain size ⌝ }
@@ -274,7 +274,7 @@ fn fresh_value(leader: u8, domain: u16, size: u8) -> bool
     domain == words::full(words::wide(size))
 }
 
-// No follower, and each list is full.
+// No follower, and each domain is full.
 pub fn fresh_parts<'a>(
     n: usize,
     sizes: &'a [u8; 16],

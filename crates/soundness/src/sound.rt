@@ -88,7 +88,7 @@ fn pairs_sound(n: usize, stated: &[u16; 16]) -> bool
     all
 }
 
-// The digits, four times, that no row against a variable of `size` values may have.
+// The bits, four times, that no row against a variable of `size` values may have.
 fn outside(size: u8) -> u64
     requires { ⌜ size ≤ 16 ⌝ }
     ensures { λ r. ⌜ Bars (λ (v : ℕ). ltb v size) r ⌝ }
@@ -96,7 +96,7 @@ fn outside(size: u8) -> u64
     rows::repeated(!words::full(words::wide(size)))
 }
 
-// The digits that no row of `i` may have: all of them where its pair is not stated.
+// The bits that no row of `i` may have: all of them where its pair is not stated.
 fn barred(stated: u16, i: usize, outside: u64) -> u64
     requires { ⌜ i < 16 ⌝ }
     ensures { λ r. ⌜ ((p : ℕ → Bool) → Bars p outside → Bars (λ (v : ℕ). and (has stated i) (p v)) r) ⌝ }
@@ -131,7 +131,7 @@ fn members(rows: &[u16; 4096], j: usize) -> u64
     found
 }
 
-// Where `j` states no pair its rows are all to be empty, and no digit is told from another: that takes half the time.
+// Where `j` states no pair its rows are all to be empty, and no bit is told from another: that takes half the time.
 fn against(rows: &[u16; 4096], stated: u16, j: usize, outside: u64) -> u64
     requires { ⌜ j < 16 ⌝ }
     ensures { λ r. ⌜ ((p : ℕ → Bool) → Bars p outside → eqb r 0 ≡ againstFits (now (rows .entry)) stated j p) ⌝ }

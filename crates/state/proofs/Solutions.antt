@@ -17,24 +17,24 @@ use Rattle.network.proofs.Completion as completion
 use Rattle.state.specs.declared.state.State.{State}
 use Rattle.state.specs.View.{view, soundState}
 use Rattle.answers.specs.Answers.{says, refuses, rules, no-verdict}
-use Rattle.state.specs.Solutions.{valuesOf, buildRefusal, tested, completeNumber, completedBuffer, verdictOf}
+use Rattle.state.specs.Solutions.{valuesOf, solutionRefusal, tested, completeNumber, completedBuffer, verdictOf}
 use Rattle.state.proofs.View.{Shaped, state-sound}
 
 -- The tests that the tester and the completer share: 9, 14, and then the call's own.
 module _ (s : State) (build : List ℕ) (own : ℕ) where
-  pub build-unsound : soundState s ≡ false → buildRefusal s build own ≡ 9
-  unfolding buildRefusal
+  pub build-unsound : soundState s ≡ false → solutionRefusal s build own ≡ 9
+  unfolding solutionRefusal
   build-unsound h = if-true _ _ _ (not-i _ h)
 
-  pub build-not-n : soundState s ≡ true → (length build ≡ s .n → ⊥) → buildRefusal s build own ≡ 14
-  unfolding buildRefusal
+  pub build-not-n : soundState s ≡ true → (length build ≡ s .n → ⊥) → solutionRefusal s build own ≡ 14
+  unfolding solutionRefusal
   build-not-n h d = if-false _ _ _ (not-false-i _ h) ∙ if-true _ _ _ (not-i _ (ne-eqb _ _ d))
 
-  pub build-own : soundState s ≡ true → length build ≡ s .n → buildRefusal s build own ≡ own
-  unfolding buildRefusal
+  pub build-own : soundState s ≡ true → length build ≡ s .n → solutionRefusal s build own ≡ own
+  unfolding solutionRefusal
   build-own h e = if-false _ _ _ (not-false-i _ h) ∙ if-false _ _ _ (not-false-i _ (eq-eqb _ _ e))
 
-  pub build-taken : buildRefusal s build own ≡ 0 → (soundState s ≡ true) × (length build ≡ s .n) × (own ≡ 0)
+  pub build-taken : solutionRefusal s build own ≡ 0 → (soundState s ≡ true) × (length build ≡ s .n) × (own ≡ 0)
   build-taken z =
       by-cases (soundState s)
       (λ h. by-cases (eqb (length build) (s .n))
@@ -46,7 +46,7 @@ module _ (s : State) (build : List ℕ) (own : ℕ) where
 module _ (s : State) (build : List ℕ) where
   -- Why it refuses, if it does.
   abbrev pub testNumber : ℕ
-  testNumber = buildRefusal s build (testRefusal (view s) (valuesOf build))
+  testNumber = solutionRefusal s build (testRefusal (view s) (valuesOf build))
 
   pub tested-says : testNumber ≡ 0 → tested s build ≡ says (solves (view s) (valuesOf build))
   unfolding tested

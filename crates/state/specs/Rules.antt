@@ -1,4 +1,4 @@
--- Rules 1 to 3 of what the follow step answers, options counted from 1.
+-- Rules 1 to 3 of what the follow step answers, variables counted from 1.
 use mathlib.Core.Path.{_≡_}
 use Prim.Native.Nat.{ℕ, pred}
 use Rattle.network.specs.Rules.{Rules}
@@ -12,6 +12,6 @@ pub record StepRules (s : State) (l f : ℕ) : Type 0 where
   -- "a refused call hands back what it was given"
   pub handed-back : (stepped s l f .number ≡ 0 → ⊥) → stepped s l f .state ≡ s
 
--- Of every state, sound or not, and any two option numbers.
+-- Of every state, sound or not, and any two numbers of variables.
 unfoldable pub StepsByRules : Type 0
 StepsByRules = (s : State) → Shaped s → (l f : ℕ) → StepRules s l f

@@ -1,4 +1,4 @@
--- The tester, the completer and the verdict on states. A build is a buffer of bytes, one for each option.
+-- The tester, the completer and the verdict on states. A solution is a buffer of bytes, one for each variable.
 use mathlib.Core.List.{List}
 use Prim.Native.Nat.{ℕ}
 use lib.Dec.{eqb}
@@ -16,25 +16,25 @@ unfoldable pub valuesOf : List ℕ → ℕ → ℕ
 valuesOf build i = getD build i 0
 
 -- 9 "state not sound", then 14 "build buffer not n bytes", then the call's own.
-unfoldable pub buildRefusal : State → List ℕ → ℕ → ℕ
-buildRefusal s build own = if (not (soundState s)) 9 (if (not (eqb (length build) (s .n))) 14 own)
+unfoldable pub solutionRefusal : State → List ℕ → ℕ → ℕ
+solutionRefusal s build own = if (not (soundState s)) 9 (if (not (eqb (length build) (s .n))) 14 own)
 
 -- The tester: 9, 14, 15, and then yes or no.
 unfoldable pub tested : State → List ℕ → TestTold
 tested s build =
-    if (eqb (buildRefusal s build (testRefusal (view s) (valuesOf build))) 0)
+    if (eqb (solutionRefusal s build (testRefusal (view s) (valuesOf build))) 0)
     (says (solves (view s) (valuesOf build)))
-    (refuses (buildRefusal s build (testRefusal (view s) (valuesOf build))))
+    (refuses (solutionRefusal s build (testRefusal (view s) (valuesOf build))))
 
 -- The completer's number, 9, 14, 15, 16 or 0,
 unfoldable pub completeNumber : State → List ℕ → ℕ
-completeNumber s build = buildRefusal s build (completeRefusal (view s) (valuesOf build))
+completeNumber s build = solutionRefusal s build (completeRefusal (view s) (valuesOf build))
 
 -- and the buffer at exit: a refusal changes no byte.
 unfoldable pub completedBuffer : State → List ℕ → List ℕ
 completedBuffer s build = if (eqb (completeNumber s build) 0) (tabulate (s .n) (completed (view s) (valuesOf build))) build
 
--- The verdict, and the build of 16 values: "zero past n, and all zero with NONE or OPEN" and with a refusal.
+-- The verdict, and the solution of 16 values: "zero past n, and all zero with NONE or OPEN" and with a refusal.
 unfoldable pub verdictOf : State → VerdictTold
 verdictOf s =
     if (soundState s)

@@ -12,7 +12,7 @@ use Rattle.state.specs.Answers.{Told}
 unfoldable pub refused : ℕ → State → Told
 refused number s = record { number = number; state = s; steps = 0 }
 
--- The number that refuses a follow step, options counted from 1: "Other calls test 9 first and then upward".
+-- The number that refuses a follow step, variables counted from 1: "Other calls test 9 first and then upward".
 unfoldable pub stepRefusal : State → ℕ → ℕ → ℕ
 stepRefusal s l f = if (soundState s) (refusal (view s) l f) 9
 

@@ -178,7 +178,7 @@ fn handed_back(n: usize, sizes: [u8; 16], worked: Worked, rows: [u16; 4096]) -> 
 }
 
 impl State {
-    // One follow step: `follower` comes to follow `leader`, options counted from 1. A refusal hands back the state given.
+    // One follow step: `follower` comes to follow `leader`, variables counted from 1. A refusal hands back the state given.
     pub fn eliminate(self, leader: usize, follower: usize) -> Answer
         ensures { λ r. ⌜ told r ≡ stepped self leader follower ⌝ }
     {

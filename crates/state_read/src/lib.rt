@@ -19,7 +19,7 @@ pub struct ReadParts {
     pub stated: [u16; 16],
 }
 
-// Full lists: all values below each size.
+// Full domains: all values below each size.
 fn full_domains(sizes: [u8; 16]) -> [u16; 16]
     requires { ⌜ ((i : ℕ) → getD sizes i 0 ≤ 16) ⌝ }
     ensures { λ r. ⌜ r ≡ tabulate 16 (λ (i : ℕ). word 16 (λ (a : ℕ). ltb a (getD sizes i 0))) ⌝ }

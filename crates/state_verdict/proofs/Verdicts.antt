@@ -16,7 +16,7 @@ use Rattle.words.specs.Word.{has}
 use Rattle.words.proofs.Laws.{has-zero, nonempty}
 use Rattle.network.specs.Network.{free, partner}
 use Rattle.network.specs.Completion as network
-use Rattle.network.specs.Completion.{NONE, BUILT, OPEN, completed, lowest, exhausted, decided, verdict, lowestBuild, shown}
+use Rattle.network.specs.Completion.{NONE, BUILT, OPEN, completed, lowest, exhausted, decided, verdict, lowestSolution, shown}
 use Rattle.network.proofs.Sound.{free-or-led, leader-n, leader-is-free}
 use Rattle.network.proofs.Completion.{completed-keeps, completed-led, none-verdict, built-verdict, open-verdict, verdict-built, exhausted-e, not-exhausted, shown-built, shown-past, shown-zero, lowest-domain}
 use Rattle.state.specs.View.{view, soundState}
@@ -89,8 +89,8 @@ module _ (s : State) (h : Shaped s) (t : soundState s ≡ true) where
     lowest-led = choice-led s h t _ lowest-choice (omega (arith, n-most s t, length-tabulate 16 (lowestOf (s .n) (s .domains))))
 
     -- Completed, they are the lowest build.
-    build-is : (i : ℕ) → i < s .n → completed (view s) (valuesOf (tabulate 16 (lowestOf (s .n) (s .domains)))) i ≡ lowestBuild (view s) i
-    unfolding lowestBuild valuesOf view
+    build-is : (i : ℕ) → i < s .n → completed (view s) (valuesOf (tabulate 16 (lowestOf (s .n) (s .domains)))) i ≡ lowestSolution (view s) i
+    unfolding lowestSolution valuesOf view
     build-is i m =
         free-or-led (view s) i
         (λ f. completed-keeps (view s) _ i f ∙ lowest-is i m f ∙ sym (completed-keeps (view s) (lowest (view s)) i f))

@@ -3,7 +3,7 @@ use answers::Verdict;
 use answers::VerdictAnswer;
 use solutions::domains_open;
 use solutions::free_apart;
-use solutions::lowest_build;
+use solutions::lowest_solution;
 ghost use mathlib.Core.Path.{_≡_};
 ghost use mathlib.Core.Bool.{true};
 ghost use Rattle.soundness.specs.Parts.{Lent};
@@ -11,7 +11,7 @@ ghost use Rattle.answers.specs.Answers.{verdictTold};
 ghost use Rattle.state.specs.View.{stateOf, soundState};
 ghost use Rattle.state.specs.Solutions.{verdictOf};
 
-// The verdict of the parts of a sound state: NONE "if some live list is empty", even where two live options are stated together; else BUILT where "no
+// The verdict of the parts of a sound state: NONE "if some live list is empty", even where two free variables are stated together; else BUILT where "no
 // two live options are stated together"; else OPEN.
 pub fn verdict_of<'a>(
     n: usize,
@@ -38,6 +38,6 @@ pub fn verdict_of<'a>(
     }
     VerdictAnswer {
         verdict: Verdict::Built,
-        solution: lowest_build(n, domains, leaders, rows),
+        solution: lowest_solution(n, domains, leaders, rows),
     }
 }

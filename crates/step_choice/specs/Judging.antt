@@ -1,5 +1,5 @@
--- What judging and searching for a step read of a state: n and four of its arrays. Sizes are not read: a row AND a list is counted over all 16 values,
--- and in a sound state each list lies within its size.
+-- What judging and searching for a step read of a state: n and four of its arrays. Sizes are not read: a row AND a domain is counted over all 16 values,
+-- and in a sound state each domain lies within its size.
 use mathlib.Core.List.{List}
 use Prim.Native.Nat.{ℕ}
 use lib.ListN.{getD}

@@ -17,7 +17,7 @@ pub enum Pair {
 }
 
 // What refuses a step of two variables that differ, counted from 0: one is not free, their pair is not stated, or it is not functional. The ones of row AND
-// list decide whether it is.
+// domain decide whether it is.
 fn judge_pair<'a>(
     domains: &'a [u16; 16],
     leaders: &'a [u8; 16],
@@ -44,7 +44,7 @@ fn judge_pair<'a>(
     Judgement::Legal
 }
 
-// What refuses the step, options counted from 1. Tested upward: 10, 11, 12, 13.
+// What refuses the step, variables counted from 1. Tested upward: 10, 11, 12, 13.
 pub fn judge<'a>(
     n: usize,
     domains: &'a [u16; 16],

@@ -16,7 +16,7 @@ unfoldable pub reach : ℕ → List ℕ → ℕ → ℕ → ℕ → ℕ → ℕ 
 reach w rows i j k dj c =
     word w (λ (a : ℕ). some w (λ (b : ℕ). and (and (has dj b) (has (rowAt w rows k j c) b)) (has (rowAt w rows j i b) a)))
 
--- Rule 2: the values of i that go with value c of k. ti is the new list of i, was says that i, k was stated before.
+-- Rule 2: the values of i that go with value c of k. ti is the new domain of i, was says that i, k was stated before.
 unfoldable pub composedAt : ℕ → List ℕ → ℕ → ℕ → ℕ → ℕ → ℕ → ℕ → Bool → ℕ → ℕ
 composedAt w rows i j k ti dj dk was c =
     word w (λ (a : ℕ). and (and (has ti a) (has dk c)) (and (has (reach w rows i j k dj c) a) (implies was (has (rowAt w rows k i c) a))))

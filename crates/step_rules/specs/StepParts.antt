@@ -30,7 +30,7 @@ statedAfter i j T x pairs y =
     if (or (and (eqb x i) (T y)) (and (eqb y i) (T x))) true
     (if (or (and (eqb x j) (T y)) (and (eqb y j) (T x))) false (pairs y))
 
--- Rule 2 on rows: the values of i that go with value c of the third variable k. ti is the new list of i, and i was stated with `pairs`.
+-- Rule 2 on rows: the values of i that go with value c of the third variable k. ti is the new domain of i, and i was stated with `pairs`.
 unfoldable pub madeRow : List ℕ → List ℕ → ℕ → ℕ → ℕ → ℕ → ℕ → ℕ → ℕ
 madeRow rows domains pairs i j ti k c = composedAt 16 rows i j k ti (getD domains j 0) (getD domains k 0) (has pairs k) c
 

@@ -10,7 +10,7 @@ use Rattle.step_rules.specs.declared.arrays.Arrays.{Arrays}
 use Rattle.step_rules.specs.StepParts.{leaderAfter, thirdOf, statedAfter, madeRow, MovedRows}
 
 module _ (domains leaders stated rows : List ℕ) (i j : ℕ) where
-  -- Rule 1: the new list of i.
+  -- Rule 1: the new domain of i.
   unfoldable pub trimmedWord : ℕ
   trimmedWord = supportedAt 16 rows i j (getD domains i 0) (getD domains j 0)
 

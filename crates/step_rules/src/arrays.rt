@@ -69,7 +69,7 @@ fn stated_after(stated: &[u16; 16], thirds: u16, i: usize, j: usize) -> [u16; 16
     after
 }
 
-// Rule 2 for `k`, if it is a third variable: the pair `i`, `k` is composed and the pair `j`, `k` emptied. `ti` is the new list of `i`, and `i` was
+// Rule 2 for `k`, if it is a third variable: the pair `i`, `k` is composed and the pair `j`, `k` emptied. `ti` is the new domain of `i`, and `i` was
 // stated with `pairs`.
 fn move_third(
     rows: &mut [u16; 4096],
@@ -111,7 +111,7 @@ fn move_thirds(
     }
 }
 
-// Lists, leaders and stated pairs, built anew for a changed state.
+// Domains, leaders and stated pairs, built anew for a changed state.
 pub struct Arrays {
     pub domains: [u16; 16],
     pub leaders: [u8; 16],

@@ -9,7 +9,7 @@ use Rattle.cause.proofs.Laws.{number-range}
 use Rattle.state_cut.specs.declared.CutParts.{CutParts}
 use Rattle.answers.specs.declared.ReadOutcome.{ReadOutcome}
 use Rattle.answers.specs.declared.ReadOutcome.the-variants.{Accepted, Refused}
-use Rattle.answers.specs.Answers.{readNumber, readPlace, verdictTold, verdictBuild}
+use Rattle.answers.specs.Answers.{readNumber, readPlace, verdictTold, verdictSolution}
 use Rattle.answers.specs.declared.Verdict.{Verdict}
 use Rattle.answers.specs.declared.Verdict.the-variants as verdict
 use Rattle.state.specs.Cut.{cutSheet}
@@ -36,8 +36,8 @@ unfolding readNumber
 number-small Accepted = omega arith
 number-small (Refused c at) = omega (arith, number-range c)
 
-build-of : (v : Verdict) (build : List ℕ) → verdictBuild (verdictTold v build) ≡ build
-unfolding verdictBuild verdictTold
+build-of : (v : Verdict) (build : List ℕ) → verdictSolution (verdictTold v build) ≡ build
+unfolding verdictSolution verdictTold
 build-of verdict.None build = refl
 build-of verdict.Built build = refl
 build-of verdict.Open build = refl

@@ -12,7 +12,7 @@ use Rattle.buffers.specs.Digits.{decimal, hex4}
 use Rattle.buffers.specs.Wrote.{Wrote}
 use Rattle.buffers.proofs.Digits.{length-decimal-le}
 use Rattle.network.specs.Completion.{NONE, BUILT, OPEN}
-use Rattle.answers.specs.Answers.{VerdictTold, rules, no-verdict, verdictBuild}
+use Rattle.answers.specs.Answers.{VerdictTold, rules, no-verdict, verdictSolution}
 use Rattle.state.specs.Cut.{CutTold}
 use Rattle.text_lines.specs.Text.{ascii, refusedText, pairLine, liveLine, optionLine, optionLines}
 use Rattle.text_lines.proofs.Laws.{option-live, option-follows}
@@ -67,8 +67,8 @@ unfolding valueTexts valueText ascii
 values-le build b zero = omega arith
 values-le build b (suc n) = simp length-append (omega (arith, values-le build b n, length-decimal-le 2 (getD build n 0) (omega (arith, b n))))
 
-verdict-le : (v : VerdictTold) → ((k : ℕ) → getD (verdictBuild v) k 0 < 256) → (n : ℕ) → n ≤ 16 → length (verdictText v n) ≤ 84
-unfolding verdictText ruledText builtText verdictBuild ascii
+verdict-le : (v : VerdictTold) → ((k : ℕ) → getD (verdictSolution v) k 0 < 256) → (n : ℕ) → n ≤ 16 → length (verdictText v n) ≤ 84
+unfolding verdictText ruledText builtText verdictSolution ascii
 verdict-le (rules NONE build) b n h = omega arith
 verdict-le (rules BUILT build) b n h = simp length-append (omega (arith, values-le build b n))
 verdict-le (rules OPEN build) b n h = omega arith

@@ -3,7 +3,7 @@ use mathlib.Core.List.{List, _++_}
 use mathlib.Core.Path.{_≡_}
 use Prim.Native.Nat.{ℕ, _-_, _≤_, _<_}
 use lib.ListN.{length, getD, replicate}
-use Rattle.answers.specs.Answers.{verdictBuild}
+use Rattle.answers.specs.Answers.{verdictSolution}
 use Rattle.state.specs.Cut.{CutTold}
 
 -- An array of so many bytes holds a text of n bytes, and zeros past it.
@@ -19,4 +19,4 @@ pub record Printable (c : CutTold) : Type 0 where
   pub options-le : c .state .n ≤ 16
   pub steps-lt : c .steps < 16
   pub leaders-lt : (k : ℕ) → getD (c .state .leaders) k 0 < 256
-  pub values-lt : (k : ℕ) → getD (verdictBuild (c .verdict)) k 0 < 256
+  pub values-lt : (k : ℕ) → getD (verdictSolution (c .verdict)) k 0 < 256

@@ -1,4 +1,4 @@
--- A word read as a set: v is a member where the digit of weight 2 to the v is set.
+-- A word read as a set: v is a member where the bit of weight 2 to the v is set.
 use mathlib.Core.Bool.{Bool}
 use Prim.Native.Nat.{ℕ, _*_, _/_, _%_, _^_}
 use lib.Dec.{eqb}

@@ -43,8 +43,8 @@ returns-2 c =
     let s = e .before .before in
     told-open (state s) (shaped s) (s .pre .1) (left e) (sym (c .before .free-apart .ensures) ∙ not-true _ (c .if2 .taken))
 
-lowest-build-requires : tie.Need-lowest-build-requires
-lowest-build-requires c κs =
+lowest-solution-requires : tie.Need-lowest-solution-requires
+lowest-solution-requires c κs =
     let e = c .before .before in
     let s = e .before .before in
     lowest-led (state s) (shaped s) (s .pre .1) (left e)
@@ -56,7 +56,7 @@ returns-3 c =
     let e = f .before .before in
     let s = e .before .before in
     told-built (state s) (shaped s) (s .pre .1) (left e) _ (search needs)
-    (sym (f .before .free-apart .ensures) ∙ not-false _ (f .if2 .left)) (c .lowest-build .ensures)
+    (sym (f .before .free-apart .ensures) ∙ not-false _ (f .if2 .left)) (c .lowest-solution .ensures)
 
 pub verdict-of-spec : {M : Type 1} → statement M
 verdict-of-spec =
@@ -66,5 +66,5 @@ verdict-of-spec =
     returns
     free-apart-requires
     returns-2
-    lowest-build-requires
+    lowest-solution-requires
     returns-3)

@@ -13,8 +13,8 @@ use Rattle.solutions.specs.Choices.{valuesKept, pairsKept}
 use Rattle.state.specs.declared.state.State.{State}
 use Rattle.state.proofs.View.{Shaped, shape, shaped-lent, sound-told, n-most}
 use Rattle.state_verdict.proofs.Builds.{tested-9, tested-14, tested-15, tested-outside, tested-pairs, all-live}
-use Rattle.call_solutions.proofs.builds_of.test.Statement.{statement}
-use Rattle.call_solutions.proofs.builds_of.test.Tie as tie
+use Rattle.call_solutions.proofs.solutions_of.test.Statement.{statement}
+use Rattle.call_solutions.proofs.solutions_of.test.Tie as tie
 
 shaped : (c : tie.Start) → Shaped (c .args .t1)
 shaped c = search shape

@@ -13,8 +13,8 @@ use Rattle.solutions.specs.Choices.{valuesKept, pairsKept}
 use Rattle.state.specs.declared.state.State.{State}
 use Rattle.state.proofs.View.{Shaped, shape, shaped-lent, sound-told, n-most}
 use Rattle.state_verdict.proofs.Builds.{complete-9, complete-14, complete-15, complete-16, complete-led, complete-done}
-use Rattle.call_solutions.proofs.builds_of.complete.Statement.{statement}
-use Rattle.call_solutions.proofs.builds_of.complete.Tie as tie
+use Rattle.call_solutions.proofs.solutions_of.complete.Statement.{statement}
+use Rattle.call_solutions.proofs.solutions_of.complete.Tie as tie
 
 shaped : (c : tie.Start) → Shaped (c .args .t1)
 shaped c = search shape

@@ -4,8 +4,8 @@ use borrow.Author.Tests.{not-true, not-false}
 use Rattle.answers.specs.Answers.{verdictTold}
 use Rattle.state.proofs.View.{Shaped, shape, shaped-lent, sound-told}
 use Rattle.state.proofs.Solutions.{verdict-refused}
-use Rattle.call_solutions.proofs.builds_of.verdict.Statement.{statement}
-use Rattle.call_solutions.proofs.builds_of.verdict.Tie as tie
+use Rattle.call_solutions.proofs.solutions_of.verdict.Statement.{statement}
+use Rattle.call_solutions.proofs.solutions_of.verdict.Tie as tie
 
 shaped : (c : tie.Start) → Shaped (c .args .t1)
 shaped c = search shape

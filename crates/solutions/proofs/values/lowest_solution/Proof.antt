@@ -1,7 +1,7 @@
 -- The lowest values, completed.
 use borrow.Author.Needs.{needs}
-use Rattle.solutions.proofs.values.lowest_build.Statement.{statement}
-use Rattle.solutions.proofs.values.lowest_build.Tie as tie
+use Rattle.solutions.proofs.values.lowest_solution.Statement.{statement}
+use Rattle.solutions.proofs.values.lowest_solution.Tie as tie
 
 complete-values-requires : tie.Need-complete-values-requires
 complete-values-requires c κs = rw (c .before .lowest-values .ensures) (c .before .before .pre)
@@ -9,8 +9,8 @@ complete-values-requires c κs = rw (c .before .lowest-values .ensures) (c .befo
 returns : tie.Need-returns
 returns c = rw (c .before .before .before .lowest-values .ensures) at (c .before .complete-values .ensures)
 
-pub lowest-build-spec : {M : Type 1} → statement M
-lowest-build-spec =
+pub lowest-solution-spec : {M : Type 1} → statement M
+lowest-solution-spec =
     tie.close
     (tie.spec
     (λ c κs. search needs)

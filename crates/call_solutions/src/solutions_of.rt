@@ -1,4 +1,4 @@
-// The calls that read a state and give or judge builds: the tester, the completer and the verdict. What they look at is lent.
+// The calls that read a state and give or judge solutions: the tester, the completer and the verdict. What they look at is lent.
 use answers::Outcome;
 use answers::TestAnswer;
 use answers::Verdict;
@@ -15,7 +15,7 @@ ghost use mathlib.Core.Path.{_≡_};
 ghost use Rattle.answers.specs.Answers.{testTold, outcomeNumber, verdictTold};
 ghost use Rattle.state.specs.Solutions.{tested, completeNumber, completedBuffer, verdictOf};
 
-// The tester: "yes exactly when each value is in its option's list and each stated pair allows its two values". It judges every option as a live one.
+// The tester: "yes exactly when each value is in its option's list and each stated pair allows its two values". It judges every variable as a free one.
 pub fn test(state: State, solution: &[u8]) -> TestAnswer
     ensures { λ r. ⌜ testTold r ≡ tested state (now (solution .entry)) ⌝ }
 {
