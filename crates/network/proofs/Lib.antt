@@ -14,3 +14,4 @@ pub mod SheetOf
 pub mod Rules
 pub mod Sheets
 pub mod Lists
+pub mod Added

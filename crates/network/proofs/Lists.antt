@@ -25,15 +25,15 @@ use Rattle.network.proofs.SheetOf.{Fits, networkOf-sound}
 
 module _ (N : Network) (i : ℕ) (p : ℕ → Bool) where
   -- The list of i has what passes, and every other list is as it was.
-  narrowed-i : (a : ℕ) → narrowed N i p .domain i a ≡ and (N .domain i a) (p a)
+  pub narrowed-i : (a : ℕ) → narrowed N i p .domain i a ≡ and (N .domain i a) (p a)
   unfolding narrowed
   narrowed-i a = if-true _ _ _ (eq-eqb i i refl)
 
-  narrowed-other : (x a : ℕ) → (x ≡ i → ⊥) → narrowed N i p .domain x a ≡ N .domain x a
+  pub narrowed-other : (x a : ℕ) → (x ≡ i → ⊥) → narrowed N i p .domain x a ≡ N .domain x a
   unfolding narrowed
   narrowed-other x a d = if-false _ _ _ (ne-eqb x i d)
 
-  narrowed-fewer : (x a : ℕ) → narrowed N i p .domain x a ≡ true → N .domain x a ≡ true
+  pub narrowed-fewer : (x a : ℕ) → narrowed N i p .domain x a ≡ true → N .domain x a ≡ true
   narrowed-fewer x a =
       is-or-not i (λ (y : ℕ). narrowed N i p .domain y a ≡ true → N .domain y a ≡ true)
       (λ h. and-l _ _ (sym (narrowed-i a) ∙ h))

@@ -49,7 +49,7 @@ eliminate-rules N S i j d =
     }
 
 -- Tests that hold under the same condition are equal.
-same-test : {P : Type 0} (a b : Bool) → (a ≡ true) ↔ P → (b ≡ true) ↔ P → a ≡ b
+pub same-test : {P : Type 0} (a b : Bool) → (a ≡ true) ↔ P → (b ≡ true) ↔ P → a ≡ b
 same-test a b e f = bool-ext a b (λ h. f .1 (e .0 h)) (λ h. e .1 (f .0 h))
 
 -- Two networks that the rules give are one.

@@ -19,16 +19,16 @@ use Rattle.network.proofs.Pairs.{stays-sym, own-pair-stays, pair-case-s
 -- Refusals
 
 -- A ladder of tests gives the number of the first that holds: a number is given by its own test, past all tests before it.
-here : (b : Bool) (v r : ℕ) → (r ≡ v → ⊥) → (if b v r ≡ v) ↔ (b ≡ true)
+pub here : (b : Bool) (v r : ℕ) → (r ≡ v → ⊥) → (if b v r ≡ v) ↔ (b ≡ true)
 here b v r d = (λ h. by-cases b (λ t. t) (λ t. absurd (d (sym (if-false b v r t) ∙ h))), if-true b v r)
 
-past : {P : Type 0} (b : Bool) (v r w : ℕ) → (w ≡ v → ⊥) → (r ≡ w) ↔ P → (if b v r ≡ w) ↔ ((b ≡ false) × P)
+pub past : {P : Type 0} (b : Bool) (v r w : ℕ) → (w ≡ v → ⊥) → (r ≡ w) ↔ P → (if b v r ≡ w) ↔ ((b ≡ false) × P)
 past b v r w d e = (
   λ h. by-cases b (λ t. absurd (d (sym h ∙ if-true b v r t))) (λ t. (t, e .0 (sym (if-false b v r t) ∙ h))),
   λ h. if-false b v r (h .0) ∙ e .1 (h .1),
 )
 
-never : (b : Bool) (v r w : ℕ) → (w ≡ v → ⊥) → (r ≡ w → ⊥) → if b v r ≡ w → ⊥
+pub never : (b : Bool) (v r w : ℕ) → (w ≡ v → ⊥) → (r ≡ w → ⊥) → if b v r ≡ w → ⊥
 never b v r w d e h = past b v r w d (e, absurd) .0 h .1
 
 module _ (N : Network) (l f : ℕ) where
@@ -72,13 +72,13 @@ module _ (N : Network) (l f : ℕ) where
       past _ 10 _ 0 (omega arith) (past _ 11 _ 0 (omega arith) (past _ 12 _ 0 (omega arith) (past _ 13 _ 0 (omega arith) Iff·rfl)))
 
 -- A number that is not outside names a variable.
-outside-e : (N : Network) (x : ℕ) → outside N x ≡ false → (1 ≤ x) × (x ≤ N .n)
+pub outside-e : (N : Network) (x : ℕ) → outside N x ≡ false → (1 ≤ x) × (x ≤ N .n)
 unfolding outside
 outside-e N x h =
     let a : x ≡ 0 → ⊥ = eqb-false x 0 (or-false-l _ _ h) in
     (omega arith, ltb-false (N .n) x (or-false-r _ _ h))
 
-outside-i : (N : Network) (x : ℕ) → 1 ≤ x → x ≤ N .n → outside N x ≡ false
+pub outside-i : (N : Network) (x : ℕ) → 1 ≤ x → x ≤ N .n → outside N x ≡ false
 unfolding outside
 outside-i N x a b = or-false-i _ _ (ne-eqb x 0 (omega arith)) (le-ltb (N .n) x b)
 

@@ -13,3 +13,4 @@ pub mod Promise
 pub mod Sheet
 pub mod Sheets
 pub mod Lists
+pub mod Added
