@@ -2,13 +2,13 @@
 use mathlib.Core.Bool.{Bool, true, false, true≢false, false≢true}
 use mathlib.Core.Logic.{_⊎_, inl, inr, ⊎-elim}
 use mathlib.Core.Path.{_≡_, refl, sym, _∙_, ap, subst}
-use Prim.Native.Nat.{ℕ, zero, suc, _+_, _*_, _≤_, _<_}
-use native.Mathlib.Nat.{mul-zero, mul-add}
+use Prim.Native.Nat.{ℕ, zero, suc, _+_, _*_, _≤_, _<_, min}
+use native.Mathlib.Nat.{zero-mul, mul-zero, suc-mul, mul-add, mul-le-mul-right, min-eq-left, min-eq-right}
 use native.Mathlib.Omega.{arith}
 use lib.Dec.{eqb, leb, ltb}
 use borrow.Author.Tests.{eq-eqb, eqb-true, eqb-false, leb-true, leb-false, ltb-true, ltb-false}
 use Rattle.bounded.specs.Bool.{and, or, bit, if, not}
-use Rattle.bounded.specs.Fold.{every, some, sum, count, first}
+use Rattle.bounded.specs.Fold.{every, some, sum, product, count, first}
 use Rattle.bounded.proofs.Bool.{by-cases, clash, not-true→false, and-i, and-l, and-r, or-l, or-r, or-elim, bit-true, bit-false, bit-le, bit-split}
 
 lift-cmp : (n k : ℕ) → (k ≡ n) ⊎ (k < n) → (suc k ≡ suc n) ⊎ (suc k < suc n)
@@ -106,6 +106,42 @@ unfolding sum
 sum-swap zero n f = sym (sum-zero n _ (λ k l. refl))
 sum-swap (suc m) n f = rw (sum-swap m n f) (sym (sum-add n (f m) (λ (j : ℕ). sum m (λ (i : ℕ). f i j))))
 
+pub product-cong : (n : ℕ) (f g : ℕ → ℕ) → ((k : ℕ) → k < n → f k ≡ g k) → product n f ≡ product n g
+unfolding product
+product-cong zero f g h = refl
+product-cong (suc n) f g h = rw (h n (omega arith), product-cong n f g (λ k l. h k (omega arith)))
+
+-- A product with a factor 0 is 0, whatever the others are.
+pub product-zero : (n : ℕ) (f : ℕ → ℕ) (k : ℕ) → k < n → f k ≡ 0 → product n f ≡ 0
+unfolding product
+product-zero zero f k l h = absurd (let x : ⊥ = omega arith in x)
+product-zero (suc n) f k l h =
+    below-suc n k l
+    (λ e. rw (ap f (sym e) ∙ h) (zero-mul (product n f)))
+    (λ s. rw (product-zero n f k s h) (mul-zero (f n)))
+
+-- and only such a product is.
+pub product-some : {A : Type 0} (n : ℕ) (f : ℕ → ℕ) → product n f ≡ 0 → ((k : ℕ) → k < n → f k ≡ 0 → A) → A
+unfolding product
+product-some zero f h g = absurd (let x : ⊥ = omega arith in x)
+product-some (suc n) f h g =
+    by-cases (eqb (f n) 0)
+    (λ t. g n (omega arith) (eqb-true (f n) 0 t))
+    (λ t. let d : f n ≡ 0 → ⊥ = eqb-false (f n) 0 t in
+    let l : 1 * product n f ≤ f n * product n f = mul-le-mul-right (product n f) (omega arith) in
+    product-some n f (omega arith) (λ k m e. g k (omega arith) e))
+
+-- A product that is cut down to m at every factor is in the end what the whole product is when cut down to m: it need not wrap.
+pub product-capped : (m p c : ℕ) → min (c * min p m) m ≡ min (c * p) m
+product-capped m p zero = rw (zero-mul (min p m), zero-mul p)
+product-capped m p (suc c) =
+    by-cases (leb p m)
+    (λ t. rw (min-eq-left (leb-true p m t)))
+    (λ t. let l : m ≤ p = omega (arith, leb-false p m t) in
+    let a : m ≤ suc c * m = omega (arith, suc-mul c m) in
+    let b : m ≤ suc c * p = omega (arith, suc-mul c p) in
+    rw (min-eq-right l) (min-eq-right a ∙ sym (min-eq-right b)))
+
 -- A sum has just one term where all others are 0.
 pub sum-one : (n : ℕ) (f : ℕ → ℕ) (k : ℕ) → k < n → ((j : ℕ) → j < n → (j ≡ k → ⊥) → f j ≡ 0) → sum n f ≡ f k
 unfolding sum
@@ -117,6 +153,11 @@ sum-one (suc n) f k l h =
     (λ s. let z : f n ≡ 0 = h n (omega arith) (λ q. let x : ⊥ = omega arith in x) in
     let r : sum n f ≡ f k = sum-one n f k s (λ j m d. h j (omega arith) d) in
     omega arith)
+
+-- Where none passes the count is 0.
+pub count-none : (n : ℕ) (p : ℕ → Bool) → some n p ≡ false → count n p ≡ 0
+unfolding count
+count-none n p h = sum-zero n _ (λ k l. bit-false (p k) (none-of n p h k l))
 
 pub count-le : (n : ℕ) (p : ℕ → Bool) → count n p ≤ n
 unfolding count sum

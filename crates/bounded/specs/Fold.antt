@@ -1,6 +1,6 @@
 -- Tests over the numbers 0 to n - 1.
 use mathlib.Core.Bool.{Bool, true, false}
-use Prim.Native.Nat.{ℕ, zero, suc, _+_}
+use Prim.Native.Nat.{ℕ, zero, suc, _+_, _*_}
 use Rattle.bounded.specs.Bool.{and, or, bit, if}
 
 -- Every number below n passes p.
@@ -17,6 +17,11 @@ some (suc n) p = or (p n) (some n p)
 unfoldable pub sum : ℕ → (ℕ → ℕ) → ℕ
 sum zero f = 0
 sum (suc n) f = f n + sum n f
+
+-- The product of f over the numbers below n.
+unfoldable pub product : ℕ → (ℕ → ℕ) → ℕ
+product zero f = 1
+product (suc n) f = f n * product n f
 
 -- How many numbers below n pass p.
 unfoldable pub count : ℕ → (ℕ → Bool) → ℕ

@@ -10,8 +10,8 @@ use lib.Dec.{eqb, ltb}
 use lib.ListN.{length, getD, List·getD-eq-default}
 use lib.Pow.{pow-pos}
 use borrow.Author.Tests.{eq-eqb, ne-eqb, eqb-true, eqb-false, lt-ltb, ltb-true, ltb-false}
-use Rattle.bounded.specs.Bool.{and, or, implies, not, if}
-use Rattle.bounded.specs.Fold.{every, some, first, count}
+use Rattle.bounded.specs.Bool.{and, or, implies, not}
+use Rattle.bounded.specs.Fold.{some, first}
 use Rattle.bounded.proofs.Bool.{by-cases, clash, bool-ext, not-true→false, and-i, and-l, and-r, and-cong}
 use Rattle.bounded.proofs.Bool.{or-l, or-r, or-false-l, or-false-r, or-false-i, implies-i, implies-e, not-false-e, not-false-i, if-true, if-false}
 use Rattle.bounded.proofs.Fold.{is-or-not, every-i, every-e, some-i, some-e, count-cong, first-some, first-passes}

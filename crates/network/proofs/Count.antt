@@ -137,11 +137,11 @@ choice-eliminated : (M : Network) (g : ℕ → ℕ) (i : ℕ) → free M i ≡ f
 unfolding choiceOf
 choice-eliminated M g i h = if-false _ _ _ h
 
-choiceSize-free : (M : Network) (i : ℕ) → free M i ≡ true → choiceSize M i ≡ M .size i
+pub choiceSize-free : (M : Network) (i : ℕ) → free M i ≡ true → choiceSize M i ≡ M .size i
 unfolding choiceSize
 choiceSize-free M i h = if-true _ _ _ h
 
-choiceSize-eliminated : (M : Network) (i : ℕ) → free M i ≡ false → choiceSize M i ≡ 1
+pub choiceSize-eliminated : (M : Network) (i : ℕ) → free M i ≡ false → choiceSize M i ≡ 1
 unfolding choiceSize
 choiceSize-eliminated M i h = if-false _ _ _ h
 

@@ -15,3 +15,5 @@ pub mod Rules
 pub mod Sheets
 pub mod Lists
 pub mod Added
+pub mod Search
+pub mod Turns

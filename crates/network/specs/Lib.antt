@@ -14,3 +14,5 @@ pub mod Sheet
 pub mod Sheets
 pub mod Lists
 pub mod Added
+pub mod Search
+pub mod Turns
