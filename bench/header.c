@@ -1,5 +1,5 @@
-/* Every call of sheet.h on case A of document 01 and on inputs that are refused, each with what document 01 says of it; and the
- * stack that each takes. Compiled as C and as C++; prints what is wrong, and ends with 1 where something is. */
+/* Every call of sheet.h on case A of document 01 and on inputs that are refused, each with what documents 01 and 02 say of it;
+ * and the stack that each takes. Compiled as C and as C++; prints what is wrong, and ends with 1 where something is. */
 #define _XOPEN_SOURCE 700 /* ucontext */
 #include "sheet.h"
 
@@ -85,11 +85,12 @@ static void refused_bytes(const uint8_t *bytes, size_t length, int number, size_
     CHECK(is_text(&printed, text));
 }
 
-/* Each cause of reading, by one byte of case A that is wrong. */
+/* Each cause of reading: one byte of case A is wrong, or two for 20, its first pair in the place of its second. */
 static void check_bytes(void) {
     static const struct { size_t at; uint8_t byte; int number; size_t place; } wrongs[] = {
-        {1, 0xff, 1, 0}, {0, 2, 2, 0}, {3, 0, 3, 3},  {3, 17, 3, 3}, {4, 0, 4, 4},   {6, 17, 4, 6},  {7, 4, 5, 7},
-        {7, 1, 6, 14},   {7, 3, 6, 22}, {8, 0, 7, 8}, {9, 4, 7, 8},  {14, 3, 7, 14}, {14, 1, 6, 20}, {11, 8, 8, 10},
+        {1, 0xff, 1, 0}, {0, 2, 2, 0},  {3, 0, 3, 3}, {3, 17, 3, 3}, {4, 0, 4, 4},  {6, 17, 4, 6},   {7, 4, 5, 7},
+        {7, 1, 6, 14},   {7, 3, 6, 22}, {8, 0, 7, 8}, {9, 0, 7, 8},  {9, 4, 7, 8},  {14, 4, 7, 14},  {14, 3, 19, 14},
+        {15, 1, 19, 14}, {8, 2, 19, 8}, {9, 1, 19, 8}, {14, 1, 6, 20}, {11, 8, 8, 10},
     };
     struct sheet_read_answer read = sheet_read(CASE_A, LENGTH_A);
     CHECK(read.number == SHEET_NOT_REFUSED && read.place == 0 && same(&read.state, &fresh));
@@ -104,6 +105,10 @@ static void check_bytes(void) {
         bytes[wrongs[k].at] = wrongs[k].byte;
         refused_bytes(bytes, LENGTH_A, wrongs[k].number, wrongs[k].place);
     }
+    uint8_t twice[LENGTH_A];
+    memcpy(twice, CASE_A, LENGTH_A);
+    memcpy(twice + 14, CASE_A + 8, 2);
+    refused_bytes(twice, LENGTH_A, SHEET_CAUSE_PAIR_SEQUENCE, 14);
     refused_bytes(CASE_A, LENGTH_A - 1, SHEET_CAUSE_LENGTH, 0);
     refused_bytes(NULL, 0, SHEET_CAUSE_LENGTH, 0);
 }
@@ -142,6 +147,13 @@ static void check_sound_and_verdict(void) {
     CHECK(answer.build[2] == 1 && all_zero(answer.build, 2) && all_zero(answer.build + 3, 13));
     answer = sheet_verdict(fresh);
     CHECK(answer.number == 0 && answer.kind == SHEET_OPEN && all_zero(answer.build, 16));
+    struct sheet_state apart = fresh; /* its three options without a table */
+    memset(apart.stated, 0, sizeof apart.stated);
+    memset(apart.rows, 0, sizeof apart.rows);
+    apart.lists[1] = 6;
+    answer = sheet_verdict(apart);
+    CHECK(answer.number == 0 && answer.kind == SHEET_BUILT && answer.build[1] == 1);
+    CHECK(answer.build[0] == 0 && all_zero(answer.build + 2, 14));
     struct sheet_state none = fresh;
     none.lists[1] = 0;
     answer = sheet_verdict(none);

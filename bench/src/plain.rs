@@ -1,4 +1,4 @@
-//! Document 01 in plain Rust, written for speed: bit-parallel, in place, early ways out, no copy of a state.
+//! Documents 01 and 02 in plain Rust, written for speed: bit-parallel, in place, early ways out, no copy of a state.
 use crate::proved::{State, Stepped, Tested, Verdict, Written, BUILT, NONE, OPEN};
 
 const LARGEST: usize = 4101;
