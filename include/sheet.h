@@ -43,7 +43,7 @@
 #define SHEET_MOST_VALUES 16     /* bits of a list or row that may be set */
 #define SHEET_ROWS 4096          /* SHEET_MOST_OPTIONS x SHEET_MOST_OPTIONS pairs of SHEET_MOST_VALUES rows */
 #define SHEET_TEXT_BYTES 512     /* longer than any text that sheetcut prints */
-#define SHEET_STACK_BYTES 24576  /* the object code takes at most 16,720; the rest is for memcpy and memset, and margin */
+#define SHEET_STACK_BYTES 24576  /* the object code takes at most 16,752; the rest is for memcpy and memset, and margin */
 
 #ifdef __cplusplus
 extern "C" {
