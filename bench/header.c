@@ -1,10 +1,12 @@
 /* Every call of sheet.h on case A of document 01 and on inputs that are refused, each with what documents 01 and 02 say of it;
  * and the stack that each takes. Compiled as C and as C++; prints what is wrong, and ends with 1 where something is. */
 #define _XOPEN_SOURCE 700 /* ucontext */
+#define _DEFAULT_SOURCE   /* MAP_ANONYMOUS */
 #include "sheet.h"
 
 #include <stdio.h>
 #include <string.h>
+#include <sys/mman.h>
 #include <ucontext.h>
 
 static int wrong = 0;
@@ -28,19 +30,18 @@ static const char TEXT_A[] =
 /* Case A as read, after 2 follows 1, and reduced; and the zero state. */
 static struct sheet_state fresh, stepped, reduced, zero;
 
-/* Value a of option i goes with value b of option j, options counted from 1. */
+/* Value a of option i goes with value b of the higher option j, options counted from 1. */
 static void allow(struct sheet_state *state, int i, int a, int j, int b) {
     i--, j--;
-    state->stated[i] = (uint16_t)(state->stated[i] | 1 << j);
-    state->stated[j] = (uint16_t)(state->stated[j] | 1 << i);
-    state->rows[(i * 16 + j) * 16 + a] = (uint16_t)(state->rows[(i * 16 + j) * 16 + a] | 1 << b);
-    state->rows[(j * 16 + i) * 16 + b] = (uint16_t)(state->rows[(j * 16 + i) * 16 + b] | 1 << a);
+    state->stated[i] |= (uint32_t)1 << j;
+    state->stated[j] |= (uint32_t)1 << i;
+    state->rows[sheet_row_place((size_t)i, (size_t)j, (size_t)a)] |= (uint32_t)1 << b;
 }
 
 /* "(1,2) 0001 0004; (2,3) 0002 0001 0001": 3 goes with 2 at first, and with 1 once 2 follows 1. No list loses a value. */
 static void make_states(void) {
     const uint8_t sizes[] = {2, 3, 2};
-    const uint16_t lists[] = {0x0003, 0x0007, 0x0003};
+    const uint32_t lists[] = {0x0003, 0x0007, 0x0003};
     fresh.n = 3;
     memcpy(fresh.sizes, sizes, sizeof sizes);
     memcpy(fresh.lists, lists, sizeof lists);
@@ -76,11 +77,13 @@ static bool is_text(const struct sheet_text_answer *answer, const char *text) {
 static void refused_bytes(const uint8_t *bytes, size_t length, int number, size_t place) {
     char text[32];
     sprintf(text, "REFUSED %d AT %d\n", number, (int)place);
-    struct sheet_read_answer read = sheet_read(bytes, length);
-    CHECK(read.number == number && read.place == place && same(&read.state, &zero));
-    struct sheet_cut_answer cut = sheet_cut(bytes, length);
-    CHECK(cut.number == number && cut.place == place && same(&cut.state, &zero));
-    CHECK(cut.steps == 0 && cut.kind == 0 && all_zero(cut.build, sizeof cut.build));
+    struct sheet_state state = reduced;
+    struct sheet_read_answer read = sheet_read(bytes, length, &state);
+    CHECK(read.number == number && read.place == place && same(&state, &zero));
+    state = reduced;
+    struct sheet_cut_answer cut = sheet_cut(bytes, length, &state);
+    CHECK(cut.number == number && cut.place == place && same(&state, &zero));
+    CHECK(cut.steps == 0 && cut.kind == SHEET_NO_VERDICT && all_zero(cut.build, sizeof cut.build));
     struct sheet_text_answer printed = sheet_text(bytes, length);
     CHECK(is_text(&printed, text));
 }
@@ -92,10 +95,13 @@ static void check_bytes(void) {
         {7, 1, 6, 14},   {7, 3, 6, 22}, {8, 0, 7, 8}, {9, 0, 7, 8},  {9, 4, 7, 8},  {14, 4, 7, 14},  {14, 3, 19, 14},
         {15, 1, 19, 14}, {8, 2, 19, 8}, {9, 1, 19, 8}, {14, 1, 6, 20}, {11, 8, 8, 10},
     };
-    struct sheet_read_answer read = sheet_read(CASE_A, LENGTH_A);
-    CHECK(read.number == SHEET_NOT_REFUSED && read.place == 0 && same(&read.state, &fresh));
-    struct sheet_cut_answer cut = sheet_cut(CASE_A, LENGTH_A);
-    CHECK(cut.number == SHEET_NOT_REFUSED && cut.place == 0 && cut.steps == 2 && same(&cut.state, &reduced));
+    struct sheet_state state;
+    memset(&state, 0xff, sizeof state);
+    struct sheet_read_answer read = sheet_read(CASE_A, LENGTH_A, &state);
+    CHECK(read.number == SHEET_NOT_REFUSED && read.place == 0 && same(&state, &fresh));
+    memset(&state, 0xff, sizeof state);
+    struct sheet_cut_answer cut = sheet_cut(CASE_A, LENGTH_A, &state);
+    CHECK(cut.number == SHEET_NOT_REFUSED && cut.place == 0 && cut.steps == 2 && same(&state, &reduced));
     CHECK(cut.kind == SHEET_BUILT && cut.build[2] == 1 && all_zero(cut.build, 2) && all_zero(cut.build + 3, 13));
     struct sheet_text_answer printed = sheet_text(CASE_A, LENGTH_A);
     CHECK(is_text(&printed, TEXT_A));
@@ -115,18 +121,18 @@ static void check_bytes(void) {
 
 static void refused_step(const struct sheet_state *given, size_t leader, size_t follower, int number) {
     struct sheet_state state = *given;
-    struct sheet_step_answer answer = sheet_eliminate_state(&state, leader, follower);
+    struct sheet_step_answer answer = sheet_eliminate(&state, leader, follower);
     CHECK(answer.number == number && answer.steps == 0 && same(&state, given));
 }
 
 static void check_steps(void) {
     struct sheet_state s = fresh;
-    struct sheet_step_answer answer = sheet_eliminate(s.n, s.sizes, s.lists, s.leaders, s.stated, s.rows, 1, 2);
+    struct sheet_step_answer answer = sheet_eliminate(&s, 1, 2);
     CHECK(answer.number == 0 && answer.steps == 1 && same(&s, &stepped));
-    answer = sheet_reduce(s.n, s.sizes, s.lists, s.leaders, s.stated, s.rows);
+    answer = sheet_reduce(&s);
     CHECK(answer.number == 0 && answer.steps == 1 && same(&s, &reduced));
     s = fresh;
-    answer = sheet_reduce_state(&s);
+    answer = sheet_reduce(&s);
     CHECK(answer.number == 0 && answer.steps == 2 && same(&s, &reduced));
     refused_step(&zero, 0, 0, SHEET_CAUSE_NOT_SOUND);
     refused_step(&fresh, 0, 1, SHEET_CAUSE_OPTION_NUMBER);
@@ -136,34 +142,34 @@ static void check_steps(void) {
     refused_step(&fresh, 1, 3, SHEET_CAUSE_NOT_STATED);
     refused_step(&fresh, 3, 2, SHEET_CAUSE_NOT_FUNCTIONAL);
     s = zero;
-    answer = sheet_reduce_state(&s);
+    answer = sheet_reduce(&s);
     CHECK(answer.number == SHEET_CAUSE_NOT_SOUND && answer.steps == 0 && same(&s, &zero));
 }
 
 static void check_sound_and_verdict(void) {
-    CHECK(sheet_is_sound(fresh) && sheet_is_sound(stepped) && sheet_is_sound(reduced) && !sheet_is_sound(zero));
-    struct sheet_verdict_answer answer = sheet_verdict(reduced);
+    CHECK(sheet_is_sound(&fresh) && sheet_is_sound(&stepped) && sheet_is_sound(&reduced) && !sheet_is_sound(&zero));
+    struct sheet_verdict_answer answer = sheet_verdict(&reduced);
     CHECK(answer.number == 0 && answer.kind == SHEET_BUILT);
     CHECK(answer.build[2] == 1 && all_zero(answer.build, 2) && all_zero(answer.build + 3, 13));
-    answer = sheet_verdict(fresh);
+    answer = sheet_verdict(&fresh);
     CHECK(answer.number == 0 && answer.kind == SHEET_OPEN && all_zero(answer.build, 16));
     struct sheet_state apart = fresh; /* its three options without a table */
     memset(apart.stated, 0, sizeof apart.stated);
     memset(apart.rows, 0, sizeof apart.rows);
     apart.lists[1] = 6;
-    answer = sheet_verdict(apart);
+    answer = sheet_verdict(&apart);
     CHECK(answer.number == 0 && answer.kind == SHEET_BUILT && answer.build[1] == 1);
     CHECK(answer.build[0] == 0 && all_zero(answer.build + 2, 14));
     struct sheet_state none = fresh;
     none.lists[1] = 0;
-    answer = sheet_verdict(none);
+    answer = sheet_verdict(&none);
     CHECK(answer.number == 0 && answer.kind == SHEET_NONE && all_zero(answer.build, 16));
-    answer = sheet_verdict(zero);
-    CHECK(answer.number == SHEET_CAUSE_NOT_SOUND && answer.kind == 0 && all_zero(answer.build, 16));
+    answer = sheet_verdict(&zero);
+    CHECK(answer.number == SHEET_CAUSE_NOT_SOUND && answer.kind == SHEET_NO_VERDICT && all_zero(answer.build, 16));
 }
 
 static void tested(const struct sheet_state *state, const uint8_t *build, size_t length, int number, bool is_build) {
-    struct sheet_test_answer answer = sheet_test(*state, build, length);
+    struct sheet_test_answer answer = sheet_test(state, build, length);
     CHECK(answer.number == number && answer.is_build == is_build);
 }
 
@@ -171,7 +177,7 @@ static void tested(const struct sheet_state *state, const uint8_t *build, size_t
 static void completed(const struct sheet_state *state, const uint8_t *build, size_t length, int number, const uint8_t *left) {
     uint8_t buffer[4];
     memcpy(buffer, build, sizeof buffer);
-    CHECK(sheet_complete(*state, buffer, length) == number);
+    CHECK(sheet_complete(state, buffer, length) == number);
     CHECK(memcmp(buffer, left, sizeof buffer) == 0);
 }
 
@@ -190,7 +196,7 @@ static void check_builds(void) {
         completed(state, low, 3, 0, low);
         completed(state, low, 4, SHEET_CAUSE_BUILD_LENGTH, low);
         completed(state, beyond, 3, SHEET_CAUSE_VALUE, beyond);
-        CHECK(sheet_complete(*state, NULL, 0) == SHEET_CAUSE_BUILD_LENGTH);
+        CHECK(sheet_complete(state, NULL, 0) == SHEET_CAUSE_BUILD_LENGTH);
     }
     completed(&reduced, low_asked, 3, 0, low);
     completed(&reduced, high_asked, 3, 0, high);
@@ -205,7 +211,7 @@ static void written(const struct sheet_state *state, size_t length, int number, 
     memset(buffer, 0xee, sizeof buffer);
     memset(left, 0xee, sizeof left);
     memcpy(left, CASE_A, answered);
-    struct sheet_write_answer answer = sheet_write(*state, buffer, length);
+    struct sheet_write_answer answer = sheet_write(state, buffer, length);
     CHECK(answer.number == number && answer.length == answered);
     CHECK(memcmp(buffer, left, sizeof left) == 0);
 }
@@ -216,8 +222,42 @@ static void check_writing(void) {
     written(&fresh, LENGTH_A - 1, SHEET_CAUSE_BUFFER_LENGTH, 0);
     written(&stepped, 0, SHEET_CAUSE_NOT_AS_READ, 0);
     written(&zero, LENGTH_A, SHEET_CAUSE_NOT_SOUND, 0);
-    struct sheet_write_answer answer = sheet_write(fresh, NULL, 0);
+    struct sheet_write_answer answer = sheet_write(&fresh, NULL, 0);
     CHECK(answer.number == SHEET_CAUSE_BUFFER_LENGTH && answer.length == 0);
+}
+
+/* The same from both sides, and no for what no state has. */
+static void check_allows(void) {
+    CHECK(sheet_allows(&fresh, 1, 0, 2, 1) && sheet_allows(&fresh, 2, 1, 1, 0) && !sheet_allows(&fresh, 1, 0, 2, 0));
+    CHECK(!sheet_allows(&fresh, 0, 0, 0, 0) && !sheet_allows(&fresh, 16, 0, 0, 0) && !sheet_allows(&fresh, 0, 0, 1, 32));
+}
+
+/* A refused call on a state stores neither in it nor in a buffer: on pages that may only be read it ends as ever. */
+struct locked {
+    struct sheet_state fresh, stepped, zero;
+    uint8_t bytes[LENGTH_A];
+};
+
+static void check_read_only(void) {
+    void *page = mmap(NULL, sizeof(struct locked), PROT_READ | PROT_WRITE, MAP_PRIVATE | MAP_ANONYMOUS, -1, 0);
+    CHECK(page != MAP_FAILED);
+    if (page == MAP_FAILED) return;
+    struct locked *held = (struct locked *)page;
+    held->fresh = fresh, held->stepped = stepped, held->zero = zero;
+    CHECK(mprotect(page, sizeof(struct locked), PROT_READ) == 0);
+    CHECK(sheet_eliminate(&held->zero, 1, 2).number == SHEET_CAUSE_NOT_SOUND);
+    CHECK(sheet_eliminate(&held->fresh, 0, 2).number == SHEET_CAUSE_OPTION_NUMBER);
+    CHECK(sheet_eliminate(&held->stepped, 1, 2).number == SHEET_CAUSE_NOT_LIVE);
+    CHECK(sheet_eliminate(&held->fresh, 1, 3).number == SHEET_CAUSE_NOT_STATED);
+    CHECK(sheet_eliminate(&held->fresh, 3, 2).number == SHEET_CAUSE_NOT_FUNCTIONAL);
+    CHECK(sheet_reduce(&held->zero).number == SHEET_CAUSE_NOT_SOUND);
+    CHECK(sheet_complete(&held->zero, held->bytes, 3) == SHEET_CAUSE_NOT_SOUND);
+    CHECK(sheet_complete(&held->fresh, held->bytes, 4) == SHEET_CAUSE_BUILD_LENGTH);
+    CHECK(sheet_complete(&held->fresh, held->bytes, 3) == SHEET_CAUSE_VALUES_FORBIDDEN);
+    CHECK(sheet_write(&held->zero, held->bytes, LENGTH_A).number == SHEET_CAUSE_NOT_SOUND);
+    CHECK(sheet_write(&held->stepped, held->bytes, LENGTH_A).number == SHEET_CAUSE_NOT_AS_READ);
+    CHECK(sheet_write(&held->fresh, held->bytes, LENGTH_A - 1).number == SHEET_CAUSE_BUFFER_LENGTH);
+    munmap(page, sizeof(struct locked));
 }
 
 /* Each number has a text of its own. */
@@ -238,15 +278,15 @@ static uint8_t bytes[LENGTH_A];
 static struct sheet_state held;
 static ucontext_t outer, inner;
 
-static void read_it(void) { held = sheet_read(CASE_A, LENGTH_A).state; }
-static void write_it(void) { sheet_write(fresh, bytes, LENGTH_A); }
-static void sound_it(void) { bytes[0] = sheet_is_sound(reduced); }
-static void follow_it(void) { held = fresh, sheet_eliminate_state(&held, 1, 2); }
-static void reduce_it(void) { held = fresh, sheet_reduce_state(&held); }
-static void test_it(void) { bytes[0] = sheet_test(reduced, bytes, 3).number; }
-static void complete_it(void) { memset(bytes, 0, 3), sheet_complete(reduced, bytes, 3); }
-static void verdict_it(void) { bytes[0] = sheet_verdict(reduced).kind; }
-static void cut_it(void) { held = sheet_cut(CASE_A, LENGTH_A).state; }
+static void read_it(void) { sheet_read(CASE_A, LENGTH_A, &held); }
+static void write_it(void) { sheet_write(&fresh, bytes, LENGTH_A); }
+static void sound_it(void) { bytes[0] = sheet_is_sound(&reduced); }
+static void follow_it(void) { held = fresh, sheet_eliminate(&held, 1, 2); }
+static void reduce_it(void) { held = fresh, sheet_reduce(&held); }
+static void test_it(void) { bytes[0] = sheet_test(&reduced, bytes, 3).number; }
+static void complete_it(void) { memset(bytes, 0, 3), sheet_complete(&reduced, bytes, 3); }
+static void verdict_it(void) { bytes[0] = sheet_verdict(&reduced).kind; }
+static void cut_it(void) { sheet_cut(CASE_A, LENGTH_A, &held); }
 static void text_it(void) { bytes[0] = (uint8_t)sheet_text(CASE_A, LENGTH_A).length; }
 
 static void run_on_own_stack(void (*call)(void)) {
@@ -277,6 +317,8 @@ int main(void) {
     check_sound_and_verdict();
     check_builds();
     check_writing();
+    check_allows();
+    check_read_only();
     check_texts();
     check_stack();
     return wrong;

@@ -26,15 +26,16 @@ int main(int argc, char **argv) {
     if (ferror(file)) {
         return failed(name);
     }
-    struct sheet_read_answer read = sheet_read(bytes, length);
+    static struct sheet_state state;
+    struct sheet_read_answer read = sheet_read(bytes, length, &state);
     if (read.number != SHEET_NOT_REFUSED) {
         fprintf(stderr, "%s: refused with %d at byte %zu: %s\n", name, read.number, read.place, sheet_cause_text(read.number));
         return 1;
     }
-    sheet_reduce_state(&read.state);
-    for (size_t i = 0; i < read.state.n; i++) {
-        if (read.state.leaders[i] == 0) {
-            printf("option %zu list %04X\n", i + 1, (unsigned)read.state.lists[i]);
+    sheet_reduce(&state);
+    for (size_t i = 0; i < state.n; i++) {
+        if (state.leaders[i] == 0) {
+            printf("option %zu list %04X\n", i + 1, (unsigned)state.lists[i]);
         }
     }
     /* what is printed may still be on its way */

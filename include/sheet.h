@@ -10,16 +10,20 @@
  * (under "Memory"), are outside the proof.
  *
  * Refusals. `number` is 0 where a call is not refused, else the number of the cause, one of `enum sheet_cause`. Where several
- * causes hold, the one tested first is answered. A refused call changes nothing that it is lent, and all other parts of its
- * answer are zero, but for a place.
+ * causes hold, the one tested first is answered. A refused call on a state stores nothing in it, nor in a buffer that it is
+ * lent: both may be read-only, and others may read them meanwhile. All other parts of its answer are zero, but for a place.
+ * sheet_read and sheet_cut always store a state: the zero state where the sheet is refused.
  *
  * Memory. Bytes and buffers cross as a pointer and a length: so many bytes may be read there (of a buffer, also written) until
  * the call returns. With length 0 the pointer may be anything, NULL too: nothing is read or written through it. Any other
  * pointer points to what its type says. What a call writes must not overlap anything else that it is lent. Nothing is
  * allocated, and nothing is kept after a call.
  *
- * Stack. SHEET_STACK_BYTES are enough for any call, a state that it takes by value included; what the caller holds himself,
- * such as an answer, is not.
+ * States. Every call on a state takes a pointer to one, to a const one where it only looks. Each such call is an inline
+ * function that hands the state's arrays to the function of the library, NAME_parts; callers in a language that cannot use an
+ * inline function declare and call that one. No state is copied.
+ *
+ * Stack. SHEET_STACK_BYTES are enough for any call; what the caller holds himself, such as a state, is not counted.
  *
  * Threads. The library has no global state: calls on different states and buffers may run at the same time.
  *
@@ -35,15 +39,16 @@
 
 /* The version of these declarations: MAJOR rises where a caller has to be changed or compiled anew, MINOR where something is
  * added. The version in byte 0 of a sheet is another number. */
-#define SHEET_VERSION_MAJOR 1
-#define SHEET_VERSION_MINOR 2
+#define SHEET_VERSION_MAJOR 2
+#define SHEET_VERSION_MINOR 0
 
 #define SHEET_LARGEST_BYTES 4101 /* "The largest sheet has 4,101 bytes" */
 #define SHEET_MOST_OPTIONS 16    /* length of the arrays that hold something for each option */
-#define SHEET_MOST_VALUES 16     /* bits of a list or row that may be set */
-#define SHEET_ROWS 4096          /* SHEET_MOST_OPTIONS x SHEET_MOST_OPTIONS pairs of SHEET_MOST_VALUES rows */
+#define SHEET_MOST_VALUES 16     /* the largest size: bits of a list or row that may be set */
+#define SHEET_PAIR_ROWS 32       /* rows that a state has room for in each pair */
+#define SHEET_ROWS 3840          /* 120 pairs of SHEET_PAIR_ROWS rows */
 #define SHEET_TEXT_BYTES 512     /* longer than any text that sheetcut prints */
-#define SHEET_STACK_BYTES 24576  /* the object code takes at most 16,752; the rest is for memcpy and memset, and margin */
+#define SHEET_STACK_BYTES 24576  /* the object code takes at most 17,656 (sheet_text); the rest is for memcpy and memset, and margin */
 
 #ifdef __cplusplus
 extern "C" {
@@ -108,17 +113,31 @@ static inline const char *sheet_cause_text(unsigned number) {
 struct sheet_state {
     size_t n;                               /* how many options, 1 to 16 */
     uint8_t sizes[SHEET_MOST_OPTIONS];      /* how many values each has, 1 to 16 */
-    uint16_t lists[SHEET_MOST_OPTIONS];     /* bit v: value v is still open */
+    uint32_t lists[SHEET_MOST_OPTIONS];     /* bit v: value v is still open */
     uint8_t leaders[SHEET_MOST_OPTIONS];    /* 0 for a live option, else the number of its leader */
-    uint16_t stated[SHEET_MOST_OPTIONS];    /* bit j of stated[i]: options i and j have a table */
-    uint16_t rows[SHEET_ROWS];              /* bit b of rows[(i * 16 + j) * 16 + a]: value a of i goes with value b of j */
+    uint32_t stated[SHEET_MOST_OPTIONS];    /* bit j of stated[i]: options i and j have a table */
+    uint32_t rows[SHEET_ROWS];              /* each pair of options once, from its lower one: see sheet_row_place */
 };
+
+/* Where the row of value a of option i against the higher option j stands in `rows`, i and j counted from 0, i below j, j below
+ * SHEET_MOST_OPTIONS, a below SHEET_PAIR_ROWS. Bit b of it: value a of i goes with value b of j. */
+static inline size_t sheet_row_place(size_t i, size_t j, size_t a) {
+    return (j * (j - 1) / 2 + i) * SHEET_PAIR_ROWS + a;
+}
+
+/* Whether the table of options i and j allows value a of i with value b of j, whichever option is lower; options counted from
+ * 0. No where nothing is stated, where i is j, and for numbers that no state has. */
+static inline bool sheet_allows(const struct sheet_state *state, size_t i, size_t a, size_t j, size_t b) {
+    if (i >= SHEET_MOST_OPTIONS || j >= SHEET_MOST_OPTIONS || a >= SHEET_PAIR_ROWS || b >= SHEET_PAIR_ROWS || i == j) {
+        return false;
+    }
+    return i < j ? (state->rows[sheet_row_place(i, j, a)] >> b & 1) != 0 : (state->rows[sheet_row_place(j, i, b)] >> a & 1) != 0;
+}
 
 /* Reading. */
 struct sheet_read_answer {
     uint8_t number;
-    size_t place;              /* the byte that a refusal is about, counted from 0; 0 where nothing is refused */
-    struct sheet_state state;  /* the state read; the zero state after a refusal */
+    size_t place;  /* the byte that a refusal is about, counted from 0; 0 where nothing is refused */
 };
 
 /* A follow step or a full reduction; the state is changed where it is. */
@@ -139,8 +158,8 @@ struct sheet_test_answer {
     bool is_build;
 };
 
-/* What a verdict can be. */
-enum sheet_verdict_kind { SHEET_NONE = 0, SHEET_BUILT = 1, SHEET_OPEN = 2 };
+/* What a verdict can be. 0 goes with a refusal. */
+enum sheet_verdict_kind { SHEET_NO_VERDICT = 0, SHEET_NONE = 1, SHEET_BUILT = 2, SHEET_OPEN = 3 };
 
 /* The verdict. */
 struct sheet_verdict_answer {
@@ -156,7 +175,6 @@ struct sheet_cut_answer {
     size_t steps;                       /* of the reduction */
     uint8_t kind;                       /* of the verdict, with its build */
     uint8_t build[SHEET_MOST_OPTIONS];
-    struct sheet_state state;           /* the reduced state; the zero state after a refusal */
 };
 
 /* What sheetcut prints. */
@@ -165,62 +183,101 @@ struct sheet_text_answer {
     uint8_t bytes[SHEET_TEXT_BYTES];  /* zero past length */
 };
 
-/* Reads a sheet of any length and contents: full lists, no leader, and exactly the tables of the sheet are stated.
+/* The functions of the library on the arrays of a state; each is described at the call without _parts below. */
+struct sheet_read_answer sheet_read_parts(const uint8_t *bytes, size_t length, size_t *n, uint8_t sizes[SHEET_MOST_OPTIONS],
+                                          uint32_t lists[SHEET_MOST_OPTIONS], uint8_t leaders[SHEET_MOST_OPTIONS],
+                                          uint32_t stated[SHEET_MOST_OPTIONS], uint32_t rows[SHEET_ROWS]);
+struct sheet_write_answer sheet_write_parts(size_t n, const uint8_t sizes[SHEET_MOST_OPTIONS],
+                                            const uint32_t lists[SHEET_MOST_OPTIONS], const uint8_t leaders[SHEET_MOST_OPTIONS],
+                                            const uint32_t stated[SHEET_MOST_OPTIONS], const uint32_t rows[SHEET_ROWS],
+                                            uint8_t *buffer, size_t length);
+bool sheet_is_sound_parts(size_t n, const uint8_t sizes[SHEET_MOST_OPTIONS], const uint32_t lists[SHEET_MOST_OPTIONS],
+                          const uint8_t leaders[SHEET_MOST_OPTIONS], const uint32_t stated[SHEET_MOST_OPTIONS],
+                          const uint32_t rows[SHEET_ROWS]);
+struct sheet_step_answer sheet_eliminate_parts(size_t n, const uint8_t sizes[SHEET_MOST_OPTIONS],
+                                               uint32_t lists[SHEET_MOST_OPTIONS], uint8_t leaders[SHEET_MOST_OPTIONS],
+                                               uint32_t stated[SHEET_MOST_OPTIONS], uint32_t rows[SHEET_ROWS], size_t leader,
+                                               size_t follower);
+struct sheet_step_answer sheet_reduce_parts(size_t n, const uint8_t sizes[SHEET_MOST_OPTIONS],
+                                            uint32_t lists[SHEET_MOST_OPTIONS], uint8_t leaders[SHEET_MOST_OPTIONS],
+                                            uint32_t stated[SHEET_MOST_OPTIONS], uint32_t rows[SHEET_ROWS]);
+struct sheet_test_answer sheet_test_parts(size_t n, const uint8_t sizes[SHEET_MOST_OPTIONS],
+                                          const uint32_t lists[SHEET_MOST_OPTIONS], const uint8_t leaders[SHEET_MOST_OPTIONS],
+                                          const uint32_t stated[SHEET_MOST_OPTIONS], const uint32_t rows[SHEET_ROWS],
+                                          const uint8_t *build, size_t length);
+uint8_t sheet_complete_parts(size_t n, const uint8_t sizes[SHEET_MOST_OPTIONS], const uint32_t lists[SHEET_MOST_OPTIONS],
+                             const uint8_t leaders[SHEET_MOST_OPTIONS], const uint32_t stated[SHEET_MOST_OPTIONS],
+                             const uint32_t rows[SHEET_ROWS], uint8_t *build, size_t length);
+struct sheet_verdict_answer sheet_verdict_parts(size_t n, const uint8_t sizes[SHEET_MOST_OPTIONS],
+                                                const uint32_t lists[SHEET_MOST_OPTIONS],
+                                                const uint8_t leaders[SHEET_MOST_OPTIONS],
+                                                const uint32_t stated[SHEET_MOST_OPTIONS], const uint32_t rows[SHEET_ROWS]);
+struct sheet_cut_answer sheet_cut_parts(const uint8_t *bytes, size_t length, size_t *n, uint8_t sizes[SHEET_MOST_OPTIONS],
+                                        uint32_t lists[SHEET_MOST_OPTIONS], uint8_t leaders[SHEET_MOST_OPTIONS],
+                                        uint32_t stated[SHEET_MOST_OPTIONS], uint32_t rows[SHEET_ROWS]);
+
+/* Reads a sheet of any length and contents into `state`: full lists, no leader, and exactly the tables of the sheet are stated.
+ * What the state held before does not matter.
  * Numbers 1 to 8, 19 and 20: "Number 1 is tested first, then 2, then fields in file order; at each field 6 precedes its own number."
- * A refusal answers its place and the zero state. */
-struct sheet_read_answer sheet_read(const uint8_t *bytes, size_t length);
+ * A refusal answers its place and stores the zero state. */
+static inline struct sheet_read_answer sheet_read(const uint8_t *bytes, size_t length, struct sheet_state *state) {
+    return sheet_read_parts(bytes, length, &state->n, state->sizes, state->lists, state->leaders, state->stated, state->rows);
+}
 
 /* Writes the sheet of a state that is as just read, and answers its length; bytes past its end are left as they were.
  * Numbers 9, 18, 17, tested in this order. A refusal leaves the buffer as it was.
  * Reading what was written gives the same state; writing what was read, into enough space, gives the same bytes. */
-struct sheet_write_answer sheet_write(struct sheet_state state, uint8_t *buffer, size_t length);
-
-/* Whether a state is sound. No numbers. */
-bool sheet_is_sound(struct sheet_state state);
-
-/* One follow step, `follower` to follow `leader`, on the arrays of a state, where they are; answers 1 step.
- * Numbers 9 to 13, tested upward. A refusal leaves the arrays as they were and answers 0 steps.
- * The builds of the state stay the same: none is lost and none gained. */
-struct sheet_step_answer sheet_eliminate(size_t n, const uint8_t sizes[SHEET_MOST_OPTIONS], uint16_t lists[SHEET_MOST_OPTIONS],
-                                         uint8_t leaders[SHEET_MOST_OPTIONS], uint16_t stated[SHEET_MOST_OPTIONS],
-                                         uint16_t rows[SHEET_ROWS], size_t leader, size_t follower);
-
-/* The full reduction, on arrays as above: "takes the lowest i that has a legal j, with the lowest such j, and repeats until no
- * step is legal". Answers how many steps it took, at most n - 1.
- * Number 9. A refusal leaves the arrays as they were and answers 0 steps.
- * The builds of the state stay the same. */
-struct sheet_step_answer sheet_reduce(size_t n, const uint8_t sizes[SHEET_MOST_OPTIONS], uint16_t lists[SHEET_MOST_OPTIONS],
-                                      uint8_t leaders[SHEET_MOST_OPTIONS], uint16_t stated[SHEET_MOST_OPTIONS],
-                                      uint16_t rows[SHEET_ROWS]);
-
-/* sheet_eliminate on a state, in place. */
-static inline struct sheet_step_answer sheet_eliminate_state(struct sheet_state *state, size_t leader, size_t follower) {
-    return sheet_eliminate(state->n, state->sizes, state->lists, state->leaders, state->stated, state->rows, leader, follower);
+static inline struct sheet_write_answer sheet_write(const struct sheet_state *state, uint8_t *buffer, size_t length) {
+    return sheet_write_parts(state->n, state->sizes, state->lists, state->leaders, state->stated, state->rows, buffer, length);
 }
 
-/* sheet_reduce on a state, in place. */
-static inline struct sheet_step_answer sheet_reduce_state(struct sheet_state *state) {
-    return sheet_reduce(state->n, state->sizes, state->lists, state->leaders, state->stated, state->rows);
+/* Whether a state is sound. No numbers. */
+static inline bool sheet_is_sound(const struct sheet_state *state) {
+    return sheet_is_sound_parts(state->n, state->sizes, state->lists, state->leaders, state->stated, state->rows);
+}
+
+/* One follow step, `follower` to follow `leader`, in place; answers 1 step.
+ * Numbers 9 to 13, tested upward. A refusal leaves the state as it was and answers 0 steps.
+ * The builds of the state stay the same: none is lost and none gained. */
+static inline struct sheet_step_answer sheet_eliminate(struct sheet_state *state, size_t leader, size_t follower) {
+    return sheet_eliminate_parts(state->n, state->sizes, state->lists, state->leaders, state->stated, state->rows, leader, follower);
+}
+
+/* The full reduction, in place: "takes the lowest i that has a legal j, with the lowest such j, and repeats until no step is
+ * legal". Answers how many steps it took, at most n - 1.
+ * Number 9. A refusal leaves the state as it was and answers 0 steps.
+ * The builds of the state stay the same. */
+static inline struct sheet_step_answer sheet_reduce(struct sheet_state *state) {
+    return sheet_reduce_parts(state->n, state->sizes, state->lists, state->leaders, state->stated, state->rows);
 }
 
 /* The tester, on n bytes, a value for each option: "yes exactly when each value is in its option's list and each stated pair
  * allows its two values".
  * Numbers 9, 14, 15, tested in this order. A refusal answers false. */
-struct sheet_test_answer sheet_test(struct sheet_state state, const uint8_t *build, size_t length);
+static inline struct sheet_test_answer sheet_test(const struct sheet_state *state, const uint8_t *build, size_t length) {
+    return sheet_test_parts(state->n, state->sizes, state->lists, state->leaders, state->stated, state->rows, build, length);
+}
 
 /* The completer, on n bytes: "reads the bytes of live options and writes those of followers; what the follower bytes held before
  * does not matter". What it leaves is the only build of the state with these values of the live options. Answers the number.
  * Numbers 9, 14, 15, 16, tested in this order. A refusal leaves the buffer as it was. */
-uint8_t sheet_complete(struct sheet_state state, uint8_t *build, size_t length);
+static inline uint8_t sheet_complete(const struct sheet_state *state, uint8_t *build, size_t length) {
+    return sheet_complete_parts(state->n, state->sizes, state->lists, state->leaders, state->stated, state->rows, build, length);
+}
 
 /* The verdict of a state as it is: NONE if some live list is empty; else "BUILT when no live list is empty and no two live options
  * are stated together. Each live option then takes its lowest value"; else OPEN. "The verdict does not reduce first."
- * Number 9. A refusal answers kind 0 (as SHEET_NONE) and no build: look at the number first. */
-struct sheet_verdict_answer sheet_verdict(struct sheet_state state);
+ * Number 9. A refusal answers SHEET_NO_VERDICT and no build. */
+static inline struct sheet_verdict_answer sheet_verdict(const struct sheet_state *state) {
+    return sheet_verdict_parts(state->n, state->sizes, state->lists, state->leaders, state->stated, state->rows);
+}
 
-/* What sheet_read, sheet_reduce and sheet_verdict answer one after the other.
- * Numbers 1 to 8, 19 and 20, as sheet_read. A refusal answers its place and the zero state, 0 steps, kind 0 and no build. */
-struct sheet_cut_answer sheet_cut(const uint8_t *bytes, size_t length);
+/* What sheet_read, sheet_reduce and sheet_verdict answer one after the other; the reduced state is stored in `state`.
+ * Numbers 1 to 8, 19 and 20, as sheet_read. A refusal answers its place, 0 steps, SHEET_NO_VERDICT and no build, and stores the
+ * zero state. */
+static inline struct sheet_cut_answer sheet_cut(const uint8_t *bytes, size_t length, struct sheet_state *state) {
+    return sheet_cut_parts(bytes, length, &state->n, state->sizes, state->lists, state->leaders, state->stated, state->rows);
+}
 
 /* The text that sheetcut prints for these bytes, which may be a refusal's. No numbers. */
 struct sheet_text_answer sheet_text(const uint8_t *bytes, size_t length);
@@ -240,17 +297,16 @@ struct sheet_text_answer sheet_text(const uint8_t *bytes, size_t length);
 #define SHEET_AT(type, field, at) SHEET_HOLDS(type##_##field, offsetof(struct type, field) == (at))
 #define SHEET_HAS(type, bytes) SHEET_HOLDS(type##_whole, sizeof(struct type) == (bytes))
 
-SHEET_HOLDS(arrays, SHEET_ROWS == SHEET_MOST_OPTIONS * SHEET_MOST_OPTIONS * SHEET_MOST_VALUES);
+SHEET_HOLDS(arrays, SHEET_ROWS == SHEET_MOST_OPTIONS * (SHEET_MOST_OPTIONS - 1) / 2 * SHEET_PAIR_ROWS);
 SHEET_AT(sheet_state, n, 0);
 SHEET_AT(sheet_state, sizes, 8);
 SHEET_AT(sheet_state, lists, 24);
-SHEET_AT(sheet_state, leaders, 56);
-SHEET_AT(sheet_state, stated, 72);
-SHEET_AT(sheet_state, rows, 104);
-SHEET_HAS(sheet_state, 8296);
+SHEET_AT(sheet_state, leaders, 88);
+SHEET_AT(sheet_state, stated, 104);
+SHEET_AT(sheet_state, rows, 168);
+SHEET_HAS(sheet_state, 15528);
 SHEET_AT(sheet_read_answer, place, 8);
-SHEET_AT(sheet_read_answer, state, 16);
-SHEET_HAS(sheet_read_answer, 8312);
+SHEET_HAS(sheet_read_answer, 16);
 SHEET_AT(sheet_step_answer, steps, 8);
 SHEET_HAS(sheet_step_answer, 16);
 SHEET_AT(sheet_write_answer, length, 8);
@@ -264,8 +320,7 @@ SHEET_AT(sheet_cut_answer, place, 8);
 SHEET_AT(sheet_cut_answer, steps, 16);
 SHEET_AT(sheet_cut_answer, kind, 24);
 SHEET_AT(sheet_cut_answer, build, 25);
-SHEET_AT(sheet_cut_answer, state, 48);
-SHEET_HAS(sheet_cut_answer, 8344);
+SHEET_HAS(sheet_cut_answer, 48);
 SHEET_AT(sheet_text_answer, bytes, 8);
 SHEET_HAS(sheet_text_answer, 520);
 

@@ -1,5 +1,5 @@
 //! Sheets, states and buffers to try.
-use crate::proved::State;
+use crate::proved::{row_place, State, ROWS};
 
 /// A small generator of random numbers (splitmix64), so that a run can be repeated.
 pub struct Random(pub u64);
@@ -222,46 +222,47 @@ pub fn random_state(random: &mut Random) -> State {
     };
     for i in 0..16 {
         state.sizes[i] = random.below(18) as u8;
-        state.lists[i] = random.next() as u16;
+        state.lists[i] = random.next() as u32;
         state.leaders[i] = random.below(18) as u8;
-        state.stated[i] = random.next() as u16;
-        for j in 0..16 {
-            for a in 0..16 {
-                state.rows[i][j][a] = random.next() as u16;
-            }
-        }
+        state.stated[i] = random.next() as u32;
+    }
+    for at in 0..ROWS {
+        state.rows[at] = random.next() as u32;
     }
     state
+}
+
+/// The place of a row of two different options, in either order.
+fn row_of(i: usize, j: usize, a: usize) -> usize {
+    row_place(i.min(j), i.max(j), a)
 }
 
 /// Changes one or two entries of a state; many of the results are still sound.
 pub fn damage_state(state: &mut State, random: &mut Random) {
     let n = state.n.clamp(1, 16);
     for _ in 0..1 + random.below(2) {
-        let (i, j, a) = (random.below(16), random.below(16), random.below(16));
+        // half of the bits lie where no value can be
+        let (i, j, a) = (random.below(16), random.below(16), random.below(32));
         let near = random.below(n);
-        match random.below(12) {
+        let other = random.below(n);
+        let size = state.sizes[near].clamp(1, 16) as usize;
+        match random.below(13) {
             0 => state.n = [0, n - 1, n + 1, 16, 17, usize::MAX][random.below(6)],
-            1 => state.sizes[i] = [0, 1, 16, 17, 255, state.sizes[i].wrapping_add(1)][random.below(6)],
+            1 => state.sizes[i] = [0, 1, 16, 17, 32, 255, state.sizes[i].wrapping_add(1)][random.below(7)],
             2 => state.lists[i] ^= 1 << a,
-            3 => state.lists[near] &= random.next() as u16,
+            3 => state.lists[near] &= random.next() as u32,
             4 => state.leaders[i] = random.below(18) as u8,
             5 => state.leaders[near] = 1 + random.below(n) as u8,
-            6 => state.stated[i] ^= 1 << j,
+            6 => state.stated[i] ^= 1 << a,
             7 => {
                 // a pair stated or unstated from both sides
-                let other = random.below(n);
                 state.stated[near] ^= 1 << other;
                 state.stated[other] ^= 1 << near;
             }
-            8 => state.rows[i][j][a] ^= 1 << random.below(16),
-            9 => state.rows[near][random.below(n)][a] ^= 1 << random.below(16),
-            10 => {
-                // one bit of a pair from both sides
-                let (other, b) = (random.below(n), random.below(16));
-                state.rows[near][other][a] ^= 1 << b;
-                state.rows[other][near][b] ^= 1 << a;
-            }
+            8 if i != j => state.rows[row_of(i, j, a)] ^= 1 << random.below(32),
+            9 if near != other => state.rows[row_of(near, other, a)] ^= 1 << random.below(16),
+            10 if near != other => state.rows[row_of(near, other, random.below(size))] ^= 1 << random.below(size),
+            11 => state.lists[near] ^= 1 << random.below(size),
             _ => state.lists[near] = 0,
         }
     }
@@ -274,7 +275,7 @@ pub fn buffer(build: &[u8], length: usize, random: &mut Random) -> Vec<u8> {
         .map(|i| match build.get(i) {
             Some(&value) if !random.chance(8) => value,
             _ if wild => random.next() as u8,
-            _ => random.below(17) as u8,
+            _ => random.below(34) as u8,
         })
         .collect()
 }

@@ -1,61 +1,81 @@
 //! Documents 01 and 02 in plain Rust, written for speed: bit-parallel, in place, early ways out, no copy of a state.
-use crate::proved::{State, Stepped, Tested, Verdict, Written, BUILT, NONE, OPEN};
+use crate::proved::{State, Stepped, Tested, Verdict, Written, BUILT, NONE, NO_VERDICT, OPEN, PAIR_ROWS, ROWS};
 
 const LARGEST: usize = 4101;
 
-/// The 16 rows of a pair, four to a word.
-type Block = [u64; 4];
+/// The rows of a pair, from its lower option.
+type Pair = [u32; PAIR_ROWS];
 
 /// All values below `size`.
 #[inline(always)]
-fn full(size: usize) -> u16 {
-    ((1u32 << size) - 1) as u16
+fn full(size: usize) -> u32 {
+    ((1u64 << size) - 1) as u32
+}
+
+/// Where the rows of `i` and the higher `j` begin.
+#[inline(always)]
+fn place(i: usize, j: usize) -> usize {
+    (j * (j - 1) / 2 + i) * PAIR_ROWS
 }
 
 #[inline(always)]
-fn block(rows: &[u16; 16]) -> Block {
-    std::array::from_fn(|w| {
-        (rows[4 * w] as u64) | (rows[4 * w + 1] as u64) << 16 | (rows[4 * w + 2] as u64) << 32 | (rows[4 * w + 3] as u64) << 48
-    })
+fn pair(s: &State, i: usize, j: usize) -> &Pair {
+    let at = place(i, j);
+    s.rows[at..at + PAIR_ROWS].try_into().unwrap()
 }
 
 #[inline(always)]
-fn unblock(x: Block) -> [u16; 16] {
-    std::array::from_fn(|a| (x[a / 4] >> (16 * (a % 4))) as u16)
+fn pair_mut(s: &mut State, i: usize, j: usize) -> &mut Pair {
+    let at = place(i, j);
+    (&mut s.rows[at..at + PAIR_ROWS]).try_into().unwrap()
 }
 
-/// The 16 by 16 bits transposed by delta swaps: quarters of 8, of 4, of 2 and of 1.
+/// The values whose row has a member of `set`.
 #[inline(always)]
-fn transposed(mut x: Block) -> Block {
-    for (low, high, shift, mask) in [
-        (0, 2, 8, 0x00ff_00ff_00ff_00ff),
-        (1, 3, 8, 0x00ff_00ff_00ff_00ff),
-        (0, 1, 4, 0x0f0f_0f0f_0f0f_0f0f),
-        (2, 3, 4, 0x0f0f_0f0f_0f0f_0f0f),
-    ] {
-        let swap = ((x[low] >> shift) ^ x[high]) & mask;
-        x[high] ^= swap;
-        x[low] ^= swap << shift;
+fn hits(rows: &Pair, set: u32) -> u32 {
+    let mut members = 0;
+    for (a, row) in rows.iter().enumerate() {
+        members |= ((row & set != 0) as u32) << a;
     }
-    for word in &mut x {
-        let two = ((*word >> 30) ^ *word) & 0x0000_0000_cccc_cccc;
-        *word ^= two ^ (two << 30);
-        let one = ((*word >> 15) ^ *word) & 0x0000_aaaa_0000_aaaa;
-        *word ^= one ^ (one << 15);
+    members
+}
+
+/// What the rows of the values in `set` have together.
+#[inline(always)]
+fn union(rows: &Pair, set: u32) -> u32 {
+    members(set).fold(0, |all, a| all | rows[a])
+}
+
+/// The values of `j` that go with value `a` of `i`, whichever is lower.
+#[inline(always)]
+fn row(s: &State, i: usize, j: usize, a: usize) -> u32 {
+    if i < j {
+        pair(s, i, j)[a & 31]
+    } else {
+        hits(pair(s, j, i), 1 << (a & 31))
     }
-    x
+}
+
+/// The values of `j` that go with some value in `set` of `i`, whichever is lower.
+#[inline(always)]
+fn partners(s: &State, i: usize, j: usize, set: u32) -> u32 {
+    if i < j {
+        union(pair(s, i, j), set)
+    } else {
+        hits(pair(s, j, i), set)
+    }
 }
 
 /// The members of a word, lowest first.
 #[inline(always)]
-fn members(mut x: u16) -> impl Iterator<Item = usize> {
+fn members(mut x: u32) -> impl Iterator<Item = usize> {
     std::iter::from_fn(move || {
         if x == 0 {
             return None;
         }
         let lowest = x.trailing_zeros() as usize;
         x &= x - 1;
-        Some(lowest & 15)
+        Some(lowest & 31)
     })
 }
 
@@ -114,17 +134,14 @@ fn table(bytes: &[u8], at: usize, i: usize, j: usize, state: &mut State) -> Resu
     let Some(text) = bytes.get(at..next) else {
         return Err(first_fault(&bytes[at..], at, outside));
     };
-    let rows = &mut state.rows[i][j];
     let mut all = 0;
-    for (row, two) in rows.iter_mut().zip(text.chunks_exact(2)) {
-        *row = u16::from_be_bytes([two[0], two[1]]);
+    for (row, two) in pair_mut(state, i, j).iter_mut().zip(text.chunks_exact(2)) {
+        *row = u16::from_be_bytes([two[0], two[1]]) as u32;
         all |= *row;
     }
     if all & outside != 0 {
         return Err(first_fault(text, at, outside));
     }
-    let other = transposed(block(rows));
-    state.rows[j][i] = unblock(other);
     state.stated[i] |= 1 << j;
     state.stated[j] |= 1 << i;
     Ok(next)
@@ -132,10 +149,10 @@ fn table(bytes: &[u8], at: usize, i: usize, j: usize, state: &mut State) -> Resu
 
 /// The first row that is out of range, or else where the rows are cut off.
 #[cold]
-fn first_fault(text: &[u8], at: usize, outside: u16) -> (u8, usize) {
+fn first_fault(text: &[u8], at: usize, outside: u32) -> (u8, usize) {
     let mut place = at;
     for two in text.chunks_exact(2) {
-        if u16::from_be_bytes([two[0], two[1]]) & outside != 0 {
+        if u16::from_be_bytes([two[0], two[1]]) as u32 & outside != 0 {
             return (8, place);
         }
         place += 2;
@@ -182,38 +199,39 @@ fn small_arrays_sound(s: &State) -> bool {
     let below = full(s.n);
     let mut stray = 0;
     for i in 0..16 {
-        stray |= s.stated[i] & (!below | 1 << i);
-    }
-    let pairs = block(&s.stated);
-    stray == 0 && transposed(pairs) == pairs
-}
-
-/// Unstated pairs allow nothing, and stated ones nothing outside their sizes: a mask for each pair of an option that has a table.
-fn rows_within(s: &State) -> bool {
-    let outside = s.sizes.map(|size| !full(size as usize) as u64 * 0x0001_0001_0001_0001);
-    let mut stray = [0; 4];
-    for i in 0..16 {
+        let mut others = 0;
         for j in 0..16 {
-            let x = block(&s.rows[i][j]);
-            let mask = if s.stated[i] == 0 {
-                u64::MAX
-            } else {
-                (((s.stated[i] >> j) & 1) as u64).wrapping_sub(1) | outside[j]
-            };
-            for lane in 0..4 {
-                stray[lane] |= x[lane] & mask;
-            }
+            others |= (s.stated[j] >> i & 1) << j;
         }
+        stray |= s.stated[i] & (!below | 1 << i) | s.stated[i] ^ others;
     }
-    stray == [0; 4]
+    stray == 0
 }
 
-/// Stated pairs say the same from both sides.
-fn sides_agree(s: &State) -> bool {
-    for i in 0..s.n {
-        for j in members(s.stated[i] & !full(i + 1)) {
-            if transposed(block(&s.rows[i][j])) != block(&s.rows[j][i]) {
-                return false;
+/// What these rows have together.
+#[inline(always)]
+fn together(rows: &[u32]) -> u32 {
+    rows.iter().fold(0, |all, row| all | row)
+}
+
+/// Unstated pairs allow nothing, and stated ones nothing outside their sizes.
+fn rows_within(s: &State) -> bool {
+    if together(&s.rows[s.n * (s.n - 1) / 2 * PAIR_ROWS..ROWS]) != 0 {
+        return false;
+    }
+    for j in 1..s.n {
+        let outside = !full(s.sizes[j] as usize);
+        for i in 0..j {
+            let rows = pair(s, i, j);
+            if s.stated[j] >> i & 1 == 0 {
+                if together(rows) != 0 {
+                    return false;
+                }
+            } else {
+                let (inside, past) = rows.split_at(s.sizes[i] as usize & 31);
+                if together(inside) & outside | together(past) != 0 {
+                    return false;
+                }
             }
         }
     }
@@ -232,7 +250,7 @@ fn followers_sound(s: &State) -> bool {
             return false;
         }
         for a in members(s.lists[l]) {
-            let partners = s.rows[l][i][a] & s.lists[i];
+            let partners = row(s, l, i, a) & s.lists[i];
             if partners == 0 || partners & (partners - 1) != 0 {
                 return false;
             }
@@ -242,15 +260,14 @@ fn followers_sound(s: &State) -> bool {
 }
 
 pub fn is_sound(s: &State) -> bool {
-    s.n >= 1 && s.n <= 16 && small_arrays_sound(s) && rows_within(s) && sides_agree(s) && followers_sound(s)
+    s.n >= 1 && s.n <= 16 && small_arrays_sound(s) && rows_within(s) && followers_sound(s)
 }
 
 /// No value in the list of `i` has more than one partner in the list of `j`.
 #[inline(always)]
 fn functional(s: &State, i: usize, j: usize) -> bool {
-    let rows = &s.rows[i][j];
     for a in members(s.lists[i]) {
-        let partners = rows[a] & s.lists[j];
+        let partners = row(s, i, j, a) & s.lists[j];
         if partners & partners.wrapping_sub(1) != 0 {
             return false;
         }
@@ -276,34 +293,25 @@ fn refusal(s: &State, leader: usize, follower: usize) -> u8 {
     0
 }
 
-/// A legal step. Each value of `i` has at most one partner in `j`, so a composed row is that partner's.
+/// A legal step: the composed pair is made in the rows of the lower of `i` and `k`.
 fn step(s: &mut State, i: usize, j: usize) {
     let (i, j) = (i & 15, j & 15);
-    let mut partner = [0usize; 16];
-    let mut list = 0u16;
-    for a in members(s.lists[i]) {
-        let partners = s.rows[i][j][a] & s.lists[j];
-        if partners != 0 {
-            list |= 1 << a;
-            partner[a] = partners.trailing_zeros() as usize & 15;
-        }
-    }
-    s.lists[i] = list;
+    s.lists[i] &= partners(s, j, i, s.lists[j]);
     for k in members(s.stated[j] & !(1 << i)) {
-        let mut made = [0u16; 16];
-        let through = &s.rows[j][k];
-        for a in members(list) {
-            made[a] = through[partner[a]] & s.lists[k];
+        let was = s.stated[i] >> k & 1 == 1;
+        let (l, h) = if i < k { (i, k) } else { (k, i) };
+        let mut made = [0; PAIR_ROWS];
+        for x in members(s.lists[l]) {
+            made[x] = s.lists[h] & partners(s, j, h, s.lists[j] & row(s, l, j, x));
         }
-        if s.stated[i] >> k & 1 == 1 {
-            for (row, before) in made.iter_mut().zip(&s.rows[i][k]) {
-                *row &= before;
+        let rows = pair_mut(s, l, h);
+        if was {
+            for (made, before) in made.iter_mut().zip(rows.iter()) {
+                *made &= before;
             }
         }
-        s.rows[i][k] = made;
-        s.rows[k][i] = unblock(transposed(block(&made)));
-        s.rows[j][k] = [0; 16];
-        s.rows[k][j] = [0; 16];
+        *rows = made;
+        *pair_mut(s, j.min(k), j.max(k)) = [0; PAIR_ROWS];
         s.stated[k] = (s.stated[k] | 1 << i) & !(1 << j);
         s.stated[i] |= 1 << k;
     }
@@ -332,7 +340,7 @@ pub fn eliminate(s: &mut State, leader: usize, follower: usize) -> Stepped {
 }
 
 /// The lowest live option that has a legal follower, with the lowest such follower.
-fn next_step(s: &State, live: u16) -> Option<(usize, usize)> {
+fn next_step(s: &State, live: u32) -> Option<(usize, usize)> {
     for i in members(live) {
         for j in members(s.stated[i] & live) {
             if functional(s, i, j) {
@@ -343,10 +351,10 @@ fn next_step(s: &State, live: u16) -> Option<(usize, usize)> {
     None
 }
 
-fn live(s: &State) -> u16 {
+fn live(s: &State) -> u32 {
     let mut live = 0;
     for i in 0..s.n {
-        live |= ((s.leaders[i] == 0) as u16) << i;
+        live |= ((s.leaders[i] == 0) as u32) << i;
     }
     live
 }
@@ -381,7 +389,7 @@ fn follow(s: &State, build: &mut [u8]) {
     for i in 0..s.n {
         let leader = s.leaders[i] as usize;
         if leader != 0 {
-            let row = s.rows[(leader - 1) & 15][i & 15][build[leader - 1] as usize & 15];
+            let row = row(s, (leader - 1) & 15, i & 15, build[leader - 1] as usize);
             build[i] = (row & s.lists[i]).trailing_zeros() as u8;
         }
     }
@@ -409,7 +417,7 @@ pub fn verdict(s: &State) -> Verdict {
     if !is_sound(s) {
         return Verdict {
             number: 9,
-            kind: NONE,
+            kind: NO_VERDICT,
             build: [0; 16],
         };
     }
@@ -417,12 +425,12 @@ pub fn verdict(s: &State) -> Verdict {
     Verdict { number: 0, kind, build }
 }
 
-/// Each stated pair of two options of `among` allows its two values, which are below 16.
+/// Each stated pair of two options of `among` allows its two values, which are below 32.
 #[inline(always)]
-fn pairs_allow(s: &State, among: u16, build: &[u8]) -> bool {
+fn pairs_allow(s: &State, among: u32, build: &[u8]) -> bool {
     for i in members(among) {
         for j in members(s.stated[i] & among & !full(i + 1)) {
-            if s.rows[i][j][build[i] as usize & 15] >> (build[j] & 15) & 1 == 0 {
+            if pair(s, i, j)[build[i] as usize & 31] >> (build[j] & 31) & 1 == 0 {
                 return false;
             }
         }
@@ -454,7 +462,7 @@ pub fn complete(s: &State, build: &mut [u8]) -> u8 {
         return 14;
     }
     let live = live(s);
-    if members(live).any(|i| build[i] > 15 || s.lists[i] >> build[i] & 1 == 0) {
+    if members(live).any(|i| build[i] > 31 || s.lists[i] >> build[i] & 1 == 0) {
         return 15;
     }
     if !pairs_allow(s, live, build) {
@@ -472,8 +480,8 @@ fn write_tables(s: &State, buffer: &mut [u8], mut at: usize) {
             let text = &mut buffer[at..at + length];
             text[0] = i as u8 + 1;
             text[1] = j as u8 + 1;
-            for (two, row) in text[2..].chunks_exact_mut(2).zip(&s.rows[i][j]) {
-                two.copy_from_slice(&row.to_be_bytes());
+            for (two, row) in text[2..].chunks_exact_mut(2).zip(pair(s, i, j)) {
+                two.copy_from_slice(&(*row as u16).to_be_bytes());
             }
             at += length;
         }
@@ -524,7 +532,7 @@ pub fn cut(bytes: &[u8], state: &mut State) -> Found {
         number,
         place,
         steps: 0,
-        kind: NONE,
+        kind: NO_VERDICT,
         build: [0; 16],
     };
     if number == 0 {
@@ -571,7 +579,7 @@ impl Line<'_> {
 
     /// Four upper-case hexadecimal digits.
     #[inline(always)]
-    fn list(&mut self, list: u16) {
+    fn list(&mut self, list: u32) {
         let digit = |shift: u32| b"0123456789ABCDEF"[(list >> shift & 15) as usize];
         self.word(&[digit(12), digit(8), digit(4), digit(0)]);
     }

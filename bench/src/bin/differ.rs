@@ -50,32 +50,31 @@ impl Counts {
     }
 }
 
-/// Every call on bytes: a text counts by the number of its reading.
-fn read(bytes: &[u8], counts: &mut Counts) -> Read {
-    let one = proved::read(bytes);
-    let mut state = State::ZERO;
-    let (number, place) = plain::read(bytes, &mut state);
-    counts.note(0, one.number, &one, &Read { number, place, state });
-    cut(bytes, counts);
+/// Every call on bytes, into a state that held something: a text counts by the number of its reading. The state read.
+fn read(bytes: &[u8], before: &State, counts: &mut Counts) -> State {
+    let (mut here, mut there) = (*before, *before);
+    let one = proved::read(bytes, &mut here);
+    let (number, place) = plain::read(bytes, &mut there);
+    counts.note(0, one.number, &(one, here), &(Read { number, place }, there));
+    cut(bytes, before, counts);
     let mut text = [1; 512];
     let length = plain::text(bytes, &mut text);
     counts.note(9, one.number, &proved::text(bytes), &Text { length, bytes: text });
-    one
+    here
 }
 
-fn cut(bytes: &[u8], counts: &mut Counts) {
-    let one = proved::cut(bytes);
-    let mut state = State::ZERO;
-    let found = plain::cut(bytes, &mut state);
+fn cut(bytes: &[u8], before: &State, counts: &mut Counts) {
+    let (mut here, mut there) = (*before, *before);
+    let one = proved::cut(bytes, &mut here);
+    let found = plain::cut(bytes, &mut there);
     let other = Cut {
         number: found.number,
         place: found.place,
         steps: found.steps,
         kind: found.kind,
         build: found.build,
-        state,
     };
-    counts.note(8, one.number, &one, &other);
+    counts.note(8, one.number, &(one, here), &(other, there));
 }
 
 fn write(state: &State, length: usize, random: &mut Random, counts: &mut Counts) {
@@ -145,7 +144,7 @@ fn calls(state: &State, build: &[u8], random: &mut Random, counts: &mut Counts) 
 
 /// A state as read, with every length of a buffer, and those that a list of calls leads to.
 fn from_sheet(sheet: &Sheet, random: &mut Random, counts: &mut Counts) {
-    let mut state = read(&sheet.bytes, counts).state;
+    let mut state = read(&sheet.bytes, &State::ZERO, counts);
     counts.input(READ_STATE);
     calls(&state, &sheet.build, random, counts);
     for length in 0..=20 {
@@ -176,7 +175,7 @@ fn damaged(bytes: &[u8], random: &mut Random, counts: &mut Counts) {
     for at in 0..bytes.len() {
         for what in 0..DAMAGES {
             counts.input(DAMAGED_SHEET);
-            read(&damaged_sheet(bytes, at, what, random), counts);
+            read(&damaged_sheet(bytes, at, what, random), &State::ZERO, counts);
         }
     }
 }
@@ -196,10 +195,12 @@ fn round(at: usize, random: &mut Random, counts: &mut Counts) {
         damaged(&sheet.bytes, random, counts);
     }
     counts.input(RANDOM_BYTES);
-    read(&random_bytes(random), counts);
+    let state = random_state(random);
+    read(&random_bytes(random), &state, counts);
     if at % 8 == 0 {
+        read(&sheet.bytes, &state, counts);
         counts.input(RANDOM_STATE);
-        calls(&random_state(random), &sheet.build, random, counts);
+        calls(&state, &sheet.build, random, counts);
     }
 }
 

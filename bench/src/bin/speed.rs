@@ -19,7 +19,8 @@ struct Case {
 }
 
 fn case(sheet: Sheet) -> Case {
-    let fresh = proved::read(&sheet.bytes).state;
+    let mut fresh = State::ZERO;
+    proved::read(&sheet.bytes, &mut fresh);
     let mut reduced = fresh;
     proved::reduce(&mut reduced);
     let n = fresh.n;
@@ -36,12 +37,11 @@ fn case(sheet: Sheet) -> Case {
 /// A call on a case, with a scratch state as just read and a buffer.
 type Call = fn(&Case, &mut State, &mut [u8]);
 
-/// Each call in the proved library and in plain Rust. A step and a reduction work in place in both; elsewhere a state goes by value to the proved
-/// library and is lent to plain Rust.
+/// Each call in the proved library and in plain Rust. Both are lent the state, and work in place.
 const CALLS: [(&str, Call, Call); 10] = [
     (
         "read",
-        |c, _, _| look(proved::read(&c.sheet.bytes)),
+        |c, s, _| look(proved::read(&c.sheet.bytes, s)),
         |c, s, _| look(plain::read(&c.sheet.bytes, s)),
     ),
     (
@@ -77,7 +77,7 @@ const CALLS: [(&str, Call, Call); 10] = [
     ),
     (
         "cut",
-        |c, _, _| look(proved::cut(&c.sheet.bytes)),
+        |c, s, _| look(proved::cut(&c.sheet.bytes, s)),
         |c, s, _| look(plain::cut(&c.sheet.bytes, s)),
     ),
     (

@@ -6,14 +6,15 @@
 //!
 //! ```
 //! let case_a = [1, 0, 19, 3, 2, 3, 2, 2, 1, 2, 0, 1, 0, 4, 2, 3, 0, 2, 0, 1, 0, 1];
-//! let mut state = sheet::read(&case_a).state;
+//! let mut state = sheet::State::ZERO;
+//! assert_eq!(sheet::read(&case_a, &mut state).number, 0);
 //! assert_eq!(sheet::eliminate(&mut state, 1, 3).number, sheet::Cause::NotStated.number());
 //! assert_eq!(sheet::reduce(&mut state).steps, 2);
 //! let verdict = sheet::verdict(&state);
 //! assert_eq!(verdict.kind, sheet::BUILT);
 //! assert_eq!(verdict.build[..3], [0, 0, 1]);
 //!
-//! let short = sheet::read(&case_a[..4]);
+//! let short = sheet::read(&case_a[..4], &mut state);
 //! assert_eq!((short.number, short.place), (1, 0));
 //! assert!(sheet::Cause::of(short.number).unwrap().to_string().ends_with("its count of bytes is wrong"));
 //! ```
@@ -23,33 +24,92 @@ mod state;
 pub use cause::Cause;
 pub use state::*;
 
-// A slice crosses as a pointer and a length, a state by value, or as its arrays where it is changed in place.
+// A slice crosses as a pointer and a length, a state as its arrays.
 extern "C" {
-    fn sheet_read(bytes: *const u8, length: usize) -> Read;
-    fn sheet_write(state: State, buffer: *mut u8, length: usize) -> Written;
-    fn sheet_is_sound(state: State) -> bool;
-    fn sheet_eliminate(
+    fn sheet_read_parts(
+        bytes: *const u8,
+        length: usize,
+        n: &mut usize,
+        sizes: &mut [u8; MOST_OPTIONS],
+        lists: &mut [u32; MOST_OPTIONS],
+        leaders: &mut [u8; MOST_OPTIONS],
+        stated: &mut [u32; MOST_OPTIONS],
+        rows: &mut Rows,
+    ) -> Read;
+    fn sheet_write_parts(
         n: usize,
         sizes: &[u8; MOST_OPTIONS],
-        lists: &mut [u16; MOST_OPTIONS],
+        lists: &[u32; MOST_OPTIONS],
+        leaders: &[u8; MOST_OPTIONS],
+        stated: &[u32; MOST_OPTIONS],
+        rows: &Rows,
+        buffer: *mut u8,
+        length: usize,
+    ) -> Written;
+    fn sheet_is_sound_parts(
+        n: usize,
+        sizes: &[u8; MOST_OPTIONS],
+        lists: &[u32; MOST_OPTIONS],
+        leaders: &[u8; MOST_OPTIONS],
+        stated: &[u32; MOST_OPTIONS],
+        rows: &Rows,
+    ) -> bool;
+    fn sheet_eliminate_parts(
+        n: usize,
+        sizes: &[u8; MOST_OPTIONS],
+        lists: &mut [u32; MOST_OPTIONS],
         leaders: &mut [u8; MOST_OPTIONS],
-        stated: &mut [u16; MOST_OPTIONS],
+        stated: &mut [u32; MOST_OPTIONS],
         rows: &mut Rows,
         leader: usize,
         follower: usize,
     ) -> Stepped;
-    fn sheet_reduce(
+    fn sheet_reduce_parts(
         n: usize,
         sizes: &[u8; MOST_OPTIONS],
-        lists: &mut [u16; MOST_OPTIONS],
+        lists: &mut [u32; MOST_OPTIONS],
         leaders: &mut [u8; MOST_OPTIONS],
-        stated: &mut [u16; MOST_OPTIONS],
+        stated: &mut [u32; MOST_OPTIONS],
         rows: &mut Rows,
     ) -> Stepped;
-    fn sheet_test(state: State, build: *const u8, length: usize) -> Tested;
-    fn sheet_complete(state: State, build: *mut u8, length: usize) -> u8;
-    fn sheet_verdict(state: State) -> Verdict;
-    fn sheet_cut(bytes: *const u8, length: usize) -> Cut;
+    fn sheet_test_parts(
+        n: usize,
+        sizes: &[u8; MOST_OPTIONS],
+        lists: &[u32; MOST_OPTIONS],
+        leaders: &[u8; MOST_OPTIONS],
+        stated: &[u32; MOST_OPTIONS],
+        rows: &Rows,
+        build: *const u8,
+        length: usize,
+    ) -> Tested;
+    fn sheet_complete_parts(
+        n: usize,
+        sizes: &[u8; MOST_OPTIONS],
+        lists: &[u32; MOST_OPTIONS],
+        leaders: &[u8; MOST_OPTIONS],
+        stated: &[u32; MOST_OPTIONS],
+        rows: &Rows,
+        build: *mut u8,
+        length: usize,
+    ) -> u8;
+    fn sheet_verdict_parts(
+        n: usize,
+        sizes: &[u8; MOST_OPTIONS],
+        lists: &[u32; MOST_OPTIONS],
+        leaders: &[u8; MOST_OPTIONS],
+        stated: &[u32; MOST_OPTIONS],
+        rows: &Rows,
+    ) -> Verdict;
+    fn sheet_cut_parts(
+        bytes: *const u8,
+        length: usize,
+        n: &mut usize,
+        sizes: &mut [u8; MOST_OPTIONS],
+        lists: &mut [u32; MOST_OPTIONS],
+        leaders: &mut [u8; MOST_OPTIONS],
+        stated: &mut [u32; MOST_OPTIONS],
+        rows: &mut Rows,
+    ) -> Cut;
     fn sheet_text(bytes: *const u8, length: usize) -> Text;
 }
 
@@ -59,10 +119,22 @@ extern "C" {
 /// Reads a sheet of any length and contents: full lists, no leader, and exactly the tables of the sheet are stated.
 ///
 /// Numbers 1 to 8, 19 and 20: "Number 1 is tested first, then 2, then fields in file order; at each field 6 precedes its own number."
-/// A refusal answers its place and [`State::ZERO`].
+/// A refusal answers its place and stores [`State::ZERO`]. What the state held before does not matter.
 #[inline]
-pub fn read(bytes: &[u8]) -> Read {
-    unsafe { sheet_read(bytes.as_ptr(), bytes.len()) }
+pub fn read(bytes: &[u8], state: &mut State) -> Read {
+    let s = state;
+    unsafe {
+        sheet_read_parts(
+            bytes.as_ptr(),
+            bytes.len(),
+            &mut s.n,
+            &mut s.sizes,
+            &mut s.lists,
+            &mut s.leaders,
+            &mut s.stated,
+            &mut s.rows,
+        )
+    }
 }
 
 /// Writes the sheet of a state that is as just read, and answers its length; bytes past its end are left as they were.
@@ -71,13 +143,26 @@ pub fn read(bytes: &[u8]) -> Read {
 /// writing what was read, into enough space, gives the same bytes.
 #[inline]
 pub fn write(state: &State, buffer: &mut [u8]) -> Written {
-    unsafe { sheet_write(*state, buffer.as_mut_ptr(), buffer.len()) }
+    let s = state;
+    unsafe {
+        sheet_write_parts(
+            s.n,
+            &s.sizes,
+            &s.lists,
+            &s.leaders,
+            &s.stated,
+            &s.rows,
+            buffer.as_mut_ptr(),
+            buffer.len(),
+        )
+    }
 }
 
 /// Whether a state is sound. No numbers.
 #[inline]
 pub fn is_sound(state: &State) -> bool {
-    unsafe { sheet_is_sound(*state) }
+    let s = state;
+    unsafe { sheet_is_sound_parts(s.n, &s.sizes, &s.lists, &s.leaders, &s.stated, &s.rows) }
 }
 
 /// One follow step, `follower` to follow `leader`, options counted from 1; answers 1 step.
@@ -88,7 +173,7 @@ pub fn is_sound(state: &State) -> bool {
 pub fn eliminate(state: &mut State, leader: usize, follower: usize) -> Stepped {
     let s = state;
     unsafe {
-        sheet_eliminate(
+        sheet_eliminate_parts(
             s.n,
             &s.sizes,
             &mut s.lists,
@@ -108,7 +193,7 @@ pub fn eliminate(state: &mut State, leader: usize, follower: usize) -> Stepped {
 #[inline]
 pub fn reduce(state: &mut State) -> Stepped {
     let s = state;
-    unsafe { sheet_reduce(s.n, &s.sizes, &mut s.lists, &mut s.leaders, &mut s.stated, &mut s.rows) }
+    unsafe { sheet_reduce_parts(s.n, &s.sizes, &mut s.lists, &mut s.leaders, &mut s.stated, &mut s.rows) }
 }
 
 /// The tester, on n bytes, a value for each option: "yes exactly when each value is in its option's list and each stated pair
@@ -117,7 +202,19 @@ pub fn reduce(state: &mut State) -> Stepped {
 /// Numbers 9, 14, 15, tested in this order. A refusal answers false.
 #[inline]
 pub fn test(state: &State, build: &[u8]) -> Tested {
-    unsafe { sheet_test(*state, build.as_ptr(), build.len()) }
+    let s = state;
+    unsafe {
+        sheet_test_parts(
+            s.n,
+            &s.sizes,
+            &s.lists,
+            &s.leaders,
+            &s.stated,
+            &s.rows,
+            build.as_ptr(),
+            build.len(),
+        )
+    }
 }
 
 /// The completer, on n bytes: "reads the bytes of live options and writes those of followers; what the follower bytes held
@@ -128,24 +225,50 @@ pub fn test(state: &State, build: &[u8]) -> Tested {
 #[inline]
 #[must_use]
 pub fn complete(state: &State, build: &mut [u8]) -> u8 {
-    unsafe { sheet_complete(*state, build.as_mut_ptr(), build.len()) }
+    let s = state;
+    unsafe {
+        sheet_complete_parts(
+            s.n,
+            &s.sizes,
+            &s.lists,
+            &s.leaders,
+            &s.stated,
+            &s.rows,
+            build.as_mut_ptr(),
+            build.len(),
+        )
+    }
 }
 
 /// The verdict of a state as it is: NONE if some live list is empty; else "BUILT when no live list is empty and no two live options
 /// are stated together. Each live option then takes its lowest value"; else OPEN. "The verdict does not reduce first."
 ///
-/// Number 9. A refusal answers kind 0 (as [`NONE`]) and no build: look at the number first.
+/// Number 9. A refusal answers [`NO_VERDICT`] and no build.
 #[inline]
 pub fn verdict(state: &State) -> Verdict {
-    unsafe { sheet_verdict(*state) }
+    let s = state;
+    unsafe { sheet_verdict_parts(s.n, &s.sizes, &s.lists, &s.leaders, &s.stated, &s.rows) }
 }
 
-/// What [`read`], [`reduce`] and [`verdict`] answer one after the other.
+/// What [`read`], [`reduce`] and [`verdict`] answer one after the other; the reduced state is stored.
 ///
-/// Numbers 1 to 8, 19 and 20, as [`read`]. A refusal answers its place and [`State::ZERO`], 0 steps, kind 0 and no build.
+/// Numbers 1 to 8, 19 and 20, as [`read`]. A refusal answers its place, 0 steps, [`NO_VERDICT`] and no build, and stores
+/// [`State::ZERO`].
 #[inline]
-pub fn cut(bytes: &[u8]) -> Cut {
-    unsafe { sheet_cut(bytes.as_ptr(), bytes.len()) }
+pub fn cut(bytes: &[u8], state: &mut State) -> Cut {
+    let s = state;
+    unsafe {
+        sheet_cut_parts(
+            bytes.as_ptr(),
+            bytes.len(),
+            &mut s.n,
+            &mut s.sizes,
+            &mut s.lists,
+            &mut s.leaders,
+            &mut s.stated,
+            &mut s.rows,
+        )
+    }
 }
 
 /// The text that sheetcut prints for these bytes, which may be a refusal's. No numbers.

@@ -7,11 +7,23 @@ pub const LARGEST_BYTES: usize = 4101;
 pub const MOST_OPTIONS: usize = 16;
 /// How many values an option can have.
 pub const MOST_VALUES: usize = 16;
+/// How many rows a state has room for in each pair.
+pub const PAIR_ROWS: usize = 32;
+/// The rows of the 120 pairs.
+pub const ROWS: usize = MOST_OPTIONS * (MOST_OPTIONS - 1) / 2 * PAIR_ROWS;
 /// Longer than any text that sheetcut prints.
 pub const TEXT_BYTES: usize = 512;
 
-/// Bit `b` of `rows[i][j][a]`: value `a` of option `i` goes with value `b` of option `j`. Options count from 0 here.
-pub type Rows = [[[u16; MOST_VALUES]; MOST_OPTIONS]; MOST_OPTIONS];
+/// Each pair of options once, from its lower one: see [`row_place`].
+pub type Rows = [u32; ROWS];
+
+/// Where the row of value `a` of option `i` against the higher option `j` stands in [`State::rows`], options counted from 0. Bit
+/// `b` of it: value `a` of `i` goes with value `b` of `j`.
+#[inline]
+pub const fn row_place(i: usize, j: usize, a: usize) -> usize {
+    assert!(i < j && j < MOST_OPTIONS && a < PAIR_ROWS);
+    (j * (j - 1) / 2 + i) * PAIR_ROWS + a
+}
 
 /// The state of a sheet. It may hold anything: a call that takes one tests first that it is sound.
 #[repr(C)]
@@ -22,11 +34,11 @@ pub struct State {
     /// How many values each has, 1 to 16.
     pub sizes: [u8; MOST_OPTIONS],
     /// Bit `v`: value `v` is still open.
-    pub lists: [u16; MOST_OPTIONS],
+    pub lists: [u32; MOST_OPTIONS],
     /// 0 for a live option, else the number of its leader, counted from 1.
     pub leaders: [u8; MOST_OPTIONS],
     /// Bit `j` of `stated[i]`: options `i` and `j` have a table.
-    pub stated: [u16; MOST_OPTIONS],
+    pub stated: [u32; MOST_OPTIONS],
     pub rows: Rows,
 }
 
@@ -38,8 +50,15 @@ impl State {
         lists: [0; MOST_OPTIONS],
         leaders: [0; MOST_OPTIONS],
         stated: [0; MOST_OPTIONS],
-        rows: [[[0; MOST_VALUES]; MOST_OPTIONS]; MOST_OPTIONS],
+        rows: [0; ROWS],
     };
+
+    /// Whether the table of options `i` and `j` allows value `a` of `i` with value `b` of `j`, whichever option is lower; options
+    /// counted from 0. No where nothing is stated, where `i` is `j`, and for numbers that no state has.
+    pub fn allows(&self, i: usize, a: usize, j: usize, b: usize) -> bool {
+        let (i, a, j, b) = if i < j { (i, a, j, b) } else { (j, b, i, a) };
+        i != j && j < MOST_OPTIONS && a < PAIR_ROWS && b < PAIR_ROWS && self.rows[row_place(i, j, a)] >> b & 1 == 1
+    }
 }
 
 /// What [`read`](crate::read) answers.
@@ -49,7 +68,6 @@ pub struct Read {
     pub number: u8,
     /// The byte that a refusal is about, counted from 0; 0 where nothing is refused.
     pub place: usize,
-    pub state: State,
 }
 
 /// What a follow step or a full reduction answers.
@@ -78,19 +96,21 @@ pub struct Tested {
     pub is_build: bool,
 }
 
-/// The kinds of a verdict: the sheet has no build,
-pub const NONE: u8 = 0;
-/// a build is shown,
-pub const BUILT: u8 = 1;
+/// The kinds of a verdict: none, with a refusal;
+pub const NO_VERDICT: u8 = 0;
+/// there is no build;
+pub const NONE: u8 = 1;
+/// a build is shown;
+pub const BUILT: u8 = 2;
 /// or two live options are stated together.
-pub const OPEN: u8 = 2;
+pub const OPEN: u8 = 3;
 
 /// What [`verdict`](crate::verdict) answers.
 #[repr(C)]
 #[derive(Clone, Copy, PartialEq, Eq, Debug)]
 pub struct Verdict {
     pub number: u8,
-    /// [`NONE`], [`BUILT`] or [`OPEN`].
+    /// [`NONE`], [`BUILT`] or [`OPEN`], and [`NO_VERDICT`] with a refusal.
     pub kind: u8,
     /// The build shown, zero past n; all zero unless [`BUILT`].
     pub build: [u8; MOST_OPTIONS],
@@ -107,8 +127,6 @@ pub struct Cut {
     /// As in [`Verdict`], and so is the build.
     pub kind: u8,
     pub build: [u8; MOST_OPTIONS],
-    /// The reduced state.
-    pub state: State,
 }
 
 /// What [`text`](crate::text) answers.
@@ -129,14 +147,14 @@ impl Text {
 
 // the layout by which the library was compiled, as include/sheet.h has it
 const _: () = {
-    assert!(offset_of!(State, sizes) == 8 && offset_of!(State, lists) == 24 && offset_of!(State, leaders) == 56);
-    assert!(offset_of!(State, stated) == 72 && offset_of!(State, rows) == 104 && size_of::<State>() == 8296);
-    assert!(offset_of!(Read, place) == 8 && offset_of!(Read, state) == 16 && size_of::<Read>() == 8312);
+    assert!(offset_of!(State, sizes) == 8 && offset_of!(State, lists) == 24 && offset_of!(State, leaders) == 88);
+    assert!(offset_of!(State, stated) == 104 && offset_of!(State, rows) == 168 && size_of::<State>() == 15528);
+    assert!(offset_of!(Read, place) == 8 && size_of::<Read>() == 16);
     assert!(offset_of!(Stepped, steps) == 8 && size_of::<Stepped>() == 16);
     assert!(offset_of!(Written, length) == 8 && size_of::<Written>() == 16);
     assert!(offset_of!(Tested, is_build) == 1 && size_of::<Tested>() == 2);
     assert!(offset_of!(Verdict, kind) == 1 && offset_of!(Verdict, build) == 2 && size_of::<Verdict>() == 18);
     assert!(offset_of!(Cut, place) == 8 && offset_of!(Cut, steps) == 16 && offset_of!(Cut, kind) == 24);
-    assert!(offset_of!(Cut, build) == 25 && offset_of!(Cut, state) == 48 && size_of::<Cut>() == 8344);
+    assert!(offset_of!(Cut, build) == 25 && size_of::<Cut>() == 48);
     assert!(offset_of!(Text, bytes) == 8 && size_of::<Text>() == 520);
 };

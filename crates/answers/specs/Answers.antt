@@ -73,11 +73,11 @@ unfoldable pub verdictNumber : VerdictTold → ℕ
 verdictNumber (rules v build) = 0
 verdictNumber (no-verdict k build) = k
 
--- NONE is 0, BUILT 1 and OPEN 2; "any other part of a refused answer is zero".
+-- NONE is 1, BUILT 2 and OPEN 3; "any other part of a refused answer is zero", so that a refusal is no verdict.
 unfoldable pub kindOf : network.Verdict → ℕ
-kindOf NONE = 0
-kindOf BUILT = 1
-kindOf OPEN = 2
+kindOf NONE = 1
+kindOf BUILT = 2
+kindOf OPEN = 3
 
 unfoldable pub verdictKind : VerdictTold → ℕ
 verdictKind (rules v build) = kindOf v

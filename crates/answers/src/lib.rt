@@ -123,9 +123,9 @@ pub fn verdict_kind(verdict: Verdict) -> u8
     ensures { λ r. ⌜ ((build : List ℕ) → r ≡ verdictKind (verdictTold verdict build)) ⌝ }
 {
     match verdict {
-        Verdict::None => 0,
-        Verdict::Built => 1,
-        Verdict::Open => 2,
+        Verdict::None => 1,
+        Verdict::Built => 2,
+        Verdict::Open => 3,
         Verdict::Refused(_) => 0,
     }
 }

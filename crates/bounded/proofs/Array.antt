@@ -5,7 +5,7 @@ use Prim.Native.Nat.{ℕ, zero, suc, _^_, _≤_, _<_}
 use native.Mathlib.Omega.{arith}
 use lib.Dec.{ltb}
 use lib.ListN.{length, getD, set, List·getD-eq-default}
-use mir.Syntax.{Width, w8, w16}
+use mir.Syntax.{Width, w8, w16, w32}
 use mir.Val.{Fits, bits}
 use borrow.Author.Tests.{ltb-true, ltb-false}
 use Rattle.bounded.specs.Array.{Array}
@@ -22,6 +22,9 @@ u8-array = fits-array w8
 
 pub u16-array : (n : ℕ) (l : List ℕ) → length l ≡ n → ((k : ℕ) → Fits w16 (getD l k 0)) → Array n (2 ^ 16) l
 u16-array = fits-array w16
+
+pub u32-array : (n : ℕ) (l : List ℕ) → length l ≡ n → ((k : ℕ) → Fits w32 (getD l k 0)) → Array n (2 ^ 32) l
+u32-array = fits-array w32
 
 -- Past its end an array reads as 0.
 pub array-past : (n b : ℕ) (l : List ℕ) → Array n b l → (k : ℕ) → n ≤ k → getD l k 0 ≡ 0

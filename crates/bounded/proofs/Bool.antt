@@ -1,5 +1,5 @@
 -- Laws of the connectives. A fact is an equation `b ≡ true`.
-use mathlib.Core.Bool.{Bool, true, false, true≢false, false≢true}
+use mathlib.Core.Bool.{Bool, true, false, true≢false, false≢true, _&&_}
 use mathlib.Core.Logic.{_⊎_, inl, inr, ⊎-elim}
 use mathlib.Core.Path.{_≡_, refl, sym, _∙_}
 use Prim.Native.Nat.{_+_, _≤_, _*_}
@@ -44,6 +44,12 @@ pub and-r : (a b : Bool) → and a b ≡ true → b ≡ true
 unfolding and
 and-r true b h = h
 and-r false b h = absurd (false≢true h)
+
+-- The machine's `&` of two truth values.
+pub machine-and : (a b : Bool) → a && b ≡ and a b
+unfolding and
+machine-and true b = refl
+machine-and false b = refl
 
 pub and-comm : (a b : Bool) → and a b ≡ and b a
 unfolding and

@@ -1,15 +1,16 @@
 -- Laws of the folds: each to and from a fact about every number below the bound.
-use mathlib.Core.Bool.{Bool, true, false, true≢false, false≢true}
+use mathlib.Core.Bool.{Bool, true, false, true≢false, false≢true, _&&_}
 use mathlib.Core.Logic.{_⊎_, inl, inr, ⊎-elim}
 use mathlib.Core.Path.{_≡_, refl, sym, _∙_, ap, subst}
 use Prim.Native.Nat.{ℕ, zero, suc, _+_, _*_, _≤_, _<_, min}
 use native.Mathlib.Nat.{zero-mul, mul-zero, suc-mul, mul-add, mul-le-mul-right, min-eq-left, min-eq-right}
+use native.Mathlib.Numerals.{add-one}
 use native.Mathlib.Omega.{arith}
 use lib.Dec.{eqb, leb, ltb}
 use borrow.Author.Tests.{eq-eqb, eqb-true, eqb-false, leb-true, leb-false, ltb-true, ltb-false}
 use Rattle.bounded.specs.Bool.{and, or, bit, if, not}
 use Rattle.bounded.specs.Fold.{every, some, sum, product, count, first}
-use Rattle.bounded.proofs.Bool.{by-cases, clash, not-true→false, and-i, and-l, and-r, or-l, or-r, or-elim, bit-true, bit-false, bit-le, bit-split}
+use Rattle.bounded.proofs.Bool.{by-cases, clash, not-true→false, machine-and, and-comm, and-i, and-l, and-r, or-l, or-r, or-elim, bit-true, bit-false, bit-le, bit-split}
 
 lift-cmp : (n k : ℕ) → (k ≡ n) ⊎ (k < n) → (suc k ≡ suc n) ⊎ (suc k < suc n)
 lift-cmp n k (inl e) = inl (ap suc e)
@@ -66,6 +67,11 @@ pub none-of : (n : ℕ) (p : ℕ → Bool) → some n p ≡ false → (k : ℕ) 
 none-of n p h k l = not-true→false (p k) (λ t. clash (some-i n p k l t) h)
 
 -- Folds of tests that agree below the bound are equal.
+-- One more test of a run of tests.
+pub test-joins : (p : ℕ → Bool) (r t : Bool) (n : ℕ) → r ≡ every n p → t ≡ p n → r && t ≡ every (n + 1) p
+unfolding every
+test-joins p r t n e h = rw (e, h, add-one n) (machine-and (every n p) (p n) ∙ and-comm (every n p) (p n))
+
 pub every-cong : (n : ℕ) (p q : ℕ → Bool) → ((k : ℕ) → k < n → p k ≡ q k) → every n p ≡ every n q
 unfolding every
 every-cong zero p q h = refl

@@ -1,14 +1,18 @@
--- Laws of decimal numbers.
+-- Laws of numbers as digits.
 use mathlib.Core.List.{List, [], _∷_, _++_}
 use mathlib.Core.Path.{_≡_, refl, sym, _∙_, ap}
-use Prim.Native.Nat.{ℕ, zero, suc, _+_, _*_, _/_, _%_, _^_, _≤_, _<_}
-use native.Mathlib.Nat.{pow-suc}
+use Prim.Native.Nat.{ℕ, zero, suc, _+_, _-_, _*_, _/_, _%_, _^_, _≤_, _<_}
+use native.Mathlib.Nat.{mul-suc, pow-suc}
+use native.Mathlib.Numerals.{unary-clauses}
 use native.Mathlib.Omega.{arith}
 use lib.Dec.{ltb}
-use lib.ListN.{length, length-append}
+use lib.Pow.{pow-add}
+use lib.ListN.{length, getD, take, length-append}
 use borrow.Author.Tests.{lt-ltb, le-ltb, ltb-true, ltb-false}
 use Rattle.bounded.proofs.Bool.{by-cases, if-true, if-false}
-use Rattle.buffers.specs.Digits.{decimalWithin, decimal, hexDigit, hex4}
+use Rattle.buffers.specs.Wrote.{Wrote}
+use Rattle.buffers.specs.Digits.{decimalWithin, decimal, hexDigit, hexText}
+use Rattle.buffers.proofs.Laws.{copied-room, copied-more, copied-all}
 
 within-one : (most n : ℕ) → n < 10 → decimalWithin (suc most) n ≡ (48 + n) ∷ []
 unfolding decimalWithin
@@ -87,3 +91,49 @@ hex-digit-low d h = if-true _ _ _ (lt-ltb d 10 h)
 pub hex-digit-high : (d : ℕ) → 10 ≤ d → hexDigit d ≡ 55 + d
 unfolding hexDigit
 hex-digit-high d h = if-false _ _ _ (le-ltb d 10 h)
+
+-- A shift by k digits of d bits each is a division by the k-th power of their base.
+pub shift-digits : (d k x : ℕ) → x / 2 ^ (d * k) ≡ x / (2 ^ d) ^ k
+shift-digits d k x = ap (λ (b : ℕ). x / b) (powers k)
+  where
+    powers : (k : ℕ) → 2 ^ (d * k) ≡ (2 ^ d) ^ k
+    powers zero = simp unary-clauses
+    powers (suc k) = rw (mul-suc d k, pow-add 2 (d * k) d, pow-suc (2 ^ d) k, powers k)
+
+-- A number in k digits, highest first, for every k: each is a byte.
+pub record Digits : Type 0 where
+  pub text : ℕ → List ℕ
+  pub digit : ℕ → ℕ
+  pub none : text 0 ≡ []
+  pub more : (k : ℕ) → text (suc k) ≡ digit k ∷ text k
+
+module _ (D : Digits) where
+  pub length-digits : (k : ℕ) → length (D .text k) ≡ k
+  length-digits zero = ap length (D .none)
+  length-digits (suc k) = ap length (D .more k) ∙ ap suc (length-digits k)
+
+  digit-at : (k i : ℕ) → i < k → getD (D .text k) i 0 ≡ D .digit (k - 1 - i)
+  digit-at zero i l = absurd (let x : ⊥ = omega arith in x)
+  digit-at (suc k) zero l = rw (D .more k) (ap (D .digit) (let e : k ≡ suc k - 1 - 0 = omega arith in e))
+  digit-at (suc k) (suc i) l =
+      rw (D .more k) (digit-at k i (omega arith) ∙ ap (D .digit) (let e : k - 1 - i ≡ suc k - 1 - suc i = omega arith in e))
+
+  -- They are written one by one. After i of them: the room for the next, one more, and all.
+  module _ (k i : ℕ) where
+    pub digits-room : {a b : List ℕ} {at mid : ℕ} → i < k → at + k ≤ length a → Wrote a b (take i (D .text k)) at mid → mid < length b
+    digits-room l r h = let n = length-digits k in copied-room (D .text k) i (omega arith) (omega arith) h
+
+    pub digits-more : {a b c : List ℕ} {at mid r byte : ℕ} → i < k → byte ≡ D .digit (k - 1 - i) → Wrote a b (take i (D .text k)) at mid
+        → Wrote b c (byte ∷ []) mid r → Wrote a c (take (i + 1) (D .text k)) at r
+    digits-more l e h w = copied-more (D .text k) i (omega (arith, length-digits k)) h (rw (digit-at k i l, ← e) w)
+
+    pub digits-all : {a b : List ℕ} {at r : ℕ} → k ≤ i → Wrote a b (take i (D .text k)) at r → Wrote a b (D .text k) at r
+    digits-all l h = copied-all (D .text k) i (omega (arith, length-digits k)) h
+
+unfoldable pub hexadecimal : ℕ → Digits
+unfolding hexText
+hexadecimal x = record { text = λ k. hexText k x; digit = λ k. hexDigit (x / 16 ^ k % 16); none = refl; more = λ k. refl }
+
+pub length-hex : (k x : ℕ) → length (hexText k x) ≡ k
+unfolding hexadecimal
+length-hex k x = length-digits (hexadecimal x) k

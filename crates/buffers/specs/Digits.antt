@@ -1,6 +1,6 @@
 -- Numbers as digits, in ASCII codes.
 use mathlib.Core.List.{List, [], _∷_, _++_}
-use Prim.Native.Nat.{ℕ, zero, suc, _+_, _/_, _%_}
+use Prim.Native.Nat.{ℕ, zero, suc, _+_, _/_, _%_, _^_}
 use lib.Dec.{ltb}
 use Rattle.bounded.specs.Bool.{if}
 
@@ -17,6 +17,7 @@ decimal n = decimalWithin (suc n) n
 unfoldable pub hexDigit : ℕ → ℕ
 hexDigit d = if (ltb d 10) (48 + d) (55 + d)
 
--- "LIST is four upper-case hexadecimal digits"
-unfoldable pub hex4 : ℕ → List ℕ
-hex4 n = hexDigit (n / 4096 % 16) ∷ hexDigit (n / 256 % 16) ∷ hexDigit (n / 16 % 16) ∷ hexDigit (n % 16) ∷ []
+-- The low k hexadecimal digits of a number, highest first.
+unfoldable pub hexText : ℕ → ℕ → List ℕ
+hexText zero x = []
+hexText (suc k) x = hexDigit (x / 16 ^ k % 16) ∷ hexText k x

@@ -1,8 +1,9 @@
 // Texts written into a lent buffer. Each function returns the place past its text.
 ghost use mathlib.Core.List.{[], _∷_, _++_};
-ghost use Prim.Native.Nat.{_+_, _<_, _≤_};
+ghost use mathlib.Core.Path.{_≡_};
+ghost use Prim.Native.Nat.{_+_, _/_, _%_, _^_, _<_, _≤_};
 ghost use lib.ListN.{length};
-ghost use Rattle.buffers.specs.Digits.{decimal, hexDigit, hex4};
+ghost use Rattle.buffers.specs.Digits.{decimal, hexDigit, hexText};
 ghost use Rattle.buffers.specs.Wrote.{Wrote};
 
 pub fn put_byte(buffer: &mut [u8], at: usize, byte: u8) -> usize
@@ -45,23 +46,26 @@ pub fn put_titled(buffer: &mut [u8], at: usize, title: &[u8], n: usize) -> usize
     put_decimal(buffer, next, n)
 }
 
-fn put_hex_digit(buffer: &mut [u8], at: usize, digit: u16) -> usize
-    requires { ⌜ (digit < 16) × (at < length (now buffer)) ⌝ }
-    ensures { λ r. ⌜ Wrote (now (buffer .entry)) (now (buffer .exit)) (hexDigit digit ∷ []) at r ⌝ }
+// The hexadecimal digit of `word` of weight 16 to the `k`.
+fn hex_digit(word: u32, k: usize) -> u8
+    requires { ⌜ k < 8 ⌝ }
+    ensures { λ r. ⌜ r ≡ hexDigit (word / 16 ^ k % 16) ⌝ }
 {
+    let digit = ((word >> (4 * k)) % 16) as u8;
     if digit < 10 {
-        return put_byte(buffer, at, 48 + digit as u8);
+        return 48 + digit;
     }
-    put_byte(buffer, at, 55 + digit as u8)
+    55 + digit
 }
 
-// A number in four hexadecimal digits.
-pub fn put_hex4(buffer: &mut [u8], at: usize, n: u16) -> usize
-    requires { ⌜ at + 4 ≤ length (now buffer) ⌝ }
-    ensures { λ r. ⌜ Wrote (now (buffer .entry)) (now (buffer .exit)) (hex4 n) at r ⌝ }
+// The low `digits` hexadecimal digits of a word, highest first. A word has 8.
+pub fn put_hex(buffer: &mut [u8], at: usize, word: u32, digits: usize) -> usize
+    requires { ⌜ (digits ≤ 8) × (at + digits ≤ length (now buffer)) ⌝ }
+    ensures { λ r. ⌜ Wrote (now (buffer .entry)) (now (buffer .exit)) (hexText digits word) at r ⌝ }
 {
-    let second = put_hex_digit(buffer, at, n / 4096 % 16);
-    let third = put_hex_digit(buffer, second, n / 256 % 16);
-    let fourth = put_hex_digit(buffer, third, n / 16 % 16);
-    put_hex_digit(buffer, fourth, n % 16)
+    let mut next = at;
+    for i in 0..digits {
+        next = put_byte(buffer, next, hex_digit(word, digits - 1 - i));
+    }
+    next
 }

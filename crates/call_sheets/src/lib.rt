@@ -1,8 +1,56 @@
 // The calls that take and give the bytes of a sheet: reading, writing, and reading with the reduction and the verdict.
-mod cutter;
-mod reader;
-mod writer;
+use answers::WriteAnswer;
+use pairs::PLACES;
+use state::CutAnswer;
+use state::ReadAnswer;
+use state::State;
+use state::head_in;
+use state::state_of;
+use state_cut::cut_parts;
+use state_read::read_parts;
+use state_write::write_parts;
+ghost use mathlib.Core.Path.{_≡_};
+ghost use Rattle.answers.specs.Answers.{writeTold};
+ghost use Rattle.state.specs.Answers.{readTold};
+ghost use Rattle.state.specs.Read.{readSheet};
+ghost use Rattle.state.specs.Write.{writeSheet};
+ghost use Rattle.state.specs.Cut.{cutTold, cutSheet};
 
-pub use cutter::cut;
-pub use reader::read;
-pub use writer::write;
+// The state of a sheet's bytes, of any length and contents, or why and where they are refused.
+pub fn read(bytes: &[u8]) -> ReadAnswer
+    ensures { λ r. ⌜ readTold r ≡ readSheet (now (bytes .entry)) ⌝ }
+{
+    let mut rows = [0u32; PLACES];
+    let read = read_parts(bytes, &mut rows);
+    let outcome = read.outcome;
+    let head = read.head;
+    let state = state_of(head, rows);
+    ReadAnswer { outcome, state }
+}
+
+// Writes the sheet of a state as just read into a lent buffer: "the writer tests 9, 18, 17". A refusal writes nothing.
+pub fn write(state: State, buffer: &mut [u8]) -> WriteAnswer
+    ensures { λ r. ⌜ (writeTold r ≡ writeSheet state (now (buffer .entry)) .answer) × (now (buffer .exit) ≡ writeSheet state (now (buffer .entry)) .buffer) ⌝ }
+{
+    write_parts(head_in(state), &state.rows, buffer)
+}
+
+// Reading, the full reduction and the verdict in one call: what the three give one after the other.
+pub fn cut(bytes: &[u8]) -> CutAnswer
+    ensures { λ r. ⌜ cutTold r ≡ cutSheet (now (bytes .entry)) ⌝ }
+{
+    let mut rows = [0u32; PLACES];
+    let cut = cut_parts(bytes, &mut rows);
+    let outcome = cut.outcome;
+    let head = cut.head;
+    let verdict = cut.verdict;
+    let solution = cut.solution;
+    let state = state_of(head, rows);
+    CutAnswer {
+        outcome,
+        state,
+        steps: cut.steps,
+        verdict,
+        solution,
+    }
+}

@@ -1,8 +1,43 @@
 // The calls that look at a state: whether it is sound, whether values are a solution of it, what its followers' values are, and the verdict.
-mod solutions_of;
-mod sound;
+// Each takes the state apart: its head goes by value, its rows are lent.
+use answers::Outcome;
+use answers::TestAnswer;
+use answers::VerdictAnswer;
+use soundness::sound_parts;
+use state::State;
+use state::head_in;
+use state_solutions::complete_parts;
+use state_solutions::test_parts;
+use state_verdict::verdict_parts;
+ghost use mathlib.Core.Path.{_≡_};
+ghost use Rattle.answers.specs.Answers.{testTold, outcomeNumber, verdictTold};
+ghost use Rattle.state.specs.View.{soundState};
+ghost use Rattle.state.specs.Solutions.{tested, completeNumber, completedBuffer, verdictOf};
 
-pub use solutions_of::complete;
-pub use solutions_of::test;
-pub use solutions_of::verdict;
-pub use sound::is_sound;
+// "A state is sound when": every sentence holds of it.
+pub fn is_sound(state: State) -> bool
+    ensures { λ r. ⌜ r ≡ soundState state ⌝ }
+{
+    sound_parts(head_in(state), &state.rows)
+}
+
+// The tester: "yes exactly when each value is in its option's list and each stated pair allows its two values".
+pub fn test(state: State, solution: &[u8]) -> TestAnswer
+    ensures { λ r. ⌜ testTold r ≡ tested state (now (solution .entry)) ⌝ }
+{
+    test_parts(head_in(state), &state.rows, solution)
+}
+
+// The completer: "reads the bytes of live options and writes those of followers". A refusal writes nothing.
+pub fn complete(state: State, solution: &mut [u8]) -> Outcome
+    ensures { λ r. ⌜ (outcomeNumber r ≡ completeNumber state (now (solution .entry))) × (now (solution .exit) ≡ completedBuffer state (now (solution .entry))) ⌝ }
+{
+    complete_parts(head_in(state), &state.rows, solution)
+}
+
+// The verdict does not reduce first.
+pub fn verdict(state: State) -> VerdictAnswer
+    ensures { λ r. ⌜ verdictTold (r .verdict) (r .solution) ≡ verdictOf state ⌝ }
+{
+    verdict_parts(head_in(state), &state.rows)
+}

@@ -13,7 +13,7 @@ use Rattle.bounded.specs.Fold.{every, some, sum, count, first}
 use Rattle.bounded.specs.Table.{tabulate}
 use Rattle.bounded.proofs.Bool.{by-cases, bool-ext, and-l, and-r, implies-e}
 use Rattle.bounded.proofs.Fold.{every-e}
-use Rattle.words.specs.Word.{has, word}
+use Rattle.words.specs.Word.{width, has, word}
 use Rattle.network.specs.Network.{Network, free, partner, functional}
 use Rattle.network.specs.Sound.{Sound}
 use Rattle.network.specs.Promise.{Keeps}
@@ -24,20 +24,22 @@ use Rattle.network.specs.Completion.{BUILT, follow, completed, lowest, exhauste
 use Rattle.network.proofs.Reduction.{reduce-run, run-keeps}
 use Rattle.format.specs.Layout.{countTest, sizeTest, constraintsTest, outOfRange, pairTest, withinTest, longest, version1, layouts, layoutAmong, layoutOf}
 use Rattle.format.specs.Parse.{got, bind, numberAt, judged, field, many, fields, pairOf, sizeOf, parseTable, parseTables, ended, parseBody, wrongLength, parseIn, parse}
-use Rattle.rows.specs.Rows.{rowsOf}
+use Rattle.pairs.specs.Pairs.{variables, rowsOf}
+use Rattle.head.specs.Held.{headOf}
+use Rattle.head.proofs.Held.{Packed, pack-sound}
 use Rattle.state.specs.declared.state.State.{State}
 use Rattle.answers.specs.Answers.{rules}
 use Rattle.state.specs.View.{pack}
-use Rattle.state.specs.Answers.{ReadTold, Told}
-use Rattle.state.specs.Cut.{CutTold, cutAs, cutSheet}
+use Rattle.state.specs.Answers.{ReadTold}
+use Rattle.state.specs.Cut.{cutAs, cutSheet}
 use Rattle.state.specs.Read.{readSheet}
 use Rattle.state.specs.Solutions.{verdictOf}
 use Rattle.state.specs.Steps.{reduced, reducedAs}
-use Rattle.state.proofs.View.{Packed, pack-sound}
+use Rattle.state.proofs.View.{packed-view, packed-state}
 use Rattle.state.proofs.Solutions.{verdict-of}
 use Rattle.state.proofs.Steps.{reduced-done}
 use Rattle.state_read.proofs.RoundTrip.{Accepted, read-got, read-sound, got-accepted}
-use Rattle.buffers.specs.Digits.{decimalWithin, decimal, hexDigit, hex4}
+use Rattle.buffers.specs.Digits.{decimalWithin, decimal, hexDigit, hexText}
 use Rattle.text_lines.specs.Text.{ascii, pairLine, liveLine, optionLine, optionLines}
 use Rattle.text_verdict.specs.Text.{valueText, valueTexts, builtText, ruledText, verdictText}
 use Rattle.text_report.specs.Text.{cutText, textAs, textOf}
@@ -115,10 +117,10 @@ same x y = and (implies x y) (implies y x)
 record Computed : Type 0 where
   pairs : every 3 (λ (i : ℕ). every 3 (λ (j : ℕ). every 3 (λ (a : ℕ). every 3 (λ (b : ℕ).
       same (last .allows i j a b) (networkOf sheetLast .allows i j a b))))) ≡ true
-  sizes : tabulate 16 (last .size) ≡ stateLast .sizes
-  domains : tabulate 16 (λ (i : ℕ). word 16 (last .domain i)) ≡ stateLast .domains
-  leaders : tabulate 16 (last .leader) ≡ stateLast .leaders
-  stated : tabulate 16 (λ (i : ℕ). word 16 (last .stated i)) ≡ stateLast .stated
+  sizes : tabulate variables (last .size) ≡ stateLast .sizes
+  domains : tabulate variables (λ (i : ℕ). word width (last .domain i)) ≡ stateLast .domains
+  leaders : tabulate variables (last .leader) ≡ stateLast .leaders
+  stated : tabulate variables (λ (i : ℕ). word width (last .stated i)) ≡ stateLast .stated
   steps : reduce (networkOf sheetA) .steps ≡ 2
   ruled : verdict last ≡ BUILT
   build : tabulate 16 (shown last) ≡ 0 ∷ 0 ∷ 1 ∷ replicate 13 0
@@ -136,14 +138,14 @@ same-pair i j a b =
     (λ h. implies-e _ _ (and-l _ _ (at (within last (keeps .still-sound) (keeps .same-n) (λ x. rw (keeps .same-size x) (sizes-small x)) i j a b h))) h)
     (λ h. implies-e _ _ (and-r _ _ (at (within (networkOf sheetLast) (accepted-last .sheet-sound) refl sizes-small i j a b h))) h)
 
-same-rows : rowsOf 16 (last .allows) ≡ readSheet bytesLast .state .rows
+same-rows : rowsOf width (last .allows) ≡ readSheet bytesLast .state .rows
 unfolding pack
 same-rows =
-    ap (rowsOf 16) (fun-ext (λ i. fun-ext (λ j. fun-ext (λ a. fun-ext (λ b. same-pair i j a b)))))
+    ap (rowsOf width) (fun-ext (λ i. fun-ext (λ j. fun-ext (λ a. fun-ext (λ b. same-pair i j a b)))))
     ∙ ap (λ (s : State). s .rows) (sym (accepted-last .state-is))
 
 last-state : pack last ≡ stateLast
-unfolding pack stateLast networkOf sheetA
+unfolding pack headOf stateLast networkOf sheetA
 last-state = λ z. record {
   n = keeps .same-n z;
   sizes = computed .sizes z;
@@ -156,13 +158,13 @@ last-state = λ z. record {
 packed : Packed last
 unfolding networkOf sheetA
 packed =
-    let few : last .n ≤ 16 = rw (keeps .same-n) (omega arith) in
+    let few : last .n ≤ variables = rw (keeps .same-n) (omega arith) in
     pack-sound last (keeps .still-sound) few (λ i. rw (keeps .same-size i) (omega (arith, sizes-small i)))
 
 verdict-A : verdictOf stateLast ≡ rules BUILT (0 ∷ 0 ∷ 1 ∷ replicate 13 0)
 verdict-A =
-    rw (← last-state) (verdict-of (pack last) (packed .packed-sound))
-    ∙ ap (λ (N : Network). rules (verdict N) (tabulate 16 (shown N))) (packed .packed-view)
+    rw (← last-state) (verdict-of (pack last) (packed-state packed))
+    ∙ ap (λ (N : Network). rules (verdict N) (tabulate 16 (shown N))) (packed-view packed)
     ∙ (λ z. rules (computed .ruled z) (computed .build z))
 
 -- Case A: the sheet is accepted, and its full reduction leaves this state after 2 steps.
@@ -193,5 +195,5 @@ case-A-cut =
 
 -- and its text, as document 01 prints it.
 pub case-A-text : textOf bytesA ≡ textA
-unfolding if decimalWithin decimal hexDigit hex4 ascii pairLine liveLine optionLine optionLines valueText valueTexts builtText ruledText verdictText cutText textAs textOf cutA stateLast textA
+unfolding if decimalWithin decimal hexDigit hexText ascii pairLine liveLine optionLine optionLines valueText valueTexts builtText ruledText verdictText cutText textAs textOf cutA stateLast textA
 case-A-text = ap textAs case-A-cut

@@ -10,7 +10,7 @@ use Rattle.bounded.specs.Table.{tabulate}
 use Rattle.words.specs.Word.{has, word}
 use Rattle.network.specs.Network.{Network, free}
 
--- "A table is a pair a, b (options counted from 1, a below b) and one row for each value of a, value 0 first."
+-- "A table is a pair a, b (.. options counted from 1, a below b) and one .. row for each value of a, value 0 first."
 pub record Table : Type 0 where
   pub first : ℕ
   pub second : ℕ

@@ -3,17 +3,15 @@ use mathlib.Core.Bool.{Bool, true, false, _||_, not as negated}
 use mathlib.Core.List.{List}
 use mathlib.Core.Path.{_≡_, refl, sym, _∙_, ap, fun-ext}
 use Prim.Native.Nat.{ℕ, _+_, _-_, _*_, _/_, _%_, _^_, _≤_, _<_}
-use native.Mathlib.Nat.{one-mul}
-use native.Mathlib.Numerals.{add-one}
 use native.Mathlib.Omega.{arith}
-use mir.Syntax.{w8, w64}
-use mir.Val.{Fits}
 use lib.Dec.{eqb, ltb}
-use lib.ListN.{length, getD}
-use borrow.Author.Tests.{lt-ltb, le-ltb, le-leb, eq-eqb, ltb-true, ltb-false, leb-false, eqb-true}
-use Rattle.bounded.specs.Bool.{or, not, if}
+use lib.ListN.{length}
+use borrow.Author.Tests.{lt-ltb, le-ltb, le-leb, eq-eqb, ltb-true, ltb-false, eqb-true}
+use Rattle.bounded.specs.Bool.{or, implies, not, if}
+use Rattle.bounded.specs.Fold.{every}
 use Rattle.bounded.proofs.Bool.{by-cases, bool-ext, if-true, if-false, not-i, not-false-i, or-l, or-r, or-false-l, or-false-r}
-use Rattle.words.proofs.Machine.{shl-is}
+use Rattle.words.specs.Word.{has}
+use Rattle.words.proofs.Laws.{within-every}
 use Rattle.cause.specs.declared.Cause.{Cause}
 use Rattle.cause.specs.declared.Cause.the-variants.{VariableCount, Size, ConstraintCount, PairRange, PairOrder, PairRepeated, RowRange, Extent}
 use Rattle.read_field.specs.declared.field.Read.{Read}
@@ -92,29 +90,6 @@ field-got {k} {test} {bytes} {at} e =
       inside = omega (arith, ltb-false (length bytes) (at + k) t, j .2);
     })
 
--- The number in one byte, and in two.
-pub number-one : (bytes : List ℕ) (at : ℕ) → getD bytes at 0 ≡ numberAt 1 bytes at
-unfolding numberAt
-number-one bytes at = omega arith
-
-pub number-two : (bytes : List ℕ) (at : ℕ) → getD bytes at 0 * 256 + getD bytes (at + 1) 0 ≡ numberAt 2 bytes at
-unfolding numberAt
-number-two bytes at = rw (add-one at) (omega arith)
-
--- What is known of the bytes of a slice, as the machine asks it.
-module _ (bytes : List ℕ) (at : ℕ) (known : (k : ℕ) → Fits w8 (getD bytes k 0)) where
-  pub byte-fits : Fits w64 (getD bytes at 0)
-  byte-fits = omega (arith, known at)
-
-  pub high-fits : Fits w64 (getD bytes at 0 * 256)
-  high-fits = omega (arith, known at)
-
-  pub two-lt : (low : ℕ) → getD bytes at 0 * 256 + getD bytes low 0 < 65536
-  two-lt low = omega (arith, known at, known low)
-
-  pub two-fits : (low : ℕ) → Fits w64 (getD bytes at 0 * 256 + getD bytes low 0)
-  two-fits low = omega (arith, known at, known low)
-
 -- ---- the tests
 
 or-machine : (a b : Bool) → a || b ≡ or a b
@@ -159,14 +134,14 @@ module _ (n previous pair : ℕ) where
     pair-fine o r =
         if-false _ _ _ (four-machine _ _ _ _ ∙ h) ∙ if-false _ _ _ (not-false-i _ (lt-ltb _ _ o)) ∙ if-false _ _ _ (not-false-i _ (lt-ltb _ _ r))
 
--- 1 shifted by the size is 2 to the size, so that a row not below it has a bit at or above the size.
-module _ (size row m : ℕ) (l : size ≤ 16) (b : 1 * 2 ^ 16 < m) where
-  pub within-fault : 1 * 2 ^ size % m ≤ row → withinTest size row ≡ fault RowRange
+-- A word below 2 to the size has no bit at or above it: one test decides a row, and a union of rows.
+module _ (w size row : ℕ) (l : row < 2 ^ w) where
+  pub within-fault : every w (λ (v : ℕ). implies (has row v) (ltb v size)) ≡ false → withinTest size row ≡ fault RowRange
   unfolding withinTest
-  within-fault h = if-true _ _ _ (le-leb _ _ (rw (shl-is 16 1 size m l b, one-mul (2 ^ size)) at h))
+  within-fault h = if-true _ _ _ (le-leb _ _ (ltb-false row (2 ^ size) (within-every w row size l ∙ h)))
 
-  pub within-fine : row < 1 * 2 ^ size % m → withinTest size row ≡ fine
-  within-fine h = fine-row size row (rw (shl-is 16 1 size m l b, one-mul (2 ^ size)) at h)
+  pub within-fine : every w (λ (v : ℕ). implies (has row v) (ltb v size)) ≡ true → withinTest size row ≡ fine
+  within-fine h = fine-row size row (ltb-true row (2 ^ size) (within-every w row size l ∙ h))
 
 -- ---- the length
 
@@ -218,7 +193,3 @@ unfolding rangeTest
 range-passed least most v c e =
     let f = or-fault _ _ _ e .0 in
     (ltb-false _ _ (or-false-l _ _ f), ltb-false _ _ (or-false-r _ _ f))
-
-pub within-passed : (size row : ℕ) → withinTest size row ≡ fine → row < 2 ^ size
-unfolding withinTest
-within-passed size row e = leb-false _ _ (or-fault _ _ _ e .0)

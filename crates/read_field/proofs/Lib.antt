@@ -1,3 +1,3 @@
 pub mod Fields
-pub mod FourNumbers
 pub mod Many
+pub mod Numbers

@@ -1,7 +1,8 @@
 // One field of a sheet at a time: its bytes, and its own test.
 ghost use mathlib.Core.Path.{_≡_};
-ghost use Prim.Native.Nat.{_+_, _<_, _≤_};
+ghost use Prim.Native.Nat.{_+_, _*_, _/_, _%_, _<_, _≤_};
 ghost use lib.ListN.{length};
+ghost use Rattle.words.specs.Word.{width};
 ghost use Rattle.format.specs.Layout.{pairTest, withinTest};
 ghost use Rattle.format.specs.Parse.{numberAt, field};
 ghost use Rattle.read_field.specs.Fields.{readOf, rangeTest};
@@ -29,14 +30,28 @@ pub fn byte_field(bytes: &[u8], at: usize, least: usize, most: usize, cause: Cau
     Read::Value(value, at + 1)
 }
 
-// The number in two bytes.
-pub fn number(bytes: &[u8], at: usize) -> usize
+// Two bytes as they stand, the first in the lowest bits: one load.
+fn two(bytes: &[u8], at: usize) -> u16
     requires { ⌜ at + 2 ≤ length (now bytes) ⌝ }
-    ensures { λ r. ⌜ (r ≡ numberAt 2 (now (bytes .entry)) at) × (r < 65536) ⌝ }
+    ensures { λ r. ⌜ numberAt 2 (now (bytes .entry)) at ≡ r % 256 * 256 + r / 256 ⌝ }
 {
-    let high = bytes[at] as usize;
-    let low = bytes[at + 1] as usize;
-    high * 256 + low
+    bytes[at + 1] as u16 * 256 + bytes[at] as u16
+}
+
+// The number in `k` bytes, at most four. Two, as most have, go without a loop.
+pub fn number(bytes: &[u8], at: usize, k: usize) -> u32
+    requires { ⌜ (k ≤ 4) × (at + k ≤ length (now bytes)) ⌝ }
+    ensures { λ r. ⌜ r ≡ numberAt k (now (bytes .entry)) at ⌝ }
+{
+    if k == 2 {
+        let low_first = two(bytes, at);
+        return (low_first % 256 * 256 + low_first / 256) as u32;
+    }
+    let mut value: u32 = 0;
+    for b in 0..k {
+        value = value * 256 + bytes[at + b] as u32;
+    }
+    value
 }
 
 // The pair of a table: a at `first` and b after it. Tested for 6, then 7 "option numbers out of range", 19 "a is not below b", 20 "the pair is not after
@@ -49,7 +64,7 @@ pub fn pair_field(bytes: &[u8], first: usize, n: usize, previous: usize) -> Read
     if bytes.len() <= second {
         return Read::Refused(Cause::Extent, first);
     }
-    let pair = number(bytes, first);
+    let pair = number(bytes, first, 2) as usize;
     let a = pair / 256;
     let b = pair % 256;
     if (a == 0) | (b == 0) | (n < a) | (n < b) {
@@ -64,17 +79,18 @@ pub fn pair_field(bytes: &[u8], first: usize, n: usize, previous: usize) -> Read
     Read::Value(pair, second + 1)
 }
 
-// A row, against a variable of `size` values.
-pub fn row_field(bytes: &[u8], at: usize, size: usize) -> Read
-    requires { ⌜ (at ≤ length (now bytes)) × (size ≤ 16) ⌝ }
-    ensures { λ r. ⌜ field 2 (withinTest size) (now (bytes .entry)) at ≡ readOf r ⌝ }
+// A row of `k` bytes, against a variable of `size` values.
+pub fn row_field(bytes: &[u8], at: usize, size: usize, k: usize) -> Read
+    requires { ⌜ (at ≤ length (now bytes)) × (size ≤ width) × (k ≤ 4) ⌝ }
+    ensures { λ r. ⌜ field k (withinTest size) (now (bytes .entry)) at ≡ readOf r ⌝ }
 {
-    if bytes.len() < at + 2 {
+    let next = at + k;
+    if bytes.len() < next {
         return Read::Refused(Cause::Extent, at);
     }
-    let row = number(bytes, at);
-    if (1 << size) <= row {
+    let row = number(bytes, at, k);
+    if !words::within(row, size) {
         return Read::Refused(Cause::RowRange, at);
     }
-    Read::Value(row, at + 2)
+    Read::Value(row as usize, next)
 }

@@ -13,5 +13,5 @@ pub fn wrong_length(bytes: &[u8]) -> bool
     if 4101 < bytes.len() {
         return true;
     }
-    bytes.len() != 3 + field::number(bytes, 1)
+    bytes.len() != 3 + field::number(bytes, 1, 2) as usize
 }

@@ -1,2 +1,2 @@
 -- The rows of a table, in its bytes and in the array.
-pub mod Sides
+pub mod Rows

@@ -2,7 +2,7 @@
 use mathlib.Core.Bool.{Bool, true, false}
 use mathlib.Core.List.{List, [], _∷_, _++_}
 use mathlib.Core.Path.{_≡_, refl, sym, _∙_, ap}
-use Prim.Native.Nat.{ℕ, suc, _+_, _*_, _^_, _≤_, _<_}
+use Prim.Native.Nat.{ℕ, suc, _+_, _*_, _≤_, _<_}
 use native.Mathlib.Omega.{arith}
 use lib.Dec.{eqb, ltb}
 use lib.ListN.{length, getD, set, length-set, replicate}
@@ -12,11 +12,12 @@ use Rattle.bounded.proofs.Bool.{by-cases, bool-ext, not-true→false, clash, if
 use Rattle.bounded.proofs.Bool.{and-i, and-l, and-r, and-comm, false-and, or-elim, or-false-l, or-false-r}
 use Rattle.bounded.specs.Table.{tabulate}
 use Rattle.bounded.proofs.Table.{getD-set, getD-tabulate, getD-tabulate-past}
-use Rattle.words.specs.Word.{has, word}
-use Rattle.words.proofs.Laws.{word-cong, word-has, has-word, has-zero, empty, word-lt}
+use Rattle.words.specs.Word.{width, has, word}
+use Rattle.words.proofs.Laws.{word-cong, has-word, has-zero, empty, word-lt}
 use Rattle.network.specs.Sheet.{Table, isFor, tabled, rowFor}
-use Rattle.rows.specs.Rows.{place, rowAt, columnAt}
-use Rattle.rows.specs.Frames.{Filled, Mirrored}
+use Rattle.pairs.specs.Pairs.{variables, rowAt, allowsOf}
+use Rattle.pairs.specs.Frames.{Stored}
+use Rattle.pairs.proofs.Laws.{allows-up}
 use Rattle.format.specs.Parse.{pairOf}
 use Rattle.read_sheet.specs.Reading.{marked, statedBy, allowedBy, Held}
 use Rattle.read_sheet.proofs.SizesLoop.{zeros-at, zeros-length}
@@ -79,37 +80,37 @@ is-for t i j h k x y =
     (eq-eqb (t .second) (suc y) (omega (arith, eqb-true y j (and-r _ _ e)))))
 
 -- A word of no member is 0.
-no-member : (p : ℕ → Bool) → ((v : ℕ) → p v ≡ false) → word 16 p ≡ 0
-no-member p h = empty 16 (word 16 p) (word-lt 16 p) (λ v l. has-word 16 p v l ∙ h v)
+no-member : (p : ℕ → Bool) → ((v : ℕ) → p v ≡ false) → word width p ≡ 0
+no-member p h = empty width (word width p) (word-lt width p) (λ v l. has-word width p v l ∙ h v)
 
 -- ---- the stated pairs
 
 -- What `mark` stores.
-pub mark-stores : (stated : List ℕ) (i j : ℕ) {one joined : ℕ} → one ≡ word 16 (λ (v : ℕ). eqb v j)
-    → joined ≡ word 16 (λ (v : ℕ). or (has (getD stated i 0) v) (has one v)) → set stated i joined ≡ marked stated i j
+pub mark-stores : (stated : List ℕ) (i j : ℕ) {one joined : ℕ} → one ≡ word width (λ (v : ℕ). eqb v j)
+    → joined ≡ word width (λ (v : ℕ). or (has (getD stated i 0) v) (has one v)) → set stated i joined ≡ marked stated i j
 unfolding marked
-mark-stores stated i j e d = ap (set stated i) (d ∙ word-cong 16 _ _ (λ v l. rw (e, has-word 16 (λ (v : ℕ). eqb v j) v l)))
+mark-stores stated i j e d = ap (set stated i) (d ∙ word-cong width _ _ (λ v l. rw (e, has-word width (λ (v : ℕ). eqb v j) v l)))
 
 marked-length : (stated : List ℕ) (i j : ℕ) → length (marked stated i j) ≡ length stated
 unfolding marked
 marked-length stated i j = length-set stated i _
 
 -- A mark joins one member to one word.
-marked-is : (stated : List ℕ) (i j : ℕ) → i < length stated → (x : ℕ) (p : ℕ → Bool) → getD stated x 0 ≡ word 16 p
-    → getD (marked stated i j) x 0 ≡ word 16 (λ (y : ℕ). or (p y) (and (eqb x i) (eqb y j)))
+marked-is : (stated : List ℕ) (i j : ℕ) → i < length stated → (x : ℕ) (p : ℕ → Bool) → getD stated x 0 ≡ word width p
+    → getD (marked stated i j) x 0 ≡ word width (λ (y : ℕ). or (p y) (and (eqb x i) (eqb y j)))
 unfolding marked and
 marked-is stated i j l x p e =
     getD-set stated i x _ 0 l
     ∙ by-cases (eqb x i)
-    (λ t. if-true _ _ _ t ∙ word-cong 16 _ _ (λ y k. rw (t, ← eqb-true x i t, e, has-word 16 p y k)))
-    (λ t. if-false _ _ _ t ∙ e ∙ word-cong 16 _ _ (λ y k. rw t (sym (or-false _))))
+    (λ t. if-true _ _ _ t ∙ word-cong width _ _ (λ y k. rw (t, ← eqb-true x i t, e, has-word width p y k)))
+    (λ t. if-false _ _ _ t ∙ e ∙ word-cong width _ _ (λ y k. rw t (sym (or-false _))))
 
 -- ---- one table more
 
 module _
     (ts : List Table) (last : ℕ) (stated rows : List ℕ) (held : Held ts last stated rows)
     (t : Table) (i j : ℕ) (at-first : t .first ≡ suc i) (at-second : t .second ≡ suc j)
-    (i<j : i < j) (in-16 : j < 16) (later : last < pairOf t)
+    (i<j : i < j) (second-in : j < variables) (later : last < pairOf t)
   where
     here-only : (x y : ℕ) → isFor t x y ≡ and (eqb x i) (eqb y j)
     here-only = is-for t i j at-first at-second
@@ -127,11 +128,11 @@ module _
     no-back : isFor t j i ≡ false
     no-back = here-only j i ∙ rw (ne-eqb j i (λ e. let x : ⊥ = omega arith in x)) (false-and _)
 
-    -- The rows of the pair were zero.
-    pub zero-before : (a : ℕ) → a < 16 → rowAt 16 rows i j a ≡ 0
-    zero-before a l =
-        held .rows-are i j a (omega arith) in-16 l
-        ∙ no-member _ (λ b. rw (rowFor-none ts i j a not-yet, rowFor-none ts j i b not-back, has-zero b, has-zero a) (or-false false))
+    -- The pair allowed nothing.
+    none-before : (a b : ℕ) → a < width → b < width → allowsOf width rows i j a b ≡ false
+    none-before a b l m =
+        held .rows-are i j a b i<j second-in l m
+        ∙ rw (rowFor-none ts i j a not-yet, rowFor-none ts j i b not-back, has-zero b, has-zero a) (or-false false)
 
     ordered-more : (x y : ℕ) → tabled (ts ++ (t ∷ [])) x y ≡ true → (x < y) × (suc x * 256 + suc y ≤ pairOf t)
     unfolding pairOf
@@ -140,89 +141,70 @@ module _
         (λ o. omega (arith, held .ordered x y o))
         (λ o. let k = sym (here-only x y) ∙ o in omega (arith, eqb-true x i (and-l _ _ k), eqb-true y j (and-r _ _ k)))
 
-    stated-more : (x : ℕ) → x < 16 → getD (marked (marked stated i j) j i) x 0 ≡ word 16 (statedBy (ts ++ (t ∷ [])) x)
+    stated-more : (x : ℕ) → x < variables → getD (marked (marked stated i j) j i) x 0 ≡ word width (statedBy (ts ++ (t ∷ [])) x)
     stated-more x l =
         marked-is (marked stated i j) j i (rw marked-length (omega (arith, held .stated-length))) x _
         (marked-is stated i j (omega (arith, held .stated-length)) x _ (held .stated-are x l))
-        ∙ word-cong 16 _ _ (λ y m.
+        ∙ word-cong width _ _ (λ y m.
         rw (tabled-more ts t x y, tabled-more ts t y x, here-only x y, here-only y x, and-comm (eqb y i) (eqb x j))
         (or-cross _ _ _ _))
 
-    -- The rows are stored on the pair's first side, and the other side is made from it.
+    -- The rows are stored from the lower variable.
     module _
-        (rows₁ rows₂ : List ℕ) (f : ℕ → ℕ) (count : ℕ)
-        (rows-are : t .rows ≡ tabulate count f) (small : (a : ℕ) → a < count → f a < 2 ^ 16)
-        (filled : Filled 16 rows rows₁ i j f count) (mirrored : Mirrored 16 rows₁ rows₂ i j)
+        (rows′ : List ℕ) (f : ℕ → ℕ) (count : ℕ) (rows-are : t .rows ≡ tabulate count f)
+        (stored : Stored width rows rows′ i j (λ (a b : ℕ). has (f a) b) count)
       where
-        first-side : (a : ℕ) → a < 16 → rowAt 16 rows₁ i j a ≡ getD (t .rows) a 0
-        first-side a l =
+        table-rows : (a b : ℕ) → a < width → b < width → allowsOf width rows′ i j a b ≡ has (getD (t .rows) a 0) b
+        table-rows a b l m =
             rw rows-are
             (by-cases (ltb a count)
-            (λ h. let m : a < count = ltb-true a count h in filled .side a m ∙ sym (getD-tabulate count f a 0 m))
-            (λ h.
-            let m : count ≤ a = ltb-false a count h in
-            filled .rest i j a (omega arith) in-16 l (λ _ _ p. let x : ⊥ = omega arith in x)
-            ∙ zero-before a l
-            ∙ sym (getD-tabulate-past count f a 0 m)))
+            (λ h. let k = ltb-true a count h in stored .done a b k l m ∙ ap (λ (x : ℕ). has x b) (sym (getD-tabulate count f a 0 k)))
+            (λ h. let k = ltb-false a count h in
+            stored .left a b k ∙ none-before a b l m ∙ sym (has-zero b) ∙ ap (λ (x : ℕ). has x b) (sym (getD-tabulate-past count f a 0 k))))
 
-        row-small : (a : ℕ) → getD (t .rows) a 0 < 2 ^ 16
-        row-small a =
-            rw rows-are
-            (by-cases (ltb a count)
-            (λ h. let m : a < count = ltb-true a count h in rw (getD-tabulate count f a 0 m) (small a m))
-            (λ h. rw (getD-tabulate-past count f a 0 (ltb-false a count h)) (omega arith)))
+        rows-here : (a b : ℕ) → a < width → b < width → allowsOf width rows′ i j a b ≡ allowedBy (ts ++ (t ∷ [])) i j a b
+        rows-here a b l m =
+            table-rows a b l m
+            ∙ rw (rowFor-new ts t i j a not-yet here, rowFor-old ts t j i b no-back, rowFor-none ts j i b not-back, has-zero a) (sym (or-false _))
 
-        rows-first : (a : ℕ) → a < 16 → rowAt 16 rows₂ i j a ≡ word 16 (allowedBy (ts ++ (t ∷ [])) i j a)
-        rows-first a l =
-            mirrored .rest i j a (omega arith) in-16 l (λ e _ _. let x : ⊥ = omega arith in x)
-            ∙ first-side a l
-            ∙ sym (word-has 16 _ (row-small a))
-            ∙ word-cong 16 _ _ (λ b m.
-            rw (rowFor-new ts t i j a not-yet here, rowFor-old ts t j i b no-back, rowFor-none ts j i b not-back, has-zero a) (sym (or-false _)))
+        rows-other : (x y a b : ℕ) → x < y → y < variables → a < width → b < width → isFor t x y ≡ false
+            → allowsOf width rows′ x y a b ≡ allowedBy (ts ++ (t ∷ [])) x y a b
+        rows-other x y a b lx ly l m h =
+            let turned : x ≡ j → y ≡ i → ⊥ = λ p q. omega arith in
+            let back : isFor t y x ≡ false =
+            not-true→false _ (λ k. let e = sym (here-only y x) ∙ k in turned (eqb-true x j (and-r _ _ e)) (eqb-true y i (and-l _ _ e))) in
+            stored .rest x y a b (record { not-ij = λ p q. clash (rw (p, q) here) h; not-ji = turned })
+            ∙ held .rows-are x y a b lx ly l m
+            ∙ rw (rowFor-old ts t x y a h, rowFor-old ts t y x b back)
 
-        rows-second : (b : ℕ) → b < 16 → rowAt 16 rows₂ j i b ≡ word 16 (allowedBy (ts ++ (t ∷ [])) j i b)
-        unfolding columnAt
-        rows-second b l =
-            mirrored .side b l
-            ∙ word-cong 16 _ _ (λ a m.
-            rw (first-side a m, rowFor-new ts t i j a not-yet here, rowFor-old ts t j i b no-back, rowFor-none ts j i b not-back, has-zero a)
-            (sym (false-or _)))
-
-        rows-other : (x y a : ℕ) → x < 16 → y < 16 → a < 16 → isFor t x y ≡ false → isFor t y x ≡ false
-            → rowAt 16 rows₂ x y a ≡ word 16 (allowedBy (ts ++ (t ∷ [])) x y a)
-        rows-other x y a lx ly l h k =
-            mirrored .rest x y a lx ly l (λ p q _. clash (rw (p, q) here) k)
-            ∙ filled .rest x y a lx ly l (λ p q _. clash (rw (p, q) here) h)
-            ∙ held .rows-are x y a lx ly l
-            ∙ word-cong 16 _ _ (λ b m. rw (rowFor-old ts t x y a h, rowFor-old ts t y x b k))
-
-        rows-more : (x y a : ℕ) → x < 16 → y < 16 → a < 16
-            → rowAt 16 rows₂ x y a ≡ word 16 (allowedBy (ts ++ (t ∷ [])) x y a)
-        rows-more x y a lx ly l =
+        rows-more : (x y a b : ℕ) → x < y → y < variables → a < width → b < width
+            → allowsOf width rows′ x y a b ≡ allowedBy (ts ++ (t ∷ [])) x y a b
+        rows-more x y a b lx ly l m =
             by-cases (isFor t x y)
-            (λ h. let e = sym (here-only x y) ∙ h in rw (eqb-true x i (and-l _ _ e), eqb-true y j (and-r _ _ e)) (rows-first a l))
-            (λ h. by-cases (isFor t y x)
-            (λ k. let e = sym (here-only y x) ∙ k in rw (eqb-true y i (and-l _ _ e), eqb-true x j (and-r _ _ e)) (rows-second a l))
-            (rows-other x y a lx ly l h))
+            (λ h. let e = sym (here-only x y) ∙ h in rw (eqb-true x i (and-l _ _ e), eqb-true y j (and-r _ _ e)) (rows-here a b l m))
+            (rows-other x y a b lx ly l m)
 
-        pub held-more : Held (ts ++ (t ∷ [])) (pairOf t) (marked (marked stated i j) j i) rows₂
+        pub held-more : Held (ts ++ (t ∷ [])) (pairOf t) (marked (marked stated i j) j i) rows′
         held-more =
             record {
               ordered = ordered-more;
               stated-length = marked-length (marked stated i j) j i ∙ marked-length stated i j ∙ held .stated-length;
               stated-are = stated-more;
-              rows-length = mirrored .size ∙ filled .size ∙ held .rows-length;
+              rows-length = stored .size ∙ held .rows-length;
+              rows-words = stored .words (held .rows-words);
               rows-are = rows-more;
             }
 
 -- Arrays that are zero hold no table.
-pub held-none : (stated rows : List ℕ) → stated ≡ replicate 16 0 → rows ≡ replicate 4096 0 → Held [] 0 stated rows
+pub held-none : (stated rows : List ℕ) → stated ≡ replicate variables 0 → rows ≡ replicate 3840 0 → Held [] 0 stated rows
 unfolding tabled rowFor rowAt
 held-none stated rows e d =
     record {
       ordered = λ i j h. clash h refl;
-      stated-length = zeros-length 16 stated e;
-      stated-are = λ i l. zeros-at 16 stated e i ∙ sym (no-member _ (λ j. false-or false));
-      rows-length = zeros-length 4096 rows d;
-      rows-are = λ i j a li lj la. zeros-at 4096 rows d (place 16 i j a) ∙ sym (no-member _ (λ b. rw (has-zero b, has-zero a) (false-or false)));
+      stated-length = zeros-length variables stated e;
+      stated-are = λ i l. zeros-at variables stated e i ∙ sym (no-member _ (λ j. false-or false));
+      rows-length = zeros-length 3840 rows d;
+      rows-words = λ k. rw (zeros-at 3840 rows d k) (omega arith);
+      rows-are = λ i j a b l m h k.
+          allows-up width rows i j a b l m h k ∙ ap (λ (x : ℕ). has x b) (zeros-at 3840 rows d _) ∙ rw (has-zero b, has-zero a) (sym (false-or false));
     }

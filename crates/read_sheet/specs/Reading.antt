@@ -7,29 +7,35 @@ use lib.Dec.{eqb}
 use lib.ListN.{length, getD, set, take}
 use Rattle.bounded.specs.Bool.{or}
 use Rattle.bounded.specs.Table.{tabulate}
-use Rattle.words.specs.Word.{has, word}
+use Rattle.words.specs.Word.{width, has, word}
 use Rattle.network.specs.Sheet.{Table, Sheet, tabled, rowFor, networkOf}
-use Rattle.rows.specs.Rows.{rowAt, rowsOf}
+use Rattle.pairs.specs.Pairs.{variables, allowsOf, rowsOf}
+use Rattle.pairs.specs.Frames.{Words}
 use Rattle.read_field.specs.declared.field.Read.{Read}
 use Rattle.read_field.specs.declared.field.Read.the-variants.{Value}
-use Rattle.format.specs.Layout.{sizeTest, version1}
+use Rattle.format.specs.Layout.{Layout, sizeTest, withinTest}
 use Rattle.format.specs.Parse.{Parse, fields, pairOf, parseTable, parseTables}
 use Rattle.read_field.specs.Fields.{readAs}
 
+-- What reading is told of a layout's rows: how many bytes each has. Its test of a row is that no bit is at or above the size.
+pub record RowsIn (L : Layout) (k : ℕ) : Type 0 where
+  pub row-bytes : L .rowBytes ≡ k
+  pub row-test : L .rowTest ≡ withinTest
+
 -- An array of at most n sizes, 0 past them.
 pub record Sized (n : ℕ) (sizes : List ℕ) : Type 0 where
-  pub length-is : length sizes ≡ 16
-  pub small : (k : ℕ) → getD sizes k 0 ≤ 16
+  pub length-is : length sizes ≡ variables
+  pub small : (k : ℕ) → getD sizes k 0 ≤ width
   pub past : (k : ℕ) → n ≤ k → getD sizes k 0 ≡ 0
 
 -- The first n entries of the array are the sizes parsed.
-pub record SizesRead (bytes : List ℕ) (n : ℕ) (sizes : List ℕ) (r : Read) : Type 0 where
-  pub parsed : fields 1 (sizeTest 16) n bytes 4 ≡ readAs r (take n sizes)
+pub record SizesRead (bytes : List ℕ) (n most : ℕ) (sizes : List ℕ) (r : Read) : Type 0 where
+  pub parsed : fields 1 (sizeTest most) n bytes 4 ≡ readAs r (take n sizes)
   pub sized : Sized n sizes
 
 -- The stated pairs with j marked at i.
 unfoldable pub marked : List ℕ → ℕ → ℕ → List ℕ
-marked stated i j = set stated i (word 16 (λ (v : ℕ). or (has (getD stated i 0) v) (eqb v j)))
+marked stated i j = set stated i (word width (λ (v : ℕ). or (has (getD stated i 0) v) (eqb v j)))
 
 -- What tables state and allow, "read alike from both sides".
 abbrev pub statedBy : List Table → ℕ → ℕ → Bool
@@ -38,13 +44,14 @@ statedBy tables i j = or (tabled tables i j) (tabled tables j i)
 abbrev pub allowedBy : List Table → ℕ → ℕ → ℕ → ℕ → Bool
 allowedBy tables i j a b = or (has (rowFor tables i j a) b) (has (rowFor tables j i b) a)
 
--- The arrays hold the tables read so far, and nothing else: both sides of each pair. As a number no pair is above `last`.
+-- The arrays hold the tables read so far, and nothing else: each pair stated on both sides, its rows once. As a number no pair is above `last`.
 pub record Held (tables : List Table) (last : ℕ) (stated rows : List ℕ) : Type 0 where
   pub ordered : (i j : ℕ) → tabled tables i j ≡ true → (i < j) × (suc i * 256 + suc j ≤ last)
-  pub stated-length : length stated ≡ 16
-  pub stated-are : (i : ℕ) → i < 16 → getD stated i 0 ≡ word 16 (statedBy tables i)
-  pub rows-length : length rows ≡ 4096
-  pub rows-are : (i j a : ℕ) → i < 16 → j < 16 → a < 16 → rowAt 16 rows i j a ≡ word 16 (allowedBy tables i j a)
+  pub stated-length : length stated ≡ variables
+  pub stated-are : (i : ℕ) → i < variables → getD stated i 0 ≡ word width (statedBy tables i)
+  pub rows-length : length rows ≡ 3840
+  pub rows-words : Words width rows
+  pub rows-are : (i j a b : ℕ) → i < j → j < variables → a < width → b < width → allowsOf width rows i j a b ≡ allowedBy tables i j a b
 
 -- The table is one more that the arrays hold, after those whose pairs are at most `previous`.
 pub record TableStored (bytes : List ℕ) (previous : ℕ) (table : Table) (stated rows stated′ rows′ : List ℕ) (pair next : ℕ) : Type 0 where
@@ -52,24 +59,24 @@ pub record TableStored (bytes : List ℕ) (previous : ℕ) (table : Table) (stat
   pub ends : next ≤ length bytes
   pub held : (ts : List Table) → Held ts previous stated rows → Held (ts ++ (table ∷ [])) pair stated′ rows′
 
--- A table parsed; where it is not refused, it is stored.
-pub record TableRead (bytes : List ℕ) (at n previous : ℕ) (sizes stated rows stated′ rows′ : List ℕ) (r : Read) : Type 0 where
+-- A table parsed, in every layout of such rows; where it is not refused, it is stored.
+pub record TableRead (bytes : List ℕ) (at k n previous : ℕ) (sizes stated rows stated′ rows′ : List ℕ) (r : Read) : Type 0 where
   pub table : Table
-  pub parsed : parseTable version1 (take n sizes) previous bytes at ≡ readAs r table
+  pub parsed : (L : Layout) → RowsIn L k → parseTable L (take n sizes) previous bytes at ≡ readAs r table
   pub stored : (pair next : ℕ) → r ≡ Value pair next → TableStored bytes previous table stated rows stated′ rows′ pair next
 
 -- All tables parsed, and where none is refused, the arrays hold them.
-pub record TablesRead (bytes : List ℕ) (from n count : ℕ) (sizes stated rows : List ℕ) (r : Read) : Type 0 where
+pub record TablesRead (bytes : List ℕ) (from k n count : ℕ) (sizes stated rows : List ℕ) (r : Read) : Type 0 where
   pub tables : List Table
-  pub parsed : parseTables version1 (take n sizes) count 0 bytes from ≡ readAs r tables
+  pub parsed : (L : Layout) → RowsIn L k → parseTables L (take n sizes) count 0 bytes from ≡ readAs r tables
   pub last : ℕ
   pub held : (v next : ℕ) → r ≡ Value v next → Held tables last stated rows
 
 -- The arrays of the network that a sheet means: sizes, stated pairs and rows.
 pub record Holds (s : Sheet) (sizes stated rows : List ℕ) : Type 0 where
-  pub sizes-are : sizes ≡ tabulate 16 (networkOf s .size)
-  pub stated-are : stated ≡ tabulate 16 (λ (i : ℕ). word 16 (networkOf s .stated i))
-  pub rows-are : rows ≡ rowsOf 16 (networkOf s .allows)
+  pub sizes-are : sizes ≡ tabulate variables (networkOf s .size)
+  pub stated-are : stated ≡ tabulate variables (λ (i : ℕ). word width (networkOf s .stated i))
+  pub rows-are : rows ≡ rowsOf width (networkOf s .allows)
 
 -- A parse of a whole sheet into arrays that were zero: the answer is the parse's, its value the number of variables, and where it is not refused
 -- the arrays hold the sheet. (After a refusal they hold what had been read; no caller looks at that.)

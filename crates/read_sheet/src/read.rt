@@ -1,29 +1,38 @@
 // A sheet's bytes, read into arrays that were zero.
 ghost use mathlib.Core.Path.{_≡_};
+ghost use Prim.Native.Nat.{_≤_};
 ghost use lib.ListN.{replicate};
-ghost use Rattle.format.specs.Layout.{version1};
+ghost use Rattle.words.specs.Word.{width};
+ghost use Rattle.pairs.specs.Pairs.{variables};
+ghost use Rattle.format.specs.Layout.{Layout};
 ghost use Rattle.format.specs.Parse.{parseBody, parse};
-ghost use Rattle.read_sheet.specs.Reading.{SheetRead};
+ghost use Rattle.read_sheet.specs.Reading.{RowsIn, SheetRead};
 use crate::sizes;
 use crate::tables;
 use cause::Cause;
+use pairs::Rows;
+use pairs::VARIABLES;
 use read_field::Read;
 
-// All that follows the count of bytes: n, the sizes, p, the tables, and no byte more. The value is n.
+// All that follows the count of bytes, in a layout whose rows have `k` bytes and whose sizes go to `most`: n, the sizes, p, the tables, and no byte more. The
+// value is n.
 fn read_body(
     bytes: &[u8],
-    sizes: &mut [u8; 16],
-    stated: &mut [u16; 16],
-    rows: &mut [u16; 4096],
+    k: usize,
+    most: usize,
+    sizes: &mut [u8; VARIABLES],
+    stated: &mut [u32; VARIABLES],
+    rows: &mut Rows,
 ) -> Read
-    requires { ⌜ (now sizes ≡ replicate 16 0) × (now stated ≡ replicate 16 0) × (now rows ≡ replicate 4096 0) ⌝ }
-    ensures { λ r. ⌜ SheetRead (parseBody version1 (now (bytes .entry))) (now (sizes .exit)) (now (stated .exit)) (now (rows .exit)) r ⌝ }
+    requires { ⌜ (k ≤ 4) × (most ≤ width) × (now sizes ≡ replicate variables 0) × (now stated ≡ replicate variables 0) × (now rows ≡ replicate 3840 0) ⌝ }
+    ensures { λ r. ⌜ ((L : Layout) → RowsIn L k → L .mostValues ≡ most
+        → SheetRead (parseBody L (now (bytes .entry))) (now (sizes .exit)) (now (stated .exit)) (now (rows .exit)) r) ⌝ }
 {
-    let count = read_field::byte_field(bytes, 3, 1, 16, Cause::VariableCount);
+    let count = read_field::byte_field(bytes, 3, 1, VARIABLES, Cause::VariableCount);
     let Read::Value(n, _) = count else {
         return count;
     };
-    let listed = sizes::read_sizes(bytes, n, sizes);
+    let listed = sizes::read_sizes(bytes, n, most, sizes);
     let Read::Value(_, after) = listed else {
         return listed;
     };
@@ -37,7 +46,7 @@ fn read_body(
     let Read::Value(p, first) = constraints else {
         return constraints;
     };
-    let all = tables::read_tables(bytes, first, n, p, sizes, stated, rows);
+    let all = tables::read_tables(bytes, first, k, n, p, sizes, stated, rows);
     let Read::Value(_, end) = all else {
         return all;
     };
@@ -47,14 +56,14 @@ fn read_body(
     Read::Value(n, end)
 }
 
-// Reads a sheet; the value is n. After a refusal the arrays hold what had been read.
+// Reads a sheet; the value is n. After a refusal the arrays hold what had been read. A sheet of version 1 has rows of two bytes, and sizes to 16.
 pub fn read_into(
     bytes: &[u8],
-    sizes: &mut [u8; 16],
-    stated: &mut [u16; 16],
-    rows: &mut [u16; 4096],
+    sizes: &mut [u8; VARIABLES],
+    stated: &mut [u32; VARIABLES],
+    rows: &mut Rows,
 ) -> Read
-    requires { ⌜ (now sizes ≡ replicate 16 0) × (now stated ≡ replicate 16 0) × (now rows ≡ replicate 4096 0) ⌝ }
+    requires { ⌜ (now sizes ≡ replicate variables 0) × (now stated ≡ replicate variables 0) × (now rows ≡ replicate 3840 0) ⌝ }
     ensures { λ r. ⌜ SheetRead (parse (now (bytes .entry))) (now (sizes .exit)) (now (stated .exit)) (now (rows .exit)) r ⌝ }
 {
     if read_field::wrong_length(bytes) {
@@ -63,5 +72,5 @@ pub fn read_into(
     if bytes[0] != 1 {
         return Read::Refused(Cause::Version, 0);
     }
-    read_body(bytes, sizes, stated, rows)
+    read_body(bytes, 2, 16, sizes, stated, rows)
 }

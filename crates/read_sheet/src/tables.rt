@@ -1,30 +1,34 @@
-// The tables of a sheet, stored as they are read.
+// The tables of a sheet, stored as they are read. Their rows have `k` bytes each.
 ghost use mathlib.Core.Path.{_≡_};
 ghost use Prim.Native.Nat.{_<_, _≤_};
 ghost use lib.ListN.{length, replicate};
+ghost use Rattle.pairs.specs.Pairs.{variables};
 ghost use Rattle.read_sheet.specs.Reading.{Sized, marked, TableRead, TablesRead};
+use pairs::Rows;
+use pairs::VARIABLES;
 use read_field::Read;
 
 // States `j` with `i`, on the side of `i`.
-fn mark(stated: &mut [u16; 16], i: usize, j: usize)
-    requires { ⌜ (i < 16) × (j < 16) ⌝ }
+fn mark(stated: &mut [u32; VARIABLES], i: usize, j: usize)
+    requires { ⌜ (i < variables) × (j < variables) ⌝ }
     ensures { λ _. ⌜ now (stated .exit) ≡ marked (now (stated .entry)) i j ⌝ }
 {
     stated[i] = words::either(stated[i], words::single(j));
 }
 
-// One table, its pair after `previous`: both sides of the pair, stored and stated.
+// One table, its pair after `previous`: its rows stored, and the pair stated on both sides.
 fn read_table(
     bytes: &[u8],
     at: usize,
+    k: usize,
     n: usize,
     previous: usize,
-    sizes: &[u8; 16],
-    stated: &mut [u16; 16],
-    rows: &mut [u16; 4096],
+    sizes: &[u8; VARIABLES],
+    stated: &mut [u32; VARIABLES],
+    rows: &mut Rows,
 ) -> Read
-    requires { ⌜ (at ≤ length (now bytes)) × (n ≤ 16) × (length (now rows) ≡ 4096) × Sized n (now sizes) ⌝ }
-    ensures { λ r. ⌜ TableRead (now (bytes .entry)) at n previous (now (sizes .entry))
+    requires { ⌜ (at ≤ length (now bytes)) × (k ≤ 4) × (n ≤ variables) × (length (now rows) ≡ 3840) × Sized n (now sizes) ⌝ }
+    ensures { λ r. ⌜ TableRead (now (bytes .entry)) at k n previous (now (sizes .entry))
         (now (stated .entry)) (now (rows .entry)) (now (stated .exit)) (now (rows .exit)) r ⌝ }
 {
     let head = read_field::pair_field(bytes, at, n, previous);
@@ -33,9 +37,10 @@ fn read_table(
     };
     let i = pair / 256 - 1;
     let j = pair % 256 - 1;
-    let body = read_rows::read_sides(
+    let body = read_rows::read_rows(
         bytes,
         next,
+        k,
         i,
         j,
         sizes[i] as usize,
@@ -54,19 +59,20 @@ fn read_table(
 pub fn read_tables(
     bytes: &[u8],
     from: usize,
+    k: usize,
     n: usize,
     count: usize,
-    sizes: &[u8; 16],
-    stated: &mut [u16; 16],
-    rows: &mut [u16; 4096],
+    sizes: &[u8; VARIABLES],
+    stated: &mut [u32; VARIABLES],
+    rows: &mut Rows,
 ) -> Read
-    requires { ⌜ (from ≤ length (now bytes)) × (n ≤ 16) × (now stated ≡ replicate 16 0) × (now rows ≡ replicate 4096 0) × Sized n (now sizes) ⌝ }
-    ensures { λ r. ⌜ TablesRead (now (bytes .entry)) from n count (now (sizes .entry)) (now (stated .exit)) (now (rows .exit)) r ⌝ }
+    requires { ⌜ (from ≤ length (now bytes)) × (k ≤ 4) × (n ≤ variables) × (now stated ≡ replicate variables 0) × (now rows ≡ replicate 3840 0) × Sized n (now sizes) ⌝ }
+    ensures { λ r. ⌜ TablesRead (now (bytes .entry)) from k n count (now (sizes .entry)) (now (stated .exit)) (now (rows .exit)) r ⌝ }
 {
     let mut at = from;
     let mut previous = 0;
     for _ in 0..count {
-        let table = read_table(bytes, at, n, previous, sizes, stated, rows);
+        let table = read_table(bytes, at, k, n, previous, sizes, stated, rows);
         let Read::Value(pair, next) = table else {
             return table;
         };

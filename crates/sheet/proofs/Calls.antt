@@ -11,7 +11,7 @@ use Rattle.network.specs.Calls.{Call, follow-step, full-reduction, answer}
 use Rattle.state.specs.declared.state.State.{State}
 use Rattle.state.specs.View.{view, pack, soundState}
 use Rattle.state.proofs.View.{Shaped}
-use Rattle.state.proofs.Steps.{StateKept, step-answers, reduced-answers}
+use Rattle.state.proofs.Steps.{step-answers, reduced-answers}
 use Rattle.sheet.specs.Promise.{handedBack, ruledAs}
 
 -- On a sound state it is the state of the network that the call answers.

@@ -24,6 +24,9 @@ use Rattle.network.proofs.Completion.{solves-cong, one-live-decided}
 use Rattle.network.proofs.Count.{sumTuples-sizes}
 use Rattle.network.proofs.Calls.{after-keeps}
 use Rattle.network.proofs.Promise as network
+use Rattle.pairs.specs.Pairs.{variables}
+use Rattle.head.specs.Held.{headOf}
+use Rattle.head.proofs.Held.{Packed}
 use Rattle.format.specs.Parse.{Octets, parse}
 use Rattle.format.specs.Builds.{options, isBuildOf}
 use Rattle.format.proofs.Builds.{builds-solve, builds-are-solutions, options-are, option-sizes-are}
@@ -33,7 +36,7 @@ use Rattle.answers.specs.Answers.{says, rules}
 use Rattle.state.specs.Read.{readSheet}
 use Rattle.state.specs.Solutions.{valuesOf, tested, completeNumber, completedBuffer, verdictOf}
 use Rattle.sheet.specs.Promise.{handedBack, stateAfter, adds, addedBy, keepsTo, networkRead, ruledAs, lastState, lastNetwork, buildOfSheet, buildCount, Promise, OneLive, Demand3}
-use Rattle.state.proofs.View.{Shaped, Packed, pack-view}
+use Rattle.state.proofs.View.{Shaped, pack-view, packed-view, packed-state, packed-shaped}
 use Rattle.state.proofs.Keep.{after-packed}
 use Rattle.state.proofs.Steps.{answer-packed}
 use Rattle.sheet.proofs.Calls.{call-answers, ruled-as}
@@ -47,8 +50,8 @@ after-answers s h t [] = sym (pack-view s h)
 after-answers s h t (c ∷ cs) =
     let P = answer-packed s h t c in
     ap (λ (u : State). stateAfter u cs) (call-answers s h t c)
-    ∙ after-answers (pack (answer (view s) c)) (P .packed-shaped) (P .packed-sound) cs
-    ∙ ap (λ (N : Network). pack (after N cs)) (P .packed-view)
+    ∙ after-answers (pack (answer (view s) c)) (packed-shaped P) (packed-state P) cs
+    ∙ ap (λ (N : Network). pack (after N cs)) (packed-view P)
 
 -- The calls of today add no table.
 pub nothing-added : (s : State) (cs : List Call) → addedBy s cs ≡ []
@@ -82,7 +85,7 @@ record Serves (N M : Network) (t : State) (n : ℕ) (build : List ℕ → Bool) 
   promised : Promised N M (λ (f : ℕ → ℕ). true)
   state-n : t .n ≡ n
   network-n : N .n ≡ n
-  at-most : n ≤ 16
+  at-most : n ≤ variables
   builds-are : (b : List ℕ) → build b ≡ and (eqb (length b) n) (solves N (valuesOf b))
 
 -- Then every sentence of demand 3 but the count holds of t and the builds.
@@ -107,8 +110,8 @@ module _ (N M : Network) (t : State) (n : ℕ) (build : List ℕ → Bool) (S : 
 
   tester-says : (b : List ℕ) → (tested t b ≡ says true) ↔ (build b ≡ true)
   tester-says b = (
-    λ y. let p = yes-solves t (S .shaped) (S .sound) b y in build-i b (p .0 ∙ S .state-n) (sym (same-solutions (valuesOf b)) ∙ p .1),
-    λ x. tested-yes t (S .shaped) (S .sound) b (build-length b x ∙ sym (S .state-n)) (same-solutions (valuesOf b) ∙ build-solves b x),
+    λ y. let p = yes-solves t (S .shaped .head-shaped) (S .sound) b y in build-i b (p .0 ∙ S .state-n) (sym (same-solutions (valuesOf b)) ∙ p .1),
+    λ x. tested-yes t (S .shaped .head-shaped) (S .sound) b (build-length b x ∙ sym (S .state-n)) (same-solutions (valuesOf b) ∙ build-solves b x),
   )
 
   -- Buffers of n bytes that are an allowed choice.
@@ -184,7 +187,7 @@ module _ (bytes : List ℕ) (octets : Octets bytes) (h : readSheet bytes .number
   n-options = sym (options-are bytes octets s (length bytes) (A .got-sheet))
 
   last-n : lastState bytes cs .n ≡ options bytes
-  unfolding pack
+  unfolding pack headOf
   last-n =
       ap (λ (t : State). t .n) last-state
       ∙ ap (λ (N : Network). N .n) last-network ∙ after-keeps (networkOf s) (A .sheet-sound) cs .same-n ∙ n-options
@@ -201,9 +204,9 @@ module _ (bytes : List ℕ) (octets : Octets bytes) (h : readSheet bytes .number
   serves : Serves (networkOf s) (lastNetwork bytes cs) (lastState bytes cs) (options bytes) (buildOfSheet bytes cs)
   serves =
       record {
-        shaped = rw last-state (last-packed .packed-shaped);
-        sound = rw last-state (last-packed .packed-sound);
-        holds = ap view last-state ∙ last-packed .packed-view;
+        shaped = rw last-state (packed-shaped last-packed);
+        sound = ap soundState last-state ∙ packed-state last-packed;
+        holds = ap view last-state ∙ packed-view last-packed;
         promised = rw last-network (network.promise (networkOf s) (A .sheet-sound) cs);
         state-n = last-n;
         network-n = n-options;

@@ -1,26 +1,29 @@
 -- The tests and stores of the tester, the completer and the verdict: what each way through the code says of its definition, and what the
 -- definitions on arrays are of the network.
-use mathlib.Core.Bool.{Bool, true, false, not as flip}
+use mathlib.Core.Bool.{Bool, true, false, _&&_, not as flip}
 use mathlib.Core.List.{List}
 use mathlib.Core.Path.{_≡_, refl, sym, ap, _∙_}
-use Prim.Native.Nat.{ℕ, suc, pred, _+_, _≤_, _<_}
+use Prim.Native.Nat.{ℕ, suc, pred, _+_, _^_, _≤_, _<_}
+use native.Mathlib.Numerals.{add-one}
 use native.Mathlib.Omega.{arith}
 use lib.Dec.{eqb, ltb}
-use lib.ListN.{length, getD, set, length-set, replicate, length-replicate, getD-replicate}
+use lib.ListN.{getD, set, length-set, replicate, length-replicate, getD-replicate}
 use lib.Seq.{getD-set-same, getD-set-other}
 use borrow.Author.Tests.{lt-ltb, le-ltb, eq-eqb, ne-eqb, ltb-true, ltb-false, eqb-true, eqb-false}
 use Rattle.bounded.specs.Bool.{and, implies, not, if}
 use Rattle.bounded.specs.Fold.{every, first}
 use Rattle.bounded.specs.Table.{tabulate}
-use Rattle.bounded.proofs.Bool.{by-cases, clash, bool-ext, not-true→false, true-and, false-and, and-i, and-l, and-r, and-false, and-fails, and-holds}
+use Rattle.bounded.proofs.Bool.{by-cases, clash, bool-ext, not-true→false, true-and, false-and, and-i, and-l, and-r}
 use Rattle.bounded.proofs.Bool.{implies-i, implies-e, implies-true, implies-false, not-i, not-e, if-true, if-false}
 use Rattle.bounded.proofs.Fold.{below-suc, every-i, every-e, first-cong}
 use Rattle.bounded.proofs.Table.{length-tabulate, getD-tabulate, is-table}
-use Rattle.words.specs.Word.{has, word}
-use Rattle.words.proofs.Laws.{word-lt, has-word, has-below, has-zero, empty}
-use Rattle.rows.specs.Rows.{rowAt, allowsOf}
-use Rattle.rows.proofs.Laws.{allows-row}
-use Rattle.solutions.specs.Choices.{valueKept, pairKept, partnerOf, valueCompleted, Led, Completed, domainOpen, lowestOf, freeWord, sideApart, freshValue}
+use Rattle.words.specs.Word.{width, has, word}
+use Rattle.words.proofs.Laws.{word-lt, has-word, has-all, has-below, has-zero, empty}
+use Rattle.pairs.specs.Pairs.{variables, allowsOf}
+use Rattle.pairs.proofs.Laws.{has-row}
+use Rattle.pairs.proofs.Frames.{past-second}
+use Rattle.pairs.proofs.Runs.{Within, lowest-in, rest-is, rest-lt, rest-within}
+use Rattle.solutions.specs.Choices.{valueKept, pairKept, sideKept, amongKept, partnerOf, valueCompleted, Led, Completed, LeaderReady, domainOpen, lowestOf, freeWord, sideApart, freshValue}
 
 -- ---- the value of a variable
 
@@ -39,50 +42,71 @@ module _ (leader domain size : ℕ) where
   unfolding freshValue
   fresh-led h = rw (ne-eqb leader 0 h) (sym (false-and _))
 
-  pub fresh-live : (full : ℕ) → leader ≡ 0 → full ≡ word 16 (λ (v : ℕ). ltb v size) → eqb domain full ≡ freshValue leader domain size
+  pub fresh-live : (full : ℕ) → leader ≡ 0 → full ≡ word width (λ (v : ℕ). ltb v size) → eqb domain full ≡ freshValue leader domain size
   unfolding freshValue
   fresh-live full h e = rw (eq-eqb leader 0 h, e) (sym (true-and _))
 
+-- The members of a set one by one, the lowest first: those that are no longer in the rest have passed.
+module _ (w set : ℕ) (p : ℕ → Bool) where
+  pub record Seen (rest : ℕ) : Type 0 where
+    pub rest-fits : rest < 2 ^ w
+    pub rest-in : Within rest set
+    pub seen : (v : ℕ) → v < w → has set v ≡ true → has rest v ≡ false → p v ≡ true
+
+  pub seen-none : set < 2 ^ w → Seen set
+  seen-none f = record { rest-fits = f; rest-in = λ v t. t; seen = λ v l t z. clash t z }
+
+  pub seen-all : (rest : ℕ) → Seen rest → rest ≡ 0 → every w (λ (v : ℕ). implies (has set v) (p v)) ≡ true
+  seen-all rest s z = every-i w _ (λ v l. implies-i _ _ (λ t. s .seen v l t (rw z (has-zero v))))
+
+  module _ (rest a : ℕ) (s : Seen rest) (n : rest ≡ 0 → ⊥) (low : a ≡ first w (has rest)) where
+    pub seen-next : (a < w) × (has set a ≡ true)
+    seen-next = let i = lowest-in w rest a (s .rest-fits) n low in (i .0, s .rest-in a (i .1))
+
+    pub seen-not : p a ≡ false → every w (λ (v : ℕ). implies (has set v) (p v)) ≡ false
+    seen-not f = not-true→false _ (λ t. clash (implies-e _ _ (every-e w _ t a (seen-next .0)) (seen-next .1)) f)
+
+    pub seen-more : (rest′ : ℕ) → p a ≡ true → rest′ ≡ word w (λ (u : ℕ). and (has rest u) (not (eqb u (first w (has rest))))) → Seen rest′
+    seen-more rest′ t re =
+        record {
+          rest-fits = rest-lt w rest rest′ a (s .rest-fits) n low re;
+          rest-in = rest-within w rest rest′ a (s .rest-fits) n low re set (s .rest-in);
+          seen =
+              λ v l m z.
+              by-cases (eqb v a)
+              (λ y. rw (eqb-true v a y) t)
+              (λ y. s .seen v l m (not-true→false _ (λ r. clash (rest-is w rest rest′ a (s .rest-fits) n low re v l ∙ and-i _ _ r (not-i _ y)) z)));
+        }
+
 -- ---- the values of a pair
 
-module _ (leader other : ℕ) (stated : Bool) (rows : List ℕ) (i j a b : ℕ) where
-  pub pair-led : (leader ≡ 0 → ⊥) → true ≡ pairKept leader other stated rows i j a b
-  unfolding pairKept
-  pair-led h = sym (implies-false _ _ (and-fails _ _ (ne-eqb leader 0 h)))
+-- The row of a value v that a byte a names, as a word, tells what a goes with.
+pub row-tells : (w : ℕ) (rows : List ℕ) (i j a v b x : ℕ) (r : Bool) → v ≡ a → x ≡ word w (allowsOf w rows i j v) → r ≡ has x b
+    → r ≡ allowsOf w rows i j a b
+row-tells w rows i j a v b x r q e h =
+    h ∙ ap (λ (n : ℕ). has n b) e ∙ has-all w _ b (past-second w rows i j v b) ∙ ap (λ (n : ℕ). allowsOf w rows i j n b) q
 
-  pub pair-other-led : leader ≡ 0 → (other ≡ 0 → ⊥) → true ≡ pairKept leader other stated rows i j a b
-  unfolding pairKept
-  pair-other-led e h = sym (implies-false _ _ (and-holds _ _ (eq-eqb leader 0 e) ∙ and-fails _ _ (ne-eqb other 0 h)))
+module _ (leader among : ℕ) (rows values : List ℕ) (i : ℕ) where
+  pub among-led : (leader ≡ 0 → ⊥) → true ≡ amongKept leader among rows values i
+  unfolding amongKept
+  among-led h = sym (implies-false _ _ (ne-eqb leader 0 h))
 
-  pub pair-not-stated : leader ≡ 0 → other ≡ 0 → stated ≡ false → true ≡ pairKept leader other stated rows i j a b
-  unfolding pairKept
-  pair-not-stated e f s = sym (implies-false _ _ (and-holds _ _ (eq-eqb leader 0 e) ∙ and-holds _ _ (eq-eqb other 0 f) ∙ s))
-
-  pair-judged : leader ≡ 0 → other ≡ 0 → stated ≡ true → allowsOf 16 rows i j a b ≡ pairKept leader other stated rows i j a b
-  unfolding pairKept
-  pair-judged e f s = sym (implies-true _ _ (and-holds _ _ (eq-eqb leader 0 e) ∙ and-holds _ _ (eq-eqb other 0 f) ∙ s))
-
-  pub pair-past : leader ≡ 0 → other ≡ 0 → stated ≡ true → 16 ≤ a → false ≡ pairKept leader other stated rows i j a b
-  unfolding allowsOf
-  pair-past e f s h = sym (and-fails _ _ (ap (and _) (le-ltb a 16 h) ∙ and-false _)) ∙ pair-judged e f s
-
-  pub pair-live : leader ≡ 0 → other ≡ 0 → stated ≡ true → j < 16 → a < 16 → has (rowAt 16 rows i j a) b ≡ pairKept leader other stated rows i j a b
-  pair-live e f s l h = sym (allows-row 16 rows i j a b l h) ∙ pair-judged e f s
-
--- The same pair, known to be stated by another name.
-pub pair-same : (r : Bool) (leader other : ℕ) (t s : Bool) (rows : List ℕ) (i j a b : ℕ) → r ≡ pairKept leader other t rows i j a b → t ≡ s
-    → r ≡ pairKept leader other s rows i j a b
-pair-same r leader other t s rows i j a b h e = rw e at h
+  pub among-live : {r : Bool} → leader ≡ 0
+      → every width (λ (j : ℕ). implies (has among j) (allowsOf width rows i j (getD values i 0) (getD values j 0))) ≡ r
+      → r ≡ amongKept leader among rows values i
+  unfolding amongKept
+  among-live h e = sym e ∙ sym (implies-true _ _ (eq-eqb leader 0 h))
 
 -- ---- completing
 
 -- The lowest of row x cut with the domain to y.
-pub partner-found : (rows : List ℕ) (l i domain a x y k : ℕ) → x ≡ rowAt 16 rows l i a → y ≡ word 16 (λ (b : ℕ). and (has domain b) (has x b))
-    → k ≡ first 16 (has y)
+pub partner-found : (rows : List ℕ) (l i domain a x y k : ℕ) → x ≡ word width (allowsOf width rows l i a)
+    → y ≡ word width (λ (b : ℕ). and (has domain b) (has x b))
+    → k ≡ first width (has y)
     → k ≡ partnerOf rows l i domain a
 unfolding partnerOf
 partner-found rows l i domain a x y k e f g =
-    g ∙ first-cong 16 _ _ (λ b m. rw (f, has-word 16 (λ (b : ℕ). and (has domain b) (has x b)) b m, e))
+    g ∙ first-cong width _ _ (λ b m. ap (λ (n : ℕ). has n b) f ∙ has-word width _ b m ∙ ap (and (has domain b)) (has-row width rows l i a b x e m))
 
 module _ (domains leaders rows values : List ℕ) (i : ℕ) where
   pub completed-live : getD leaders i 0 ≡ 0 → getD values i 0 ≡ valueCompleted domains leaders rows values i
@@ -107,8 +131,15 @@ module _ (n i : ℕ) (domains leaders rows before now : List ℕ) (L : Led n lea
       (λ t. C .value-completed l (ltb-true l i t) ∙ sym (completed-live domains leaders rows before l (L .leader-live i l m e)))
       (λ t. C .value-past l (ltb-false l i t))
 
-  pub leader-ready : (l : ℕ) → getD leaders i 0 ≡ suc l → (l < 16) × (l < length now) × (getD now l 0 < 16)
-  leader-ready l e = omega (arith, L .leader-below i l m e, L .leader-value i l m e, leader-kept l e, L .led-n, L .led-length, C .same-length)
+  pub leader-ready : (l : ℕ) → getD leaders i 0 ≡ suc l → LeaderReady i l now
+  leader-ready l e =
+      let b = L .leader-below i l m e in
+      record {
+        leader-in = omega (arith, L .led-n);
+        leader-other = λ q. let z : getD leaders i 0 ≡ 0 = ap (λ (k : ℕ). getD leaders k 0) (sym q) ∙ L .leader-live i l m e in let x : ⊥ = omega arith in x;
+        leader-read = omega (arith, L .led-length, C .same-length);
+        leader-fits = rw (leader-kept l e) (L .leader-value i l m e);
+      }
 
   -- So what is completed from the present values is what is completed from those at entry.
   now-completed : valueCompleted domains leaders rows now i ≡ valueCompleted domains leaders rows before i
@@ -153,24 +184,55 @@ module _ (leader stated free : ℕ) where
   unfolding sideApart
   side-led h = sym (implies-false _ _ (ne-eqb leader 0 h))
 
-  pub side-free : (common : ℕ) → leader ≡ 0 → common ≡ word 16 (λ (j : ℕ). and (has stated j) (has free j))
+  pub side-free : (common : ℕ) → leader ≡ 0 → common ≡ word width (λ (j : ℕ). and (has stated j) (has free j))
       → eqb common 0 ≡ sideApart leader stated free
   unfolding sideApart
   side-free common h e = rw e (sym (implies-true _ _ (eq-eqb leader 0 h)))
 
-  -- Against the word of all free variables this is the test of every pair of this one.
-  pub side-pairs : (n : ℕ) (leaders : List ℕ) → n ≤ 16 → free ≡ freeWord n leaders
-      → sideApart leader stated free ≡ every n (λ (j : ℕ). implies (and (eqb leader 0) (eqb (getD leaders j 0) 0)) (not (has stated j)))
-  unfolding sideApart freeWord
-  side-pairs n leaders l e =
-      let is-free : (j : ℕ) → j < n → has free j ≡ eqb (getD leaders j 0) 0 = λ j m. rw e (has-word n _ j m) in
+-- The free variables that one is stated with: those below n.
+module _ (n stated free : ℕ) (leaders : List ℕ) (l : n ≤ width) (e : free ≡ freeWord n leaders) where
+  free-is : (j : ℕ) → j < n → has free j ≡ eqb (getD leaders j 0) 0
+  unfolding freeWord
+  free-is j m = ap (λ (x : ℕ). has x j) e ∙ has-word n _ j m
+
+  module _ (among : ℕ) (a : among ≡ word width (λ (j : ℕ). and (has stated j) (has free j))) where
+    among-i : (j : ℕ) → j < n → has stated j ≡ true → eqb (getD leaders j 0) 0 ≡ true → has among j ≡ true
+    among-i j m s f = ap (λ (x : ℕ). has x j) a ∙ has-word width _ j (omega arith) ∙ and-i _ _ s (free-is j m ∙ f)
+
+    among-e : (j : ℕ) → has among j ≡ true → (j < n) × (has stated j ≡ true) × (eqb (getD leaders j 0) 0 ≡ true)
+    unfolding freeWord
+    among-e j t =
+        let k = has-below width among j t (rw a (word-lt width _)) in
+        let q = sym (ap (λ (x : ℕ). has x j) a ∙ has-word width _ j k) ∙ t in
+        let m = has-below n free j (and-r _ _ q) (rw e (word-lt n _)) in
+        (m, and-l _ _ q, sym (free-is j m) ∙ and-r _ _ q)
+
+    pub among-below : (j : ℕ) → has among j ≡ true → j < n
+    among-below j t = among-e j t .0
+
+    -- Their pairs are those that the tester and the completer look at,
+    pub among-side : (rows values : List ℕ) (i : ℕ) → amongKept (getD leaders i 0) among rows values i ≡ sideKept n leaders stated rows values i
+    unfolding amongKept sideKept pairKept
+    among-side rows values i =
+        bool-ext _ _
+        (λ k. every-i n _ λ j m. implies-i _ _ λ t.
+        let u = and-r _ _ t in
+        implies-e _ _ (every-e width _ (implies-e _ _ k (and-l _ _ t)) j (omega arith)) (among-i j m (and-r _ _ u) (and-l _ _ u)))
+        (λ k. implies-i _ _ λ f. every-i width _ λ j b. implies-i _ _ λ t.
+        let q = among-e j t in
+        implies-e _ _ (every-e n _ k j (q .0)) (and-i _ _ f (and-i _ _ (q .2) (q .1))))
+
+  -- and where there are none, no pair of this one is of two free variables.
+  pub side-pairs : (leader : ℕ) → sideApart leader stated free ≡ every n (λ (j : ℕ). implies (and (eqb leader 0) (eqb (getD leaders j 0) 0)) (not (has stated j)))
+  unfolding sideApart
+  side-pairs leader =
       bool-ext _ _
       (λ k. every-i n _ λ j m. implies-i _ _ λ t. not-i _ (not-true→false _ λ s.
       let none = eqb-true _ 0 (implies-e _ _ k (and-l _ _ t)) in
-      clash (and-i _ _ s (is-free j m ∙ and-r _ _ t)) (sym (has-word 16 _ j (omega arith)) ∙ ap (λ (x : ℕ). has x j) none ∙ has-zero j)))
-      (λ k. implies-i _ _ λ t. eq-eqb _ 0 (empty 16 _ (word-lt 16 _) λ j b. has-word 16 _ j b ∙ not-true→false _ λ s.
-      let m = has-below n free j (and-r _ _ s) (rw e (word-lt n _)) in
-      clash (and-l _ _ s) (not-e _ (implies-e _ _ (every-e n _ k j m) (and-i _ _ t (sym (is-free j m) ∙ and-r _ _ s))))))
+      clash (among-i _ refl j m s (and-r _ _ t)) (ap (λ (x : ℕ). has x j) none ∙ has-zero j)))
+      (λ k. implies-i _ _ λ t. eq-eqb _ 0 (empty width _ (word-lt width _) λ j b. not-true→false _ λ s.
+      let q = among-e _ refl j s in
+      clash (q .1) (not-e _ (implies-e _ _ (every-e n _ k j (q .0)) (and-i _ _ t (q .2))))))
 
 -- A store makes a table of another that differs there alone.
 set-table : (n : ℕ) (f g : ℕ → ℕ) (i v : ℕ) → i < n → v ≡ g i → ((k : ℕ) → (k ≡ i → ⊥) → f k ≡ g k) → set (tabulate n f) i v ≡ tabulate n g
@@ -181,15 +243,15 @@ set-table n f g i v l e h =
     (λ t. getD-set-other (tabulate n f) i k v 0 (eqb-false k i t) ∙ getD-tabulate n f k 0 m ∙ h k (eqb-false k i t)))
 
 -- No lowest value yet, and one more.
-pub lowest-none : (domains : List ℕ) → replicate 16 0 ≡ tabulate 16 (lowestOf 0 domains)
+pub lowest-none : (domains : List ℕ) → replicate variables 0 ≡ tabulate variables (lowestOf 0 domains)
 unfolding lowestOf
 lowest-none domains =
-    is-table 16 _ (replicate 16 0) 0 (length-replicate {A = ℕ} 16 0) (λ k l. getD-replicate 16 k 0 0 l ∙ sym (if-false _ _ _ (le-ltb k 0 (omega arith))))
+    is-table variables _ (replicate variables 0) 0 (length-replicate {A = ℕ} variables 0) (λ k l. getD-replicate variables k 0 0 l ∙ sym (if-false _ _ _ (le-ltb k 0 (omega arith))))
 
-pub lowest-more : (domains values : List ℕ) (i v : ℕ) → i < 16 → values ≡ tabulate 16 (lowestOf i domains) → v ≡ first 16 (has (getD domains i 0))
-    → set values i v ≡ tabulate 16 (lowestOf (i + 1) domains)
+pub lowest-more : (domains values : List ℕ) (i v : ℕ) → i < variables → values ≡ tabulate variables (lowestOf i domains) → v ≡ first width (has (getD domains i 0))
+    → set values i v ≡ tabulate variables (lowestOf (i + 1) domains)
 unfolding lowestOf
 lowest-more domains values i v l e f =
-    rw e (set-table 16 _ _ i v l (f ∙ sym (if-true _ _ _ (lt-ltb i (i + 1) (omega arith))))
-    (λ k d. ap (λ (t : Bool). if t (first 16 (has (getD domains k 0))) 0)
+    rw e (set-table variables _ _ i v l (f ∙ sym (if-true _ _ _ (lt-ltb i (i + 1) (omega arith))))
+    (λ k d. ap (λ (t : Bool). if t (first width (has (getD domains k 0))) 0)
     (bool-ext _ _ (λ t. lt-ltb k (i + 1) (omega (arith, ltb-true k i t))) (λ t. lt-ltb k i (omega (arith, ltb-true k (i + 1) t))))))

@@ -1,16 +1,21 @@
 // Values against the lent arrays of a state: tests, completion and the lowest solution.
+use head::Head;
+use pairs::Rows;
+use pairs::VARIABLES;
+use words::WIDTH;
 ghost use mathlib.Core.Path.{_≡_};
 ghost use mathlib.Core.Bool.{true};
 ghost use Prim.Native.Nat.{ℕ, suc, _<_, _≤_};
 ghost use lib.ListN.{length, getD};
 ghost use Rattle.bounded.specs.Fold.{first};
 ghost use Rattle.bounded.specs.Table.{tabulate};
-ghost use Rattle.words.specs.Word.{has};
-ghost use Rattle.solutions.specs.Choices.{valuesBelow, valueKept, valuesKept, pairKept, sideKept, pairsKept, partnerOf, valueCompleted, Led, Completed, domainOpen, domainsOpen, lowestOf, freeWord, sideApart, freeApart, freshValue, freshParts};
+ghost use Rattle.words.specs.Word.{width, has};
+ghost use Rattle.pairs.specs.Pairs.{variables, allowsOf};
+ghost use Rattle.solutions.specs.Choices.{valuesBelow, valueKept, valuesKept, amongKept, pairsKept, partnerOf, valueCompleted, Led, Completed, LeaderReady, domainOpen, domainsOpen, lowestOf, freeWord, sideApart, freeApart, freshValue, freshParts};
 
 // Each value is below its size.
-pub fn values_below(n: usize, sizes: &[u8; 16], values: &[u8]) -> bool
-    requires { ⌜ (n ≤ 16) × (n ≤ length (now values)) ⌝ }
+pub fn values_below(n: usize, sizes: &[u8; VARIABLES], values: &[u8]) -> bool
+    requires { ⌜ (n ≤ variables) × (n ≤ length (now values)) ⌝ }
     ensures { λ r. ⌜ r ≡ valuesBelow n (now (sizes .entry)) (now (values .entry)) ⌝ }
 {
     let mut all = true;
@@ -20,18 +25,19 @@ pub fn values_below(n: usize, sizes: &[u8; 16], values: &[u8]) -> bool
     all
 }
 
-// A value is a member. Bytes run to 255, members to 15.
-fn has_value(members: u16, value: u8) -> bool
+// A value is a member. Bytes run to 255, members to 31.
+fn has_value(members: u32, value: u8) -> bool
     ensures { λ r. ⌜ r ≡ has members value ⌝ }
 {
-    if 16 <= value {
+    let v = words::wide(value);
+    if WIDTH <= v {
         return false;
     }
-    words::member(members, words::wide(value))
+    words::member(members, v)
 }
 
 // The value of a free variable is in its domain.
-fn value_kept(leader: u8, domain: u16, value: u8) -> bool
+fn value_kept(leader: u8, domain: u32, value: u8) -> bool
     ensures { λ r. ⌜ r ≡ valueKept leader domain value ⌝ }
 {
     if leader != 0 {
@@ -42,11 +48,11 @@ fn value_kept(leader: u8, domain: u16, value: u8) -> bool
 
 pub fn values_kept<'a>(
     n: usize,
-    leaders: &'a [u8; 16],
-    domains: &'a [u16; 16],
+    leaders: &'a [u8; VARIABLES],
+    domains: &'a [u32; VARIABLES],
     values: &[u8],
 ) -> bool
-    requires { ⌜ (n ≤ 16) × (n ≤ length (now values)) ⌝ }
+    requires { ⌜ (n ≤ variables) × (n ≤ length (now values)) ⌝ }
     ensures { λ r. ⌜ r ≡ valuesKept n (now (leaders .entry)) (now (domains .entry)) (now (values .entry)) ⌝ }
 {
     let mut all = true;
@@ -56,103 +62,107 @@ pub fn values_kept<'a>(
     all
 }
 
-// A stated pair of two free variables allows its two values.
-fn pair_kept(
-    leader: u8,
-    other: u8,
-    stated: bool,
-    rows: &[u16; 4096],
-    i: usize,
-    j: usize,
-    a: u8,
-    b: u8,
-) -> bool
-    requires { ⌜ (i < 16) × (j < 16) ⌝ }
-    ensures { λ r. ⌜ r ≡ pairKept leader other stated (now (rows .entry)) i j a b ⌝ }
+// The free variables, as a word.
+fn free_variables(n: usize, leaders: &[u8; VARIABLES]) -> u32
+    requires { ⌜ n ≤ variables ⌝ }
+    ensures { λ r. ⌜ r ≡ freeWord n (now (leaders .entry)) ⌝ }
+{
+    let mut free: u32 = 0;
+    for i in 0..n {
+        free |= ((leaders[i] == 0) as u32) << i;
+    }
+    free
+}
+
+// Value `a` of `i` goes with value `b` of the higher `j`: it is a member of the row of `a`.
+fn row_allows(rows: &Rows, i: usize, j: usize, a: u8, b: u8) -> bool
+    requires { ⌜ (i < j) × (j < variables) ⌝ }
+    ensures { λ r. ⌜ r ≡ allowsOf width (now (rows .entry)) i j a b ⌝ }
+{
+    let value = words::wide(a);
+    if WIDTH <= value {
+        return false;
+    }
+    has_value(pairs::row(rows, i, j, value), b)
+}
+
+// Value `a` of `i` goes with value `b` of `j`. One row of the lower variable tells, whichever it is. No variable goes with itself.
+fn pair_allows(rows: &Rows, i: usize, j: usize, a: u8, b: u8) -> bool
+    requires { ⌜ (i < variables) × (j < variables) ⌝ }
+    ensures { λ r. ⌜ r ≡ allowsOf width (now (rows .entry)) i j a b ⌝ }
+{
+    if i < j {
+        return row_allows(rows, i, j, a, b);
+    }
+    if j < i {
+        return row_allows(rows, j, i, b, a);
+    }
+    false
+}
+
+// The pairs of a free variable `i` with those of `among` allow their two values.
+fn among_kept(leader: u8, among: u32, rows: &Rows, values: &[u8], i: usize) -> bool
+    requires { ⌜ (i < variables) × (i < length (now values)) × ((j : ℕ) → has among j ≡ true → (j < variables) × (j < length (now values))) ⌝ }
+    ensures { λ r. ⌜ r ≡ amongKept leader among (now (rows .entry)) (now (values .entry)) i ⌝ }
 {
     if leader != 0 {
         return true;
     }
-    if other != 0 {
-        return true;
+    let mut rest = among;
+    while rest != 0 {
+        let j = words::lowest(rest);
+        if !pair_allows(rows, i, j, values[i], values[j]) {
+            return false;
+        }
+        rest = words::dropped(rest);
     }
-    if !stated {
-        return true;
-    }
-    if 16 <= a {
-        return false;
-    }
-    has_value(rows::row(rows, i, j, words::wide(a)), b)
+    true
 }
 
-fn side_kept(
-    n: usize,
-    leaders: &[u8; 16],
-    stated: u16,
-    rows: &[u16; 4096],
-    values: &[u8],
-    i: usize,
-) -> bool
-    requires { ⌜ (n ≤ 16) × (n ≤ length (now values)) × (i < n) ⌝ }
-    ensures { λ r. ⌜ r ≡ sideKept n (now (leaders .entry)) stated (now (rows .entry)) (now (values .entry)) i ⌝ }
-{
-    let mut all = true;
-    for j in 0..n {
-        all &= pair_kept(
-            leaders[i],
-            leaders[j],
-            words::member(stated, j),
-            rows,
-            i,
-            j,
-            values[i],
-            values[j],
-        );
-    }
-    all
-}
-
+// Each stated pair of two free variables allows its two values.
 pub fn pairs_kept<'a>(
     n: usize,
-    leaders: &'a [u8; 16],
-    stated: &'a [u16; 16],
-    rows: &'a [u16; 4096],
+    leaders: &'a [u8; VARIABLES],
+    stated: &'a [u32; VARIABLES],
+    rows: &'a Rows,
     values: &[u8],
 ) -> bool
-    requires { ⌜ (n ≤ 16) × (n ≤ length (now values)) ⌝ }
+    requires { ⌜ (n ≤ variables) × (n ≤ length (now values)) ⌝ }
     ensures { λ r. ⌜ r ≡ pairsKept n (now (leaders .entry)) (now (stated .entry)) (now (rows .entry)) (now (values .entry)) ⌝ }
 {
-    let mut all = true;
+    let free = free_variables(n, leaders);
     for i in 0..n {
-        all &= side_kept(n, leaders, stated[i], rows, values, i);
+        if !among_kept(leaders[i], words::both(stated[i], free), rows, values, i) {
+            return false;
+        }
     }
-    all
+    true
 }
 
 // The lowest value of a domain: its trailing zeros.
-fn lowest_value(domain: u16) -> u8
-    ensures { λ r. ⌜ r ≡ first 16 (has domain) ⌝ }
+fn lowest_value(domain: u32) -> u8
+    ensures { λ r. ⌜ r ≡ first width (has domain) ⌝ }
 {
     words::lowest(domain) as u8
 }
 
 // The value in `domain` of `i` that goes with value `a` of `l`: trailing zeros name the single partner.
-fn partner_of(rows: &[u16; 4096], l: usize, i: usize, domain: u16, a: usize) -> u8
-    requires { ⌜ (l < 16) × (i < 16) × (a < 16) ⌝ }
+fn partner_of(rows: &Rows, l: usize, i: usize, domain: u32, a: usize) -> u8
+    requires { ⌜ (l < variables) × (i < variables) × (l ≡ i → ⊥) × (a < width) ⌝ }
     ensures { λ r. ⌜ r ≡ partnerOf (now (rows .entry)) l i domain a ⌝ }
 {
-    lowest_value(words::both(domain, rows::row(rows, l, i, a)))
+    lowest_value(words::both(domain, pairs::row(rows, l, i, a)))
 }
 
 // A free variable keeps its value; a follower gets the partner of its leader's.
 fn value_completed(
-    domains: &[u16; 16],
-    leaders: &[u8; 16],
-    rows: &[u16; 4096],
+    domains: &[u32; VARIABLES],
+    leaders: &[u8; VARIABLES],
+    rows: &Rows,
     values: &[u8],
     i: usize,
 ) -> u8
-    requires { ⌜ (i < 16) × (i < length (now values)) × ((l : ℕ) → getD (now leaders) i 0 ≡ suc l → (l < 16) × (l < length (now values)) × (getD (now values) l 0 < 16)) ⌝ }
+    requires { ⌜ (i < variables) × (i < length (now values)) × ((l : ℕ) → getD (now leaders) i 0 ≡ suc l → LeaderReady i l (now values)) ⌝ }
     ensures { λ r. ⌜ r ≡ valueCompleted (now (domains .entry)) (now (leaders .entry)) (now (rows .entry)) (now (values .entry)) i ⌝ }
 {
     let leader = leaders[i];
@@ -166,9 +176,9 @@ fn value_completed(
 // Writes the values of followers. A leader is free, so its value is that of the entry, whichever of the two is written first.
 pub fn complete_values<'a>(
     n: usize,
-    domains: &'a [u16; 16],
-    leaders: &'a [u8; 16],
-    rows: &'a [u16; 4096],
+    domains: &'a [u32; VARIABLES],
+    leaders: &'a [u8; VARIABLES],
+    rows: &'a Rows,
     values: &mut [u8],
 )
     requires { ⌜ Led n (now leaders) (now values) ⌝ }
@@ -181,7 +191,7 @@ pub fn complete_values<'a>(
 }
 
 // A free variable has a value left.
-fn domain_open(leader: u8, domain: u16) -> bool
+fn domain_open(leader: u8, domain: u32) -> bool
     ensures { λ r. ⌜ r ≡ domainOpen leader domain ⌝ }
 {
     if leader != 0 {
@@ -190,8 +200,12 @@ fn domain_open(leader: u8, domain: u16) -> bool
     domain != 0
 }
 
-pub fn domains_open<'a>(n: usize, leaders: &'a [u8; 16], domains: &'a [u16; 16]) -> bool
-    requires { ⌜ n ≤ 16 ⌝ }
+pub fn domains_open<'a>(
+    n: usize,
+    leaders: &'a [u8; VARIABLES],
+    domains: &'a [u32; VARIABLES],
+) -> bool
+    requires { ⌜ n ≤ variables ⌝ }
     ensures { λ r. ⌜ r ≡ domainsOpen n (now (leaders .entry)) (now (domains .entry)) ⌝ }
 {
     let mut all = true;
@@ -201,20 +215,8 @@ pub fn domains_open<'a>(n: usize, leaders: &'a [u8; 16], domains: &'a [u16; 16])
     all
 }
 
-// The free variables, as a word.
-fn free_variables(n: usize, leaders: &[u8; 16]) -> u16
-    requires { ⌜ n ≤ 16 ⌝ }
-    ensures { λ r. ⌜ r ≡ freeWord n (now (leaders .entry)) ⌝ }
-{
-    let mut free: u16 = 0;
-    for i in 0..n {
-        free |= ((leaders[i] == 0) as u16) << i;
-    }
-    free
-}
-
 // A free variable is stated with none of the free ones.
-fn side_apart(leader: u8, stated: u16, free: u16) -> bool
+fn side_apart(leader: u8, stated: u32, free: u32) -> bool
     ensures { λ r. ⌜ r ≡ sideApart leader stated free ⌝ }
 {
     if leader != 0 {
@@ -224,8 +226,8 @@ fn side_apart(leader: u8, stated: u16, free: u16) -> bool
 }
 
 // No two free variables are stated together. No row is read: stated is the mark, whatever the rows allow.
-pub fn free_apart<'a>(n: usize, leaders: &'a [u8; 16], stated: &'a [u16; 16]) -> bool
-    requires { ⌜ n ≤ 16 ⌝ }
+pub fn free_apart<'a>(n: usize, leaders: &'a [u8; VARIABLES], stated: &'a [u32; VARIABLES]) -> bool
+    requires { ⌜ n ≤ variables ⌝ }
     ensures { λ r. ⌜ r ≡ freeApart n (now (leaders .entry)) (now (stated .entry)) ⌝ }
 {
     let free = free_variables(n, leaders);
@@ -237,11 +239,11 @@ pub fn free_apart<'a>(n: usize, leaders: &'a [u8; 16], stated: &'a [u16; 16]) ->
 }
 
 // The lowest value of each domain.
-fn lowest_values(n: usize, domains: &[u16; 16]) -> [u8; 16]
-    requires { ⌜ n ≤ 16 ⌝ }
-    ensures { λ r. ⌜ r ≡ tabulate 16 (lowestOf n (now (domains .entry))) ⌝ }
+fn lowest_values(n: usize, domains: &[u32; VARIABLES]) -> [u8; VARIABLES]
+    requires { ⌜ n ≤ variables ⌝ }
+    ensures { λ r. ⌜ r ≡ tabulate variables (lowestOf n (now (domains .entry))) ⌝ }
 {
-    let mut values = [0u8; 16];
+    let mut values = [0u8; VARIABLES];
     for i in 0..n {
         values[i] = lowest_value(domains[i]);
     }
@@ -251,12 +253,12 @@ fn lowest_values(n: usize, domains: &[u16; 16]) -> [u8; 16]
 // The solution in which free variables take their lowest values.
 pub fn lowest_solution<'a>(
     n: usize,
-    domains: &'a [u16; 16],
-    leaders: &'a [u8; 16],
-    rows: &'a [u16; 4096],
-) -> [u8; 16]
-    requires { ⌜ Led n (now leaders) (tabulate 16 (lowestOf n (now domains))) ⌝ }
-    ensures { λ r. ⌜ Completed n (now (domains .entry)) (now (leaders .entry)) (now (rows .entry)) (tabulate 16 (lowestOf n (now (domains .entry)))) r ⌝ }
+    domains: &'a [u32; VARIABLES],
+    leaders: &'a [u8; VARIABLES],
+    rows: &'a Rows,
+) -> [u8; VARIABLES]
+    requires { ⌜ Led n (now leaders) (tabulate variables (lowestOf n (now domains))) ⌝ }
+    ensures { λ r. ⌜ Completed n (now (domains .entry)) (now (leaders .entry)) (now (rows .entry)) (tabulate variables (lowestOf n (now (domains .entry)))) r ⌝ }
 {
     let mut values = lowest_values(n, domains);
     complete_values(n, domains, leaders, rows, &mut values);
@@ -264,8 +266,8 @@ pub fn lowest_solution<'a>(
 }
 
 // A free variable with a full domain.
-fn fresh_value(leader: u8, domain: u16, size: u8) -> bool
-    requires { ⌜ size ≤ 16 ⌝ }
+fn fresh_value(leader: u8, domain: u32, size: u8) -> bool
+    requires { ⌜ size ≤ width ⌝ }
     ensures { λ r. ⌜ r ≡ freshValue leader domain size ⌝ }
 {
     if leader != 0 {
@@ -275,15 +277,14 @@ fn fresh_value(leader: u8, domain: u16, size: u8) -> bool
 }
 
 // No follower, and each domain is full.
-pub fn fresh_parts<'a>(
-    n: usize,
-    sizes: &'a [u8; 16],
-    domains: &'a [u16; 16],
-    leaders: &'a [u8; 16],
-) -> bool
-    requires { ⌜ (n ≤ 16) × ((i : ℕ) → getD (now sizes) i 0 ≤ 16) ⌝ }
-    ensures { λ r. ⌜ r ≡ freshParts n (now (sizes .entry)) (now (domains .entry)) (now (leaders .entry)) ⌝ }
+pub fn fresh_parts(head: Head) -> bool
+    requires { ⌜ (head .n ≤ variables) × ((i : ℕ) → getD (head .sizes) i 0 ≤ width) ⌝ }
+    ensures { λ r. ⌜ r ≡ freshParts (head .n) (head .sizes) (head .domains) (head .leaders) ⌝ }
 {
+    let n = head.n;
+    let sizes = head.sizes;
+    let domains = head.domains;
+    let leaders = head.leaders;
     let mut all = true;
     for i in 0..n {
         all &= fresh_value(leaders[i], domains[i], sizes[i]);

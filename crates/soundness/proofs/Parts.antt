@@ -1,8 +1,8 @@
--- The tests on the arrays together are the test of soundness: to the facts of a sound network and back.
-use mathlib.Core.Bool.{true}
-use mathlib.Core.List.{List}
+-- The tests on a head and rows together are the test of soundness: to the facts of a sound network and back.
+use mathlib.Core.Bool.{true, false}
+use mathlib.Core.List.{List, []}
 use mathlib.Core.Path.{_≡_, refl, sym, ap, _∙_}
-use Prim.Native.Nat.{ℕ, suc, pred, _^_, _≤_, _<_}
+use Prim.Native.Nat.{ℕ, suc, pred, _+_, _*_, _^_, _≤_, _<_}
 use native.Mathlib.Omega.{arith}
 use lib.Dec.{eqb, ltb}
 use lib.ListN.{getD}
@@ -11,273 +11,324 @@ use Rattle.bounded.specs.Bool.{and, not}
 use Rattle.bounded.specs.Fold.{count}
 use Rattle.bounded.proofs.Array.{array-past}
 use Rattle.bounded.proofs.Bool.{by-cases, clash, bool-ext, not-true→false, and-i, and-l, and-r, implies-i, implies-e, not-i, not-e, if-true, if-false}
-use Rattle.bounded.proofs.Fold.{every-i, every-e, count-cong, count-widen}
-use Rattle.words.specs.Word.{has, word}
-use Rattle.words.proofs.Laws.{has-word, has-below, has-zero, is-word, empty}
+use Rattle.bounded.proofs.Fold.{every-i, every-e, count-widen}
+use Rattle.words.specs.Word.{width, has, word}
+use Rattle.words.proofs.Laws.{has-word, has-zero, is-word, word-widen, empty}
 use Rattle.network.specs.Network.{partner}
-use Rattle.network.specs.Sound.{Sound, Bounded, sound, countSound, sizesSound, domainsSound}
-use Rattle.network.proofs.Sound.{sound→Sound, sound-size, Sound→sound}
-use Rattle.rows.specs.Rows.{rowAt, mirroredAt, partnersAt, partnersWithin, allowsOf}
-use Rattle.rows.specs.Search.{rowsIn}
-use Rattle.rows.proofs.Array.{member-within, allowed-within}
-use Rattle.rows.proofs.Laws.{allows-row, mirrored-e, mirrored-i}
-use Rattle.soundness.specs.Parts.{partsView, Lent, sizeFits, sizesFit, within, domainsFit, statedWith, variableFits, pairsFit, againstFits, rowsWithin, sideMirrored, sidesMirrored, rowsFit, followerFits, freeOrFits, followersFit, partsFit}
+use Rattle.network.specs.Sound.{Sound}
+use Rattle.pairs.specs.Pairs.{variables, slot, rowAt, allowsOf, partnersAt, partnersWithin}
+use Rattle.pairs.proofs.Places.{Placed, placed, every-place, slot-before, slot-after}
+use Rattle.pairs.proofs.Laws.{Inside, allows-up, allows-inside, allows-apart, allows-alike}
+use Rattle.head.specs.declared.Head.{Head}
+use Rattle.head.specs.Held.{mostValues, HeadShaped, held, soundIn}
+use Rattle.head.proofs.Held.{held-bounded, held-sound, held-n, held-size, sound-held}
+use Rattle.soundness.specs.Parts.{sizeFits, sizesFit, within, domainsFit, statedWith, variableFits, pairsFit, headFits, pastFits, constraintFits, pairRowsFit, lowerRowsFit, rowsFit, followerFits, freeOrFits, followersFit, partsFit}
+use Rattle.soundness.proofs.Joins.{join-i, join-e, join-empty-e, join-empty-i}
 
 -- A word within k has its members below k.
-within-e : (x k v : ℕ) → x < 2 ^ 16 → within x k ≡ true → has x v ≡ true → v < k
+within-e : (x k v : ℕ) → v < width → within x k ≡ true → has x v ≡ true → v < k
 unfolding within
-within-e x k v b h m = ltb-true _ _ (implies-e _ _ (every-e 16 _ h v (has-below 16 x v m b)) m)
+within-e x k v b h m = ltb-true _ _ (implies-e _ _ (every-e width _ h v b) m)
 
-within-i : (x k : ℕ) → ((v : ℕ) → has x v ≡ true → v < k) → within x k ≡ true
+within-i : (x k : ℕ) → ((v : ℕ) → v < width → has x v ≡ true → v < k) → within x k ≡ true
 unfolding within
-within-i x k h = every-i 16 _ (λ v _. implies-i _ _ (λ m. lt-ltb _ _ (h v m)))
+within-i x k h = every-i width _ (λ v b. implies-i _ _ (λ m. lt-ltb _ _ (h v b m)))
 
--- The network of the parts lies within the bounds.
-pub parts-bounded : (n : ℕ) (sizes domains leaders stated rows : List ℕ) → Lent sizes domains leaders stated rows
-    → Bounded 16 16 (partsView n sizes domains leaders stated rows)
-unfolding partsView
-parts-bounded n sizes domains leaders stated rows A =
-    record {
-      size-bound = array-past 16 (2 ^ 8) sizes (A .sizes-lent);
-      leader-bound = array-past 16 (2 ^ 8) leaders (A .leaders-lent);
-      domain-bound = member-within 16 16 domains (A .domains-lent);
-      stated-bound = member-within 16 16 stated (A .stated-lent);
-      allows-bound = allowed-within 16 rows (A .rows-lent);
-    }
+module _ (h : Head) (A : HeadShaped h) where
+  -- ---- from the tests to the facts: the head, whatever the rows are
 
-module _ (n : ℕ) {sizes domains leaders stated rows : List ℕ} (A : Lent sizes domains leaders stated rows) where
-  -- ---- from the tests to the facts
-
-  size-e : sizesFit n sizes ≡ true → (i : ℕ) → i < n → i < 16 → (1 ≤ getD sizes i 0) × (getD sizes i 0 ≤ 16)
+  size-e : sizesFit (h .n) (h .sizes) ≡ true → (i : ℕ) → i < h .n → i < variables → (1 ≤ getD (h .sizes) i 0) × (getD (h .sizes) i 0 ≤ mostValues)
   unfolding sizesFit sizeFits
-  size-e h i l m =
-      let t = sym (if-true _ _ _ (lt-ltb i n l)) ∙ every-e 16 _ h i m in
-      (leb-true _ _ (and-l _ _ t), leb-true _ _ (and-r _ _ t))
+  size-e t i l m =
+      let u = sym (if-true _ _ _ (lt-ltb i (h .n) l)) ∙ every-e variables _ t i m in
+      (leb-true _ _ (and-l _ _ u), leb-true _ _ (and-r _ _ u))
 
-  size-past-e : sizesFit n sizes ≡ true → (i : ℕ) → n ≤ i → getD sizes i 0 ≡ 0
+  size-past-e : sizesFit (h .n) (h .sizes) ≡ true → (i : ℕ) → h .n ≤ i → getD (h .sizes) i 0 ≡ 0
   unfolding sizesFit sizeFits
-  size-past-e h i l =
-      by-cases (ltb i 16)
-      (λ t. eqb-true _ _ (sym (if-false _ _ _ (le-ltb i n l)) ∙ every-e 16 _ h i (ltb-true _ _ t)))
-      (λ t. array-past 16 (2 ^ 8) sizes (A .sizes-lent) i (ltb-false _ _ t))
+  size-past-e t i l =
+      by-cases (ltb i variables)
+      (λ u. eqb-true _ _ (sym (if-false _ _ _ (le-ltb i (h .n) l)) ∙ every-e variables _ t i (ltb-true _ _ u)))
+      (λ u. array-past variables (2 ^ 8) (h .sizes) (A .sizes-array) i (ltb-false _ _ u))
 
-  -- Every size is at most 16.
-  pub size-le : n ≤ 16 → sizesFit n sizes ≡ true → (i : ℕ) → getD sizes i 0 ≤ 16
-  size-le b h i =
-      by-cases (ltb i n)
-      (λ t. size-e h i (ltb-true _ _ t) (omega (arith, ltb-true i n t)) .1)
-      (λ t. omega (arith, size-past-e h i (ltb-false _ _ t)))
+  -- Every size is at most the largest.
+  pub size-le : h .n ≤ variables → sizesFit (h .n) (h .sizes) ≡ true → (i : ℕ) → getD (h .sizes) i 0 ≤ mostValues
+  size-le b t i =
+      by-cases (ltb i (h .n))
+      (λ u. size-e t i (ltb-true _ _ u) (omega (arith, ltb-true i (h .n) u)) .1)
+      (λ u. omega (arith, size-past-e t i (ltb-false _ _ u)))
 
-  domain-e : domainsFit sizes domains ≡ true → (i a : ℕ) → has (getD domains i 0) a ≡ true → a < getD sizes i 0
-  unfolding domainsFit
-  domain-e h i a d =
-      within-e _ _ a (A .domains-lent .element-lt i) (every-e 16 _ h i (member-within 16 16 domains (A .domains-lent) i a d .0)) d
+  domain-e : domainsFit (h .sizes) (h .domains) ≡ true → (i a : ℕ) → has (getD (h .domains) i 0) a ≡ true → a < getD (h .sizes) i 0
+  unfolding domainsFit held
+  domain-e t i a d =
+      let b = held-bounded h [] A .domain-bound i a d in
+      within-e _ _ a (b .1) (every-e variables _ t i (b .0)) d
 
-  module _ (P : pairsFit n stated ≡ true) where
-    below-e : (i j : ℕ) → has (getD stated i 0) j ≡ true → variableFits n stated i ≡ true
-        → and (within (getD stated i 0) n) (and (not (has (getD stated i 0) i)) (eqb (getD stated i 0) (statedWith stated i))) ≡ true
+  module _ (P : pairsFit (h .n) (h .stated) ≡ true) where
+    below-e : (i j : ℕ) → has (getD (h .stated) i 0) j ≡ true → variableFits (h .n) (h .stated) i ≡ true
+        → and (within (getD (h .stated) i 0) (h .n)) (and (not (has (getD (h .stated) i 0) i)) (eqb (getD (h .stated) i 0) (statedWith (h .stated) i))) ≡ true
     unfolding variableFits
     below-e i j s t =
-        by-cases (ltb i n)
+        by-cases (ltb i (h .n))
         (λ c. sym (if-true _ _ _ c) ∙ t)
-        (λ c. let e : getD stated i 0 ≡ 0 = eqb-true _ _ (sym (if-false _ _ _ c) ∙ t) in clash s (rw e (has-zero j)))
+        (λ c. let e : getD (h .stated) i 0 ≡ 0 = eqb-true _ _ (sym (if-false _ _ _ c) ∙ t) in clash s (rw e (has-zero j)))
 
     -- What is stated of i: the other is below n and not i, and says the same.
-    stated-e : (i j : ℕ) → has (getD stated i 0) j ≡ true → (j < n) × (i ≡ j → ⊥) × (has (getD stated j 0) i ≡ true)
-    unfolding pairsFit statedWith
-    stated-e i j s =
-        let b = member-within 16 16 stated (A .stated-lent) i j s in
-        let t = below-e i j s (every-e 16 _ P i (b .0)) in
-        let rest = and-r _ _ t in (
-          within-e _ _ j (A .stated-lent .element-lt i) (and-l _ _ t) s,
+    stated-e : h .n ≤ variables → (i j : ℕ) → has (getD (h .stated) i 0) j ≡ true → (j < h .n) × (i ≡ j → ⊥) × (has (getD (h .stated) j 0) i ≡ true)
+    unfolding pairsFit statedWith held
+    stated-e m i j s =
+        let b = held-bounded h [] A .stated-bound i j s in
+        let t = below-e i j s (every-e variables _ P i (b .0)) in
+        let rest = and-r _ _ t in
+        let l : j < h .n = within-e _ _ j (b .1) (and-l _ _ t) s in (
+          l,
           (λ e. clash (rw (← e) at s) (not-e _ (and-l _ _ rest))),
-          sym (has-word 16 _ j (b .1)) ∙ ap (λ (x : ℕ). has x j) (sym (eqb-true _ _ (and-r _ _ rest))) ∙ s,
+          sym (has-word variables _ j (omega arith)) ∙ ap (λ (x : ℕ). has x j) (sym (eqb-true _ _ (and-r _ _ rest))) ∙ s,
         )
 
-    module _ (R : rowsFit n sizes stated rows ≡ true) where
-      -- What a pair allows: it is stated, and within the size of j.
-      row-e : (i j a b : ℕ) → i < 16 → j < 16 → a < 16 → b < 16 → has (rowAt 16 rows i j a) b ≡ true
-          → (has (getD stated i 0) j ≡ true) × (b < getD sizes j 0)
-      unfolding rowsFit rowsWithin againstFits rowsIn
-      row-e i j a b li lj la lb h =
-          let side = every-e 16 _ (every-e 16 _ (and-l _ _ R) j lj) i li in
-          let t = implies-e _ _ (every-e 16 _ (every-e 16 _ side a la) b lb) h in
-          (stated-e j i (and-l _ _ t) .2, ltb-true _ _ (and-r _ _ t))
+    -- No variable is stated with itself.
+    pub self-e : h .n ≤ variables → (i : ℕ) → has (getD (h .stated) i 0) i ≡ false
+    self-e m i = not-true→false _ (λ s. stated-e m i i s .1 refl)
 
-      -- The two sides of a stated pair say the same: the higher one was compared.
-      higher-e : (i j : ℕ) → has (getD stated i 0) j ≡ true → j < i → mirroredAt 16 rows i j ≡ true
-      unfolding rowsFit sidesMirrored sideMirrored
-      higher-e i j s l = implies-e _ _ (every-e i _ (every-e n _ (and-r _ _ R) i (stated-e j i (stated-e i j s .2) .0)) j l) s
+  module _ (rows : List ℕ) where
+    -- ---- the rows
 
-      other-e : (i j a b : ℕ) → i < 16 → j < 16 → a < 16 → b < 16 → has (rowAt 16 rows i j a) b ≡ true → has (rowAt 16 rows j i b) a ≡ true
-      other-e i j a b li lj la lb h =
-          let s = row-e i j a b li lj la lb h .0 in
-          let t = stated-e i j s in
-          by-cases (ltb j i)
-          (λ c. sym (mirrored-e 16 rows i j (higher-e i j s (ltb-true j i c)) a b la lb) ∙ h)
-          (λ c. mirrored-e 16 rows j i (higher-e j i (t .2) (let d : i ≡ j → ⊥ = t .1 in omega (arith, ltb-false j i c))) b a lb la ∙ h)
+    module _ (m : h .n ≤ variables) (P : pairsFit (h .n) (h .stated) ≡ true) (R : rowsFit (h .n) (h .sizes) (h .stated) rows ≡ true) where
+      -- A row belongs to a pair below n,
+      upper-e : (i j a b : ℕ) → i < j → j < variables → a < width → b < width → has (getD rows (slot i j * width + a) 0) b ≡ true → j < h .n
+      unfolding rowsFit pastFits
+      upper-e i j a b l k la lb t =
+          by-cases (ltb j (h .n))
+          (λ u. ltb-true _ _ u)
+          (λ u.
+          let past = slot-after i j (h .n) l (ltb-false _ _ u) k in
+          let room = placed i j l k .slot-lt in
+          clash t (join-empty-e width rows (slot 0 (h .n) * width) _ (and-l _ _ R) (slot i j * width + a) b (omega arith) (omega arith) lb))
 
-      allowed-e : (i j a b : ℕ) → allowsOf 16 rows i j a b ≡ true
-          → (has (getD stated i 0) j ≡ true) × (a < getD sizes i 0) × (b < getD sizes j 0) × (allowsOf 16 rows j i b a ≡ true)
-      allowed-e i j a b h =
-          let w = allowed-within 16 rows (A .rows-lent) i j a b h in
-          let m = sym (allows-row 16 rows i j a b (w .1) (w .2)) ∙ h in
-          let o = other-e i j a b (w .0) (w .1) (w .2) (w .3) m in
-          let r = row-e i j a b (w .0) (w .1) (w .2) (w .3) m in
-          let q = row-e j i b a (w .1) (w .0) (w .3) (w .2) o in
-          (r .0, q .1, r .1, allows-row 16 rows j i b a (w .0) (w .3) ∙ o)
+      -- and to a stated one, and lies within the sizes.
+      row-e : (i j a b : ℕ) → i < j → j < variables → a < width → b < width → has (getD rows (slot i j * width + a) 0) b ≡ true
+          → (has (getD (h .stated) j 0) i ≡ true) × (a < getD (h .sizes) i 0) × (b < getD (h .sizes) j 0)
+      unfolding rowsFit lowerRowsFit pairRowsFit constraintFits
+      row-e i j a b l k la lb t =
+          let pair = every-e j _ (every-e (h .n) _ (and-r _ _ R) j (upper-e i j a b l k la lb t)) i l in
+          let at = slot i j * width in
+          let size = getD (h .sizes) i 0 in
+          by-cases (has (getD (h .stated) j 0) i)
+          (λ s.
+          let both = sym (if-true _ _ _ s) ∙ pair in
+          by-cases (ltb a size)
+          (λ u. let v = ltb-true a size u in (s, v, within-e _ _ b lb (and-r _ _ both) (join-i width rows at size (at + a) b (omega arith) (omega arith) lb t)))
+          (λ u. let v = ltb-false a size u in clash t (join-empty-e width rows (at + size) _ (and-l _ _ both) (at + a) b (omega arith) (omega arith) lb)))
+          (λ s. clash t (join-empty-e width rows at width (sym (if-false _ _ _ s) ∙ pair) (at + a) b (omega arith) (omega arith) lb))
 
-  -- The partners that are counted are those of the network.
-  partners-e : (i l a : ℕ) → i < 16 → a < 16 → getD sizes i 0 ≤ 16 → ((b : ℕ) → has (getD domains i 0) b ≡ true → b < getD sizes i 0)
-      → partnersAt 16 rows l i (getD domains i 0) a ≡ count (getD sizes i 0) (partner (partsView n sizes domains leaders stated rows) l i a)
-  unfolding partnersAt partner partsView
-  partners-e i l a li la le d =
-      count-cong 16 _ _ (λ b _. ap (and _) (sym (allows-row 16 rows l i a b li la)))
-      ∙ count-widen (getD sizes i 0) 16 _ le
-      (λ b m. not-true→false _ (λ t. let x : ⊥ = omega (arith, d b (and-l _ _ t)) in x))
+      allowed-e : (i j a b : ℕ) → allowsOf width rows i j a b ≡ true
+          → (has (getD (h .stated) i 0) j ≡ true) × (a < getD (h .sizes) i 0) × (b < getD (h .sizes) j 0)
+      unfolding rowAt
+      allowed-e i j a b t =
+          let n = allows-inside width rows i j a b t in
+          let d = allows-apart width rows i j a b t in
+          by-cases (ltb i j)
+          (λ u.
+          let l = ltb-true i j u in
+          let r = row-e i j a b l (n .second-in) (n .value-in) (n .other-in) (sym (allows-up width rows i j a b l (n .second-in) (n .value-in) (n .other-in)) ∙ t) in
+          (stated-e P m j i (r .0) .2, r .1, r .2))
+          (λ u.
+          let l : j < i = omega (arith, ltb-false i j u) in
+          let r = row-e j i b a l (n .first-in) (n .other-in) (n .value-in)
+          (sym (allows-up width rows j i b a l (n .first-in) (n .other-in) (n .value-in)) ∙ sym (allows-alike width rows i j a b) ∙ t) in
+          (r .0, r .2, r .1))
 
-  module _ (F : followersFit n domains leaders stated rows ≡ true) where
-    led-e : (i l : ℕ) → getD leaders i 0 ≡ suc l → (i < 16) × (followerFits n domains leaders stated rows i l ≡ true)
-    unfolding followersFit freeOrFits
-    led-e i l e =
-        by-cases (ltb i 16)
-        (λ t. (
-          ltb-true _ _ t,
-          rw (let p : pred (getD leaders i 0) ≡ l = omega arith in p)
-              at (implies-e _ _ (every-e 16 _ F i (ltb-true _ _ t)) (not-i _ (ne-eqb (getD leaders i 0) 0 (λ q. let x : ⊥ = omega arith in x)))),
-        ))
-        (λ t. absurd (let x : ⊥ = omega (arith, array-past 16 (2 ^ 8) leaders (A .leaders-lent) i (ltb-false _ _ t)) in x))
+    -- ---- the followers
 
-    -- What is said of a follower i of l.
-    follower-e : (i l : ℕ) → getD leaders i 0 ≡ suc l
-        → (l < n) × (getD leaders l 0 ≡ 0) × (getD stated i 0 ≡ word 16 (λ (u : ℕ). eqb u l))
-        × (partnersWithin 16 rows l i (getD domains l 0) (getD domains i 0) 1 1 ≡ true)
-    unfolding followerFits
-    follower-e i l e =
-        let t = led-e i l e .1 in
-        let u = and-r _ _ t in
-        let v = and-r _ _ u in
-        (ltb-true _ _ (and-l _ _ t), eqb-true _ _ (and-l _ _ u), eqb-true _ _ (and-l _ _ v), and-r _ _ v)
+    -- The partners that are counted are those of the network.
+    partners-e : (i l a : ℕ) → getD (h .sizes) i 0 ≤ mostValues → ((b : ℕ) → has (getD (h .domains) i 0) b ≡ true → b < getD (h .sizes) i 0)
+        → partnersAt width rows l i (getD (h .domains) i 0) a ≡ count (getD (h .sizes) i 0) (partner (held h rows) l i a)
+    unfolding partnersAt partner held
+    partners-e i l a le d =
+        count-widen (getD (h .sizes) i 0) width _ (omega arith)
+        (λ b m. not-true→false _ (λ t. let x : ⊥ = omega (arith, d b (and-l _ _ t)) in x))
 
-    tied-e : (i l : ℕ) → n ≤ 16 → getD leaders i 0 ≡ suc l → has (getD stated i 0) l ≡ true
-    tied-e i l b e =
-        let f = follower-e i l e in
-        ap (λ (x : ℕ). has x l) (f .2) ∙ has-word 16 _ l (omega (arith, f .0)) ∙ eq-eqb l l refl
+    module _ (F : followersFit h rows ≡ true) where
+      led-e : (i l : ℕ) → getD (h .leaders) i 0 ≡ suc l → followerFits (h .n) (h .domains) (h .leaders) rows i (getD (h .stated) i 0) l ≡ true
+      unfolding followersFit freeOrFits
+      led-e i l e =
+          by-cases (ltb i variables)
+          (λ t.
+          rw (let p : pred (getD (h .leaders) i 0) ≡ l = omega arith in p)
+          at (implies-e _ _ (every-e variables _ F i (ltb-true _ _ t)) (not-i _ (ne-eqb (getD (h .leaders) i 0) 0 (λ q. let x : ⊥ = omega arith in x)))))
+          (λ t. absurd (let x : ⊥ = omega (arith, array-past variables (2 ^ 8) (h .leaders) (A .leaders-array) i (ltb-false _ _ t)) in x))
 
-    only-e : (i l k : ℕ) → getD leaders i 0 ≡ suc l → has (getD stated i 0) k ≡ true → k ≡ l
-    only-e i l k e s =
-        eqb-true _ _ (sym (has-word 16 _ k (member-within 16 16 stated (A .stated-lent) i k s .1)) ∙ ap (λ (x : ℕ). has x k) (sym (follower-e i l e .2)) ∙ s)
+      follower-e : (i l : ℕ) → getD (h .leaders) i 0 ≡ suc l
+          → (l < h .n) × (getD (h .leaders) l 0 ≡ 0) × (getD (h .stated) i 0 ≡ word width (λ (u : ℕ). eqb u l))
+          × (partnersWithin width rows l i (getD (h .domains) l 0) (getD (h .domains) i 0) 1 1 ≡ true)
+      unfolding followerFits
+      follower-e i l e =
+          let t = led-e i l e in
+          let u = and-r _ _ t in
+          let v = and-r _ _ u in
+          (ltb-true _ _ (and-l _ _ t), eqb-true _ _ (and-l _ _ u), eqb-true _ _ (and-l _ _ v), and-r _ _ v)
 
-    one-e : (i l a : ℕ) → n ≤ 16 → sizesFit n sizes ≡ true → domainsFit sizes domains ≡ true → getD leaders i 0 ≡ suc l → has (getD domains l 0) a ≡ true
-        → count (getD sizes i 0) (partner (partsView n sizes domains leaders stated rows) l i a) ≡ 1
-    unfolding partnersWithin
-    one-e i l a b S D e d =
-        let la = member-within 16 16 domains (A .domains-lent) l a d .1 in
-        let t = implies-e _ _ (every-e 16 _ (follower-e i l e .3) a la) d in
-        let least : 1 ≤ partnersAt 16 rows l i (getD domains i 0) a = leb-true _ _ (and-l _ _ t) in
-        let most : partnersAt 16 rows l i (getD domains i 0) a ≤ 1 = leb-true _ _ (and-r _ _ t) in
-        omega (arith, partners-e i l a (led-e i l e .0) la (size-le b S i) (domain-e D i))
+      tied-e : (i l : ℕ) → h .n ≤ variables → getD (h .leaders) i 0 ≡ suc l → has (getD (h .stated) i 0) l ≡ true
+      tied-e i l b e =
+          let f = follower-e i l e in
+          ap (λ (x : ℕ). has x l) (f .2) ∙ has-word width _ l (omega (arith, f .0)) ∙ eq-eqb l l refl
 
-  fit-sound : partsFit n sizes domains leaders stated rows ≡ true → sound 16 16 16 (partsView n sizes domains leaders stated rows) ≡ true
-  unfolding partsFit partsView
-  fit-sound h =
-      let h1 = and-r _ _ h in
-      let h2 = and-r _ _ h1 in
-      let h3 = and-r _ _ h2 in
-      let h4 = and-r _ _ h3 in
-      let S = and-l _ _ h2 in
-      let D = and-l _ _ h3 in
-      let P = and-l _ _ h4 in
-      let R = and-l _ _ (and-r _ _ h4) in
-      let F = and-r _ _ (and-r _ _ h4) in
-      let some : 1 ≤ n = leb-true _ _ (and-l _ _ h) in
-      let most : n ≤ 16 = leb-true _ _ (and-l _ _ h1) in
-      let stated-n : (i j : ℕ) → has (getD stated i 0) j ≡ true → (i < n) × (j < n) =
-      λ i j s. let t = stated-e P i j s in (stated-e P j i (t .2) .0, t .0) in
-      Sound→sound 16 16 16 (partsView n sizes domains leaders stated rows)
-      (record {
-        some-variable = some;
-        sizes = λ i l. size-e S i l (omega arith) .0;
-        size-past = size-past-e S;
-        domain-in = domain-e D;
-        leader-past = λ i m. by-cases (eqb (getD leaders i 0) 0)
-            (λ t. eqb-true _ _ t)
-            (λ t. let led : getD leaders i 0 ≡ 0 → ⊥ = eqb-false _ _ t in
-            absurd (let x : ⊥ = omega (arith, stated-n i _ (tied-e F i (pred (getD leaders i 0)) most (omega arith))) in x));
-        stated-in = stated-n;
-        no-self = λ i. not-true→false _ (λ s. stated-e P i i s .1 refl);
-        stated-sym = λ i j. bool-ext _ _ (λ s. stated-e P i j s .2) (λ s. stated-e P j i s .2);
-        allows-stated = λ i j a b r. allowed-e P R i j a b r .0;
-        allows-in = λ i j a b r. let t = allowed-e P R i j a b r in (t .1, t .2);
-        allows-sym = λ i j a b. bool-ext _ _ (λ r. allowed-e P R i j a b r .3) (λ r. allowed-e P R j i b a r .3);
-        leader-free = λ i l e. let f = follower-e F i l e in (f .0, f .1);
-        follower-stated = λ i l e. tied-e F i l most e;
-        follower-only = only-e F;
-        follower-one = λ i l a e. one-e F i l a most S D e;
-      })
-      most
-      (size-le most S)
+      only-e : (i l k : ℕ) → getD (h .leaders) i 0 ≡ suc l → has (getD (h .stated) i 0) k ≡ true → k ≡ l
+      unfolding held
+      only-e i l k e s =
+          eqb-true _ _ (sym (has-word width _ k (held-bounded h rows A .stated-bound i k s .1)) ∙ ap (λ (x : ℕ). has x k) (sym (follower-e i l e .2)) ∙ s)
 
-  -- ---- from the facts to the tests
+      one-e : (i l a : ℕ) → getD (h .sizes) i 0 ≤ mostValues → domainsFit (h .sizes) (h .domains) ≡ true → getD (h .leaders) i 0 ≡ suc l
+          → has (getD (h .domains) l 0) a ≡ true → count (getD (h .sizes) i 0) (partner (held h rows) l i a) ≡ 1
+      unfolding partnersWithin held
+      one-e i l a le D e d =
+          let t = implies-e _ _ (every-e width _ (follower-e i l e .3) a (held-bounded h rows A .domain-bound l a d .1)) d in
+          let least : 1 ≤ partnersAt width rows l i (getD (h .domains) i 0) a = leb-true _ _ (and-l _ _ t) in
+          let most : partnersAt width rows l i (getD (h .domains) i 0) a ≤ 1 = leb-true _ _ (and-r _ _ t) in
+          omega (arith, partners-e i l a le (domain-e D i))
 
-  module _ (S : Sound (partsView n sizes domains leaders stated rows)) where
-    pairs-i : pairsFit n stated ≡ true
-    unfolding pairsFit variableFits statedWith partsView
-    pairs-i = every-i 16 _ λ i _. by-cases (ltb i n)
-        (λ c. if-true _ _ _ c
-        ∙ and-i _ _ (within-i _ _ (λ v m. S .stated-in i v m .1))
-        (and-i _ _ (not-i _ (S .no-self i)) (eq-eqb _ _ (is-word 16 _ _ (A .stated-lent .element-lt i) (λ j _. S .stated-sym i j)))))
-        (λ c. if-false _ _ _ c
-        ∙ eq-eqb _ _ (empty 16 _ (A .stated-lent .element-lt i)
-        (λ v _. not-true→false _ (λ m. let x : ⊥ = omega (arith, ltb-false i n c, S .stated-in i v m) in x))))
+    fit-sound : partsFit h rows ≡ true → soundIn h rows ≡ true
+    unfolding partsFit headFits held
+    fit-sound t =
+        let h1 = and-l _ _ t in
+        let h2 = and-r _ _ h1 in
+        let h3 = and-r _ _ h2 in
+        let h4 = and-r _ _ h3 in
+        let S = and-l _ _ h3 in
+        let D = and-l _ _ h4 in
+        let P = and-r _ _ h4 in
+        let R = and-l _ _ (and-r _ _ t) in
+        let F = and-r _ _ (and-r _ _ t) in
+        let some : 1 ≤ h .n = leb-true _ _ (and-l _ _ h1) in
+        let most : h .n ≤ variables = leb-true _ _ (and-l _ _ h2) in
+        let stated-n : (i j : ℕ) → has (getD (h .stated) i 0) j ≡ true → (i < h .n) × (j < h .n) =
+        λ i j s. let t = stated-e P most i j s in (stated-e P most j i (t .2) .0, t .0) in
+        sound-held h rows
+        (record {
+          some-variable = some;
+          sizes = λ i l. size-e S i l (omega arith) .0;
+          size-past = size-past-e S;
+          domain-in = domain-e D;
+          leader-past = λ i m. by-cases (eqb (getD (h .leaders) i 0) 0)
+              (λ t. eqb-true _ _ t)
+              (λ t. let led : getD (h .leaders) i 0 ≡ 0 → ⊥ = eqb-false _ _ t in
+              absurd (let x : ⊥ = omega (arith, stated-n i _ (tied-e F i (pred (getD (h .leaders) i 0)) most (omega arith))) in x));
+          stated-in = stated-n;
+          no-self = self-e P most;
+          stated-sym = λ i j. bool-ext _ _ (λ s. stated-e P most i j s .2) (λ s. stated-e P most j i s .2);
+          allows-stated = λ i j a b r. allowed-e most P R i j a b r .0;
+          allows-in = λ i j a b r. let t = allowed-e most P R i j a b r in (t .1, t .2);
+          allows-sym = allows-alike width rows;
+          leader-free = λ i l e. let f = follower-e F i l e in (f .0, f .1);
+          follower-stated = λ i l e. tied-e F i l most e;
+          follower-only = only-e F;
+          follower-one = λ i l a e. one-e F i l a (size-le most S i) D e;
+        })
+        most
+        (size-le most S)
 
-    within-rows : rowsWithin sizes stated rows ≡ true
-    unfolding rowsWithin againstFits rowsIn partsView
-    within-rows = every-i 16 _ λ j lj. every-i 16 _ λ i _. every-i 16 _ λ a la. every-i 16 _ λ b _. implies-i _ _ λ h.
-        let t : allowsOf 16 rows i j a b ≡ true = allows-row 16 rows i j a b lj la ∙ h in
-        and-i _ _ (sym (S .stated-sym i j) ∙ S .allows-stated i j a b t) (lt-ltb _ _ (S .allows-in i j a b t .1))
+    -- ---- from the facts to the tests
 
-    same-sides : n ≤ 16 → sidesMirrored n stated rows ≡ true
-    unfolding sidesMirrored sideMirrored partsView
-    same-sides m = every-i n _ λ i li. every-i i _ λ j lj. implies-i _ _ λ _.
-        mirrored-i 16 rows i j (A .rows-lent .element-lt)
-        (λ a b la lb. sym (allows-row 16 rows i j a b (omega arith) la) ∙ S .allows-sym i j a b ∙ allows-row 16 rows j i b a (omega arith) lb)
+    module _ (S : Sound (held h rows)) (m : h .n ≤ variables) (le : (i : ℕ) → getD (h .sizes) i 0 ≤ mostValues) where
+      sizes-i : sizesFit (h .n) (h .sizes) ≡ true
+      unfolding sizesFit sizeFits held
+      sizes-i = every-i variables _ λ i _. by-cases (ltb i (h .n))
+          (λ c. if-true _ _ _ c ∙ and-i _ _ (le-leb _ _ (S .sizes i (ltb-true _ _ c))) (le-leb _ _ (le i)))
+          (λ c. if-false _ _ _ c ∙ eq-eqb _ _ (S .size-past i (ltb-false _ _ c)))
 
-    rows-i : n ≤ 16 → rowsFit n sizes stated rows ≡ true
-    unfolding rowsFit
-    rows-i m = and-i _ _ within-rows (same-sides m)
+      domains-i : domainsFit (h .sizes) (h .domains) ≡ true
+      unfolding domainsFit held
+      domains-i = every-i variables _ λ i _. within-i _ _ (λ a _ d. S .domain-in i a d)
 
-    follower-i : (i l : ℕ) → i < 16 → getD sizes i 0 ≤ 16 → getD leaders i 0 ≡ suc l → followerFits n domains leaders stated rows i l ≡ true
-    unfolding followerFits partnersWithin partsView
-    follower-i i l li le e =
-        and-i _ _ (lt-ltb _ _ (S .leader-free i l e .0))
-        (and-i _ _ (eq-eqb _ _ (S .leader-free i l e .1))
-        (and-i _ _ (eq-eqb _ _ (is-word 16 _ _ (A .stated-lent .element-lt i)
-        (λ k _. bool-ext _ _ (λ s. eq-eqb _ _ (S .follower-only i l k e s)) (λ q. rw (eqb-true k l q) (S .follower-stated i l e)))))
-        (every-i 16 _ λ a la. implies-i _ _ λ d.
-        let k = partnersAt 16 rows l i (getD domains i 0) a in
-        let one : k ≡ 1 = partners-e i l a li la le (S .domain-in i) ∙ S .follower-one i l a e d in
-        and-i _ _ (le-leb 1 k (omega arith)) (le-leb k 1 (omega arith)))))
+      pairs-i : pairsFit (h .n) (h .stated) ≡ true
+      unfolding pairsFit variableFits statedWith held
+      pairs-i = every-i variables _ λ i _. by-cases (ltb i (h .n))
+          (λ c. if-true _ _ _ c
+          ∙ and-i _ _ (within-i _ _ (λ v _ s. S .stated-in i v s .1))
+          (and-i _ _ (not-i _ (S .no-self i)) (eq-eqb _ _ (told i))))
+          (λ c. if-false _ _ _ c
+          ∙ eq-eqb _ _ (empty width _ (A .stated-array .element-lt i)
+          (λ v _. not-true→false _ (λ s. let x : ⊥ = omega (arith, ltb-false i (h .n) c, S .stated-in i v s) in x))))
+        where
+          told : (i : ℕ) → getD (h .stated) i 0 ≡ statedWith (h .stated) i
+          told i =
+              is-word width _ _ (A .stated-array .element-lt i) (λ j _. S .stated-sym i j)
+              ∙ word-widen variables width _ (omega arith) (λ v l _. rw (array-past variables (2 ^ width) (h .stated) (A .stated-array) v l) (has-zero i))
 
-    followers-i : ((i : ℕ) → getD sizes i 0 ≤ 16) → followersFit n domains leaders stated rows ≡ true
-    unfolding followersFit freeOrFits
-    followers-i le = every-i 16 _ λ i li. implies-i _ _ λ f.
-        let led : getD leaders i 0 ≡ 0 → ⊥ = eqb-false _ _ (not-e _ f) in
-        follower-i i (pred (getD leaders i 0)) li (le i) (omega arith)
+      past-i : pastFits (h .n) rows ≡ true
+      unfolding pastFits rowAt held
+      past-i = join-empty-i width rows (slot 0 (h .n) * width) _ (λ k v l b.
+          every-place width (λ (p : ℕ). slot 0 (h .n) * width ≤ p → has (getD rows p 0) v ≡ false)
+          (λ i j a li lj la q. not-true→false _ (λ t.
+          let s = S .stated-in i j (S .allows-stated i j a v (allows-up width rows i j a v li lj la b ∙ t)) in
+          let x : ⊥ = omega (arith, slot-before i j (h .n) li (s .1) m) in x))
+          (slot 0 (h .n) * width + k) (omega arith) (omega arith))
 
-  sound-fit : sound 16 16 16 (partsView n sizes domains leaders stated rows) ≡ true → partsFit n sizes domains leaders stated rows ≡ true
-  unfolding partsFit partsView sound countSound sizesSound domainsSound sizesFit sizeFits domainsFit within
-  sound-fit t =
-      let N = partsView n sizes domains leaders stated rows in
-      let B = parts-bounded n sizes domains leaders stated rows A in
-      let S = sound→Sound 16 16 16 N B t in
-      let h = and-r _ _ t in
-      and-i _ _ (and-l _ _ (and-l _ _ t))
-      (and-i _ _ (and-r _ _ (and-l _ _ t))
-      (and-i _ _ (and-l _ _ h)
-      (and-i _ _ (and-l _ _ (and-r _ _ h))
-      (and-i _ _ (pairs-i S) (and-i _ _ (rows-i S (leb-true _ _ (and-r _ _ (and-l _ _ t)))) (followers-i S (sound-size 16 16 16 N B t)))))))
+      rows-i : rowsFit (h .n) (h .sizes) (h .stated) rows ≡ true
+      unfolding rowsFit lowerRowsFit pairRowsFit constraintFits held rowAt
+      rows-i = and-i _ _ past-i (every-i (h .n) _ λ j lj. every-i j _ λ i li.
+          let at = slot i j * width in
+          let size = getD (h .sizes) i 0 in
+          let row : (a b : ℕ) → a < width → b < width → has (getD rows (slot i j * width + a) 0) b ≡ true → allowsOf width rows i j a b ≡ true =
+          λ a b la lb t. allows-up width rows i j a b li (omega arith) la lb ∙ t in
+          by-cases (has (getD (h .stated) j 0) i)
+          (λ s. if-true _ _ _ s ∙ and-i _ _
+          (join-empty-i width rows (at + size) _ (λ k v l b. not-true→false _ (λ t.
+          let e : at + size + k ≡ at + (size + k) = omega arith in
+          let x : ⊥ = omega (arith, S .allows-in i j (size + k) v (row (size + k) v (omega arith) b (rw e at t))) in x)))
+          (within-i _ _ (λ v b t. join-e width rows at size v b t (λ k l u. S .allows-in i j k v (row k v (omega (arith, le i)) b u) .1))))
+          (λ s. if-false _ _ _ s ∙ join-empty-i width rows at width (λ k v l b. not-true→false _ (λ t.
+          clash (sym (S .stated-sym i j) ∙ S .allows-stated i j k v (row k v l b t)) s))))
 
-  -- The whole test of the arrays is that of the network.
-  pub parts-sound : partsFit n sizes domains leaders stated rows ≡ sound 16 16 16 (partsView n sizes domains leaders stated rows)
-  parts-sound = bool-ext _ _ fit-sound sound-fit
+      follower-i : (i l : ℕ) → getD (h .leaders) i 0 ≡ suc l → followerFits (h .n) (h .domains) (h .leaders) rows i (getD (h .stated) i 0) l ≡ true
+      unfolding followerFits partnersWithin held
+      follower-i i l e =
+          and-i _ _ (lt-ltb _ _ (S .leader-free i l e .0))
+          (and-i _ _ (eq-eqb _ _ (S .leader-free i l e .1))
+          (and-i _ _ (eq-eqb _ _ (is-word width _ _ (A .stated-array .element-lt i)
+          (λ k _. bool-ext _ _ (λ s. eq-eqb _ _ (S .follower-only i l k e s)) (λ q. rw (eqb-true k l q) (S .follower-stated i l e)))))
+          (every-i width _ λ a la. implies-i _ _ λ d.
+          let k = partnersAt width rows l i (getD (h .domains) i 0) a in
+          let one : k ≡ 1 = partners-e i l a (le i) (S .domain-in i) ∙ S .follower-one i l a e d in
+          and-i _ _ (le-leb 1 k (omega arith)) (le-leb k 1 (omega arith)))))
+
+      followers-i : followersFit h rows ≡ true
+      unfolding followersFit freeOrFits
+      followers-i = every-i variables _ λ i li. implies-i _ _ λ f.
+          let led : getD (h .leaders) i 0 ≡ 0 → ⊥ = eqb-false _ _ (not-e _ f) in
+          follower-i i (pred (getD (h .leaders) i 0)) (omega arith)
+
+      head-i : headFits h ≡ true
+      unfolding headFits held
+      head-i = and-i _ _ (le-leb _ _ (S .some-variable)) (and-i _ _ (le-leb _ _ m) (and-i _ _ sizes-i (and-i _ _ domains-i pairs-i)))
+
+    sound-fit : soundIn h rows ≡ true → partsFit h rows ≡ true
+    unfolding partsFit
+    sound-fit t =
+        let S = held-sound h rows A t in
+        let m = held-n h rows t in
+        let le = held-size h rows A t in
+        and-i _ _ (head-i S m le) (and-i _ _ (rows-i S m le) (followers-i S m le))
+
+    -- The whole test of a head and rows is that of their network.
+    pub parts-sound : partsFit h rows ≡ soundIn h rows
+    parts-sound = bool-ext _ _ fit-sound sound-fit
+
+-- What the later tests need of a head that has passed.
+pub record Fit (h : Head) : Type 0 where
+  pub some-variable : 1 ≤ h .n
+  pub most-variables : h .n ≤ variables
+  pub most-values : (i : ℕ) → getD (h .sizes) i 0 ≤ mostValues
+  pub no-self : (i : ℕ) → has (getD (h .stated) i 0) i ≡ false
+
+pub head-fit : (h : Head) → HeadShaped h → headFits h ≡ true → Fit h
+unfolding headFits
+head-fit h A t =
+    let u = and-r _ _ t in
+    let v = and-r _ _ u in
+    let m : h .n ≤ variables = leb-true _ _ (and-l _ _ u) in
+    record {
+      some-variable = leb-true _ _ (and-l _ _ t);
+      most-variables = m;
+      most-values = size-le h A m (and-l _ _ v);
+      no-self = self-e h A (and-r _ _ (and-r _ _ v)) m;
+    }

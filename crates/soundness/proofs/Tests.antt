@@ -1,19 +1,22 @@
 -- What each way through a test of soundness says of its definition, in the order of the code.
-use mathlib.Core.Bool.{Bool, true, false}
+use mathlib.Core.Bool.{Bool, true, false, _&&_}
 use mathlib.Core.List.{List}
-use mathlib.Core.Path.{_≡_, sym, ap, _∙_}
-use Prim.Native.Nat.{ℕ, pred, _+_, _-_, _*_, _^_, _≤_, _<_}
+use mathlib.Core.Path.{_≡_, refl, sym, ap, _∙_}
+use Prim.Native.Nat.{ℕ, pred, _+_, _-_, _*_, _≤_, _<_}
+use native.Mathlib.Numerals.{add-one}
 use native.Mathlib.Omega.{arith}
 use lib.Dec.{eqb, leb, ltb}
 use lib.ListN.{getD}
 use borrow.Author.Tests.{lt-ltb, le-ltb, lt-leb, le-leb, eq-eqb, ne-eqb}
-use Rattle.bounded.specs.Bool.{and, not}
-use Rattle.bounded.proofs.Bool.{not-i, not-false-i, implies-true, implies-false, and-fails, and-holds, if-true, if-false}
-use Rattle.words.specs.Word.{has, word}
-use Rattle.words.proofs.Laws.{has-word, has-complement, has-full}
-use Rattle.rows.specs.Rows.{partnersWithin}
-use Rattle.rows.specs.Search.{Bars}
-use Rattle.soundness.specs.Parts.{sizeFits, within, statedWith, variableFits, followerFits, freeOrFits}
+use Rattle.bounded.specs.Bool.{and}
+use Rattle.bounded.specs.Fold.{every}
+use Rattle.bounded.proofs.Bool.{clash, not-i, not-false-i, implies-true, implies-false, and-fails, and-holds, if-true, if-false}
+use Rattle.words.specs.Word.{width, has, word}
+use Rattle.words.proofs.Laws.{has-word}
+use Rattle.pairs.specs.Pairs.{variables, pairCount, slot, joinOf, partnersWithin}
+use Rattle.head.specs.declared.Head.{Head}
+use Rattle.head.specs.Held.{mostValues}
+use Rattle.soundness.specs.Parts.{sizeFits, sizesFit, within, domainsFit, statedWith, variableFits, pairsFit, headFits, pastFits, constraintFits, pairRowsFit, rowsFit, followerFits, freeOrFits, followersFit, partsFit}
 
 -- The bound of a word's members, known by another name.
 pub within-same : {r : Bool} (x : ℕ) {k k′ : ℕ} → r ≡ within x k → k ≡ k′ → r ≡ within x k′
@@ -30,9 +33,12 @@ module _ (n i size : ℕ) where
   unfolding sizeFits
   size-none h k = sym (if-true _ _ _ (lt-ltb i n h) ∙ and-fails _ _ (lt-leb 1 size k))
 
-  pub size-some : i < n → 1 ≤ size → leb size 16 ≡ sizeFits n i size
+  pub size-some : i < n → 1 ≤ size → leb size mostValues ≡ sizeFits n i size
   unfolding sizeFits
   size-some h k = sym (if-true _ _ _ (lt-ltb i n h) ∙ and-holds _ _ (le-leb 1 size k))
+
+pub size-same : {r : Bool} (n i : ℕ) {x y : ℕ} → r ≡ sizeFits n i x → x ≡ y → r ≡ sizeFits n i y
+size-same n i h e = rw e at h
 
 -- ---- the stated pairs of a variable
 
@@ -54,48 +60,116 @@ module _ (n : ℕ) (stated : List ℕ) (i : ℕ) where
   unfolding variableFits
   variable-told l h k = sym (if-true _ _ _ (lt-ltb i n l) ∙ and-holds _ _ h ∙ and-holds _ _ (not-i _ k))
 
--- ---- the digits that a row may not have
+-- ---- the head
 
-pub bars-full : (x k r : ℕ) → x < 2 ^ 16 → x ≡ word 16 (λ (u : ℕ). ltb u k)
-    → ((q v : ℕ) → q < 4 → v < 16 → has r (16 * q + v) ≡ has (2 ^ 16 - 1 - x) v) → Bars (λ (v : ℕ). ltb v k) r
-bars-full x k r l e h =
-    record { bar = λ q v lq lv. h q v lq lv ∙ has-complement 16 x v l lv ∙ ap not (ap (λ (n : ℕ). has n v) e ∙ has-word 16 _ v lv) }
+module _ (h : Head) where
+  pub head-none : h .n < 1 → false ≡ headFits h
+  unfolding headFits
+  head-none l = sym (and-fails _ _ (lt-leb 1 (h .n) l))
 
-module _ (stated : Bool) (p : ℕ → Bool) where
-  pub bars-stated : stated ≡ true → (x : ℕ) → Bars p x → Bars (λ (v : ℕ). and stated (p v)) x
-  bars-stated s x B = record { bar = λ q v lq lv. B .bar q v lq lv ∙ ap not (sym (and-holds _ _ s)) }
+  pub head-many : 1 ≤ h .n → variables < h .n → false ≡ headFits h
+  unfolding headFits
+  head-many k l = sym (and-holds _ _ (le-leb 1 (h .n) k) ∙ and-fails _ _ (lt-leb (h .n) variables l))
 
-  pub bars-unstated : stated ≡ false → Bars (λ (v : ℕ). and stated (p v)) (2 ^ 64 - 1)
-  bars-unstated s =
-      record { bar = λ q v lq lv. has-full 64 (16 * q + v) ∙ lt-ltb (16 * q + v) 64 (omega arith) ∙ sym (not-i _ (and-fails _ _ s)) }
+  module _ (k : 1 ≤ h .n) (m : h .n ≤ variables) where
+    counted : headFits h ≡ and (sizesFit (h .n) (h .sizes)) (and (domainsFit (h .sizes) (h .domains)) (pairsFit (h .n) (h .stated)))
+    unfolding headFits
+    counted = and-holds _ _ (le-leb 1 (h .n) k) ∙ and-holds _ _ (le-leb (h .n) variables m)
+
+    pub head-sizes : sizesFit (h .n) (h .sizes) ≡ false → false ≡ headFits h
+    head-sizes s = sym (counted ∙ and-fails _ _ s)
+
+    pub head-domains : sizesFit (h .n) (h .sizes) ≡ true → domainsFit (h .sizes) (h .domains) ≡ false → false ≡ headFits h
+    head-domains s d = sym (counted ∙ and-holds _ _ s ∙ and-fails _ _ d)
+
+    pub head-pairs : sizesFit (h .n) (h .sizes) ≡ true → domainsFit (h .sizes) (h .domains) ≡ true → pairsFit (h .n) (h .stated) ≡ headFits h
+    head-pairs s d = sym (counted ∙ and-holds _ _ s ∙ and-holds _ _ d)
+
+-- ---- the rows
+
+run-same : (rows : List ℕ) {r at at′ n m : ℕ} → r ≡ joinOf width rows at n → at ≡ at′ → n ≡ m → r ≡ joinOf width rows at′ m
+run-same rows h e k = rw (e, k) at h
+
+-- The rows past n are one run, from its place to the end.
+pub past-is : (rows : List ℕ) (n : ℕ) {r at : ℕ} → r ≡ joinOf width rows at (pairCount * width - at) → at ≡ slot 0 n * width → eqb r 0 ≡ pastFits n rows
+unfolding pastFits
+past-is rows n h e = ap (λ (x : ℕ). eqb x 0) (rw e at h)
+
+module _ (rows : List ℕ) (at size other : ℕ) {r : ℕ} (h : r ≡ joinOf width rows (at + size) (at + width - (at + size))) where
+  past-run : r ≡ joinOf width rows (at + size) (width - size)
+  past-run = run-same rows h refl (omega arith)
+
+  pub constraint-past : (r ≡ 0 → ⊥) → false ≡ constraintFits rows at size other
+  unfolding constraintFits
+  constraint-past z = sym (and-fails _ _ (ap (λ (x : ℕ). eqb x 0) (sym past-run) ∙ ne-eqb _ 0 z))
+
+  pub constraint-in : {q : ℕ} {t : Bool} → r ≡ 0 → q ≡ joinOf width rows at (at + size - at) → t ≡ within q other → t ≡ constraintFits rows at size other
+  unfolding constraintFits
+  constraint-in z k u =
+      u ∙ ap (λ (x : ℕ). within x other) (run-same rows k refl (omega arith))
+      ∙ sym (and-holds _ _ (ap (λ (x : ℕ). eqb x 0) (sym past-run) ∙ eq-eqb _ 0 z))
+
+module _ (rows : List ℕ) {stated : Bool} (i j size other : ℕ) {at : ℕ} (e : at ≡ slot i j * width) where
+  pub pair-unstated : {r : ℕ} → stated ≡ false → r ≡ joinOf width rows at (at + width - at) → eqb r 0 ≡ pairRowsFit rows stated i j size other
+  unfolding pairRowsFit
+  pair-unstated s h = ap (λ (x : ℕ). eqb x 0) (run-same rows h e (omega arith)) ∙ sym (if-false _ _ _ s)
+
+  pub pair-stated : {t : Bool} → stated ≡ true → t ≡ constraintFits rows at size other → t ≡ pairRowsFit rows stated i j size other
+  unfolding pairRowsFit
+  pair-stated s h = rw e at h ∙ sym (if-true _ _ _ s)
+
+-- A pair, its sizes known by other names.
+pub pair-same : (rows : List ℕ) (i j : ℕ) {r s s′ : Bool} {x x′ y y′ : ℕ} → r ≡ pairRowsFit rows s i j x y → s ≡ s′ → x ≡ x′ → y ≡ y′
+    → r ≡ pairRowsFit rows s′ i j x′ y′
+pair-same rows i j h es ex ey = rw (es, ex, ey) at h
 
 -- ---- a follower
 
-module _ {n : ℕ} (domains leaders stated rows : List ℕ) (i : ℕ) {l : ℕ} where
-  pub leader-past : n ≤ l → false ≡ followerFits n domains leaders stated rows i l
+module _ {n : ℕ} (domains leaders rows : List ℕ) (i stated : ℕ) {l : ℕ} where
+  pub leader-past : n ≤ l → false ≡ followerFits n domains leaders rows i stated l
   unfolding followerFits
   leader-past h = sym (and-fails _ _ (le-ltb l n h))
 
-  pub leader-led : l < n → (getD leaders l 0 ≡ 0 → ⊥) → false ≡ followerFits n domains leaders stated rows i l
+  pub leader-led : l < n → (getD leaders l 0 ≡ 0 → ⊥) → false ≡ followerFits n domains leaders rows i stated l
   unfolding followerFits
   leader-led h k = sym (and-holds _ _ (lt-ltb l n h) ∙ and-fails _ _ (ne-eqb _ 0 k))
 
-  pub follower-loose : l < n → getD leaders l 0 ≡ 0 → (getD stated i 0 ≡ word 16 (λ (u : ℕ). eqb u l) → ⊥)
-      → false ≡ followerFits n domains leaders stated rows i l
+  pub follower-loose : l < n → getD leaders l 0 ≡ 0 → (stated ≡ word width (λ (u : ℕ). eqb u l) → ⊥)
+      → false ≡ followerFits n domains leaders rows i stated l
   unfolding followerFits
   follower-loose h k d = sym (and-holds _ _ (lt-ltb l n h) ∙ and-holds _ _ (eq-eqb _ 0 k) ∙ and-fails _ _ (ne-eqb _ _ d))
 
-  pub follower-tied : l < n → getD leaders l 0 ≡ 0 → getD stated i 0 ≡ word 16 (λ (u : ℕ). eqb u l)
-      → partnersWithin 16 rows l i (getD domains l 0) (getD domains i 0) 1 1 ≡ followerFits n domains leaders stated rows i l
+  pub follower-tied : l < n → getD leaders l 0 ≡ 0 → stated ≡ word width (λ (u : ℕ). eqb u l)
+      → partnersWithin width rows l i (getD domains l 0) (getD domains i 0) 1 1 ≡ followerFits n domains leaders rows i stated l
   unfolding followerFits
   follower-tied h k e = sym (and-holds _ _ (lt-ltb l n h) ∙ and-holds _ _ (eq-eqb _ 0 k) ∙ and-holds _ _ (eq-eqb _ _ e))
 
-module _ (n : ℕ) (domains leaders stated rows : List ℕ) (i : ℕ) where
-  pub variable-free : getD leaders i 0 ≡ 0 → true ≡ freeOrFits n domains leaders stated rows i
+-- A variable that is not stated with itself does not follow itself.
+pub not-itself : (w i l stated : ℕ) → i < w → has stated i ≡ false → stated ≡ word w (λ (u : ℕ). eqb u l) → l ≡ i → ⊥
+not-itself w i l stated b f e q =
+    clash (rw e (has-word w _ i b ∙ eq-eqb i l (sym q))) f
+
+module _ (n : ℕ) (domains leaders rows : List ℕ) (i stated : ℕ) where
+  pub variable-free : getD leaders i 0 ≡ 0 → true ≡ freeOrFits n domains leaders rows i stated
   unfolding freeOrFits
   variable-free h = sym (implies-false _ _ (not-false-i _ (eq-eqb _ 0 h)))
 
   pub variable-led : {l : ℕ} → (getD leaders i 0 ≡ 0 → ⊥) → l ≡ pred (getD leaders i 0)
-      → followerFits n domains leaders stated rows i l ≡ freeOrFits n domains leaders stated rows i
+      → followerFits n domains leaders rows i stated l ≡ freeOrFits n domains leaders rows i stated
   unfolding freeOrFits
   variable-led h e = rw e (sym (implies-true _ _ (not-i _ (ne-eqb _ 0 h))))
+
+-- ---- the whole
+
+module _ (h : Head) (rows : List ℕ) where
+  pub parts-head : headFits h ≡ false → false ≡ partsFit h rows
+  unfolding partsFit
+  parts-head t = sym (and-fails _ _ t)
+
+  pub parts-rows : headFits h ≡ true → rowsFit (h .n) (h .sizes) (h .stated) rows ≡ false → false ≡ partsFit h rows
+  unfolding partsFit
+  parts-rows t r = sym (and-holds _ _ t ∙ and-fails _ _ r)
+
+  pub parts-followers : headFits h ≡ true → rowsFit (h .n) (h .sizes) (h .stated) rows ≡ true → followersFit h rows ≡ partsFit h rows
+  unfolding partsFit
+  parts-followers t r = sym (and-holds _ _ t ∙ and-holds _ _ r)

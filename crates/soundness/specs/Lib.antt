@@ -1,2 +1,2 @@
--- A state as n and five lent arrays.
+-- What soundness comes to on a head and rows.
 pub mod Parts

@@ -1,4 +1,4 @@
-// Soundness of the lent arrays of a state.
+// Soundness of a state, as its head and its rows.
 mod sound;
 
 pub use sound::sound_parts;

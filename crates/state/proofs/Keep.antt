@@ -8,14 +8,15 @@ use Rattle.network.specs.Step.{legal, eliminate}
 use Rattle.network.specs.Reduction.{reduce}
 use Rattle.network.specs.Calls.{Call, follow-step, full-reduction, answer, after}
 use Rattle.network.proofs.Calls.{after-keeps}
-use Rattle.state.specs.View.{view, soundState}
+use Rattle.head.proofs.Held.{Packed, kept-packed}
+use Rattle.state.specs.View.{Shaped, view, soundState}
 use Rattle.state.specs.declared.state.State.{State}
-use Rattle.state.proofs.View.{Shaped, Packed, state-sound, kept-packed}
+use Rattle.state.proofs.View.{state-sound}
 
 module _ (s : State) (h : Shaped s) (t : soundState s ≡ true) where
   -- Any list of calls,
   pub after-packed : (cs : List Call) → Packed (after (view s) cs)
-  after-packed cs = kept-packed s h t (after (view s) cs) _ (after-keeps (view s) (state-sound s h t) cs)
+  after-packed cs = kept-packed _ _ (h .head-shaped) t (after (view s) cs) _ (after-keeps (view s) (state-sound s h t) cs)
 
   -- a full reduction,
   pub reduced-packed : Packed (reduce (view s) .network)

@@ -1,9 +1,7 @@
 pub mod View
 pub mod Keep
-pub mod Sizeless
-pub mod Stepping
 pub mod Steps
 pub mod Rules
 pub mod Lists
-pub mod Reducing
 pub mod Solutions
+pub mod Reducing

@@ -7,21 +7,24 @@ use Rattle.network.specs.Network.{free}
 use Rattle.network.specs.Sheet.{networkOf}
 use Rattle.network.specs.Lists.{narrowed, emptyList, shortList}
 use Rattle.network.proofs.Lists.{lists-free}
+use Rattle.head.specs.Held.{mostValues, held}
+use Rattle.head.proofs.Held.{Packed, held-n, held-size, pack-sound}
 use Rattle.state.specs.declared.state.State.{State}
 use Rattle.state.specs.View.{Shaped, view, soundState}
-use Rattle.state.proofs.View.{Packed, state-sound, state-n, state-size, pack-sound}
+use Rattle.state.proofs.View.{state-sound}
 
 -- "An empty list is allowed in a sound state": the state of a network whose live lists lost any values is sound.
 pub narrowed-packed : (s : State) → Shaped s → soundState s ≡ true → (i : ℕ) → free (view s) i ≡ true → (p : ℕ → Bool)
     → Packed (narrowed (view s) i p)
-unfolding narrowed
-narrowed-packed s h t i f p = pack-sound _ (lists-free .any-part (view s) (state-sound s h t) i f p) (state-n s t) (state-size s h t)
+unfolding narrowed held
+narrowed-packed s h t i f p =
+    pack-sound _ (lists-free .any-part (view s) (state-sound s h t) i f p) (held-n _ (s .rows) t) (held-size _ _ (h .head-shaped) t)
 
 pub empty-packed : Packed emptyList
 unfolding emptyList narrowed networkOf
 empty-packed = pack-sound emptyList (lists-free .empty-sound) (omega arith) small
   where
-    small : (i : ℕ) → emptyList .size i ≤ 16
+    small : (i : ℕ) → emptyList .size i ≤ mostValues
     small zero = omega arith
     small (suc i) = omega arith
 
@@ -29,7 +32,7 @@ pub short-packed : Packed shortList
 unfolding shortList narrowed networkOf
 short-packed = pack-sound shortList (lists-free .short-sound) (omega arith) small
   where
-    small : (i : ℕ) → shortList .size i ≤ 16
+    small : (i : ℕ) → shortList .size i ≤ mostValues
     small zero = omega arith
     small (suc zero) = omega arith
     small (suc (suc i)) = omega arith

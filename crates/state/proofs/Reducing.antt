@@ -1,5 +1,6 @@
 -- The answers of the follow step and of the full reduction, case by case.
 use mathlib.Core.Bool.{true, false}
+use mathlib.Core.List.{List}
 use mathlib.Core.Path.{_≡_, refl, sym, ap, ap₂, subst, subst₂, _∙_}
 use Prim.Native.Nat.{ℕ, suc, pred, _+_, _-_, _≤_, _<_}
 use native.Mathlib.Numerals.{sub-one}
@@ -13,22 +14,30 @@ use Rattle.cause.specs.declared.Cause.the-variants as cause
 use Rattle.network.specs.Network.{Network}
 use Rattle.network.specs.Step.{refusal, legal, eliminate}
 use Rattle.network.specs.Reduction.{Reduced, freeCount, reducible, nextLeader, nextFollower, advance, oneMore, reduceWithin, reduce}
+use Rattle.pairs.specs.Pairs.{variables}
 use Rattle.network.proofs.Step.{refusal-0, legal-i}
 use Rattle.network.proofs.Reduction.{next-legal, step-count, reduceWithin-step, reduceWithin-stop}
 use Rattle.state.specs.declared.state.State.{State}
 use Rattle.answers.specs.declared.Outcome.{Outcome}
 use Rattle.answers.specs.declared.Outcome.the-variants as outcome
 use Rattle.step_choice.specs.declared.Judgement.the-variants as judgement
-use Rattle.step_choice.specs.declared.Pair.{Pair}
 use Rattle.step_choice.specs.declared.Pair.the-variants as pair
-use Rattle.state.specs.View.{view, pack, soundState}
+use Rattle.state.specs.View.{stateOf, view, pack, soundState}
 use Rattle.answers.specs.Answers.{outcomeNumber}
 use Rattle.state.specs.Steps.{refused, stepRefusal, stepped, reducedAs, reduced}
-use Rattle.step_choice.specs.Judging.{sizeless, judgedNumber, nextPair}
-use Rattle.state.proofs.View.{Shaped, Packed, pack-view, state-sound, state-n}
+use Rattle.step_choice.specs.Judging.{judgedNumber, nextPair}
+use Rattle.step_rules.specs.Stepped.{Stepped}
+use Rattle.head.specs.declared.Head.{Head}
+use Rattle.head.specs.Held.{held}
+use Rattle.head.proofs.Held.{Packed, held-n}
+use Rattle.state.proofs.View.{Shaped, state-sound, pack-view, packed-view, packed-state, packed-shaped}
 use Rattle.state.proofs.Keep.{eliminated-packed}
-use Rattle.state.proofs.Sizeless.{state-refusal, state-next}
 use Rattle.state.proofs.Steps.{unsound-step, sound-step, stepped-taken, stepped-refused, reduced-refused}
+
+-- What a step leaves is the state of the network after it.
+pub step-state : {h r : Head} {before after : List ℕ} {i j : ℕ} → Stepped h before i j r after → stateOf r after ≡ pack (eliminate (held h before) i j)
+unfolding pack
+step-state S = λ z. stateOf (S .head-is z) (S .rows-are z)
 
 -- ---- the follow step
 
@@ -38,19 +47,14 @@ module _ (s : State) (l f : ℕ) where
   unfolding outcomeNumber
   unsound-number t = sym (unsound-step s l f t)
 
-  module _ (h : Shaped s) (t : soundState s ≡ true) where
-    judged-as : {number : ℕ} → number ≡ refusal (sizeless (s .n) (s .domains) (s .leaders) (s .stated) (s .rows)) l f → number ≡ stepRefusal s l f
-    judged-as e = e ∙ state-refusal s h t l f ∙ sym (sound-step s l f t)
-
-    pub legal-number : judgedNumber judgement.Legal ≡ refusal (sizeless (s .n) (s .domains) (s .leaders) (s .stated) (s .rows)) l f
-        → outcomeNumber outcome.Done ≡ stepRefusal s l f
+  module _ (t : soundState s ≡ true) where
+    pub legal-number : judgedNumber judgement.Legal ≡ refusal (view s) l f → outcomeNumber outcome.Done ≡ stepRefusal s l f
     unfolding outcomeNumber judgedNumber
-    legal-number e = judged-as e
+    legal-number e = e ∙ sym (sound-step s l f t)
 
-    pub judged-number : (c : Cause) → judgedNumber (judgement.Refused c) ≡ refusal (sizeless (s .n) (s .domains) (s .leaders) (s .stated) (s .rows)) l f
-        → outcomeNumber (outcome.Refused c) ≡ stepRefusal s l f
+    pub judged-number : (c : Cause) → judgedNumber (judgement.Refused c) ≡ refusal (view s) l f → outcomeNumber (outcome.Refused c) ≡ stepRefusal s l f
     unfolding outcomeNumber judgedNumber
-    judged-number c e = judged-as e
+    judged-number c e = e ∙ sym (sound-step s l f t)
 
   -- A refusal hands back the state given.
   pub step-refused : (o : Outcome) (c : Cause) → o ≡ outcome.Refused c → outcomeNumber o ≡ stepRefusal s l f
@@ -132,7 +136,7 @@ pub record Reducing (s r : State) (steps : ℕ) : Type 0 where
   pub steps-left : reduce (view s) .steps ≡ steps + reduceWithin most (view r) .steps
 
 pub reducing-none : (s : State) → Shaped s → soundState s ≡ true → Reducing s s 0
-unfolding reduce freeCount view
+unfolding reduce freeCount held
 reducing-none s h t =
     record {
       still-shaped = h;
@@ -145,18 +149,13 @@ reducing-none s h t =
     }
 
 module _ (s r : State) (steps : ℕ) (R : Reducing s r steps) where
-  -- The search on the arrays of r.
-  searched : (p : Pair) → p ≡ nextPair (sizeless (r .n) (r .domains) (r .leaders) (r .stated) (r .rows)) → nextPair (view r) ≡ p
-  searched p e = sym (e ∙ state-next r (R .still-shaped) (R .still-sound))
-
-  pub reducing-n : r .n ≤ 16
-  unfolding view
-  reducing-n = state-n r (R .still-sound)
+  pub reducing-n : r .n ≤ variables
+  reducing-n = held-n _ _ (R .still-sound)
 
   -- One step more.
-  module _ (i j : ℕ) (e : pair.Found i j ≡ nextPair (sizeless (r .n) (r .domains) (r .leaders) (r .stated) (r .rows))) where
+  module _ (i j : ℕ) (e : nextPair (view r) ≡ pair.Found i j) where
     pub reducing-legal : legal (view r) i j ≡ true
-    reducing-legal = found-legal (view r) i j (searched _ e)
+    reducing-legal = found-legal (view r) i j e
 
     one-less : suc (freeCount (eliminate (view r) i j)) ≡ freeCount (view r)
     one-less = step-count (view r) (state-sound r (R .still-shaped) (R .still-sound)) i j reducing-legal
@@ -169,7 +168,7 @@ module _ (s r : State) (steps : ℕ) (R : Reducing s r steps) where
       packed = eliminated-packed r (R .still-shaped) (R .still-sound) i j reducing-legal
 
       view-q : view q ≡ eliminate (view r) i j
-      view-q = ap view is-q ∙ packed .packed-view
+      view-q = ap view is-q ∙ packed-view packed
 
       pub reducing-less : freeCount (view q) < freeCount (view r)
       reducing-less = rw view-q (omega (arith, one-less))
@@ -179,14 +178,14 @@ module _ (s r : State) (steps : ℕ) (R : Reducing s r steps) where
       left =
           rw view-q
           (ap (λ (k : ℕ). reduceWithin k (view r)) (let k : R .most ≡ suc (pred (R .most)) = omega (arith, one-less, R .free-left) in k)
-          ∙ found-step (view r) i j (pred (R .most)) (searched _ e))
+          ∙ found-step (view r) i j (pred (R .most)) e)
 
       pub reducing-more : Reducing s q (steps + 1)
       unfolding oneMore
       reducing-more =
           record {
-            still-shaped = subst Shaped (sym is-q) (packed .packed-shaped);
-            still-sound = ap soundState is-q ∙ packed .packed-sound;
+            still-shaped = subst Shaped (sym is-q) (packed-shaped packed);
+            still-sound = ap soundState is-q ∙ packed-state packed;
             most = pred (R .most);
             most-left = omega (arith, one-less, R .free-left, R .most-left);
             free-left = omega (arith, one-less, R .free-left, ap freeCount view-q);
@@ -195,11 +194,11 @@ module _ (s r : State) (steps : ℕ) (R : Reducing s r steps) where
           }
 
   -- No step is left.
-  pub reducing-done : pair.Nothing ≡ nextPair (sizeless (r .n) (r .domains) (r .leaders) (r .stated) (r .rows))
+  pub reducing-done : nextPair (view r) ≡ pair.Nothing
       → record { number = outcomeNumber outcome.Done; state = r; steps = steps } ≡ reducedAs (reduce (view s))
   unfolding outcomeNumber reducedAs
   reducing-done e =
-      let stop = reduceWithin-stop (R .most) (view r) (none-next (view r) (searched _ e)) in λ z.
+      let stop = reduceWithin-stop (R .most) (view r) (none-next (view r) e) in λ z.
       record {
         number = 0;
         state = (sym (pack-view r (R .still-shaped)) ∙ sym (ap pack (R .network-left ∙ ap (λ (a : Reduced). a .network) stop))) z;

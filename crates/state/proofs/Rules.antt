@@ -16,7 +16,7 @@ use Rattle.state.specs.View.{Shaped, view, soundState}
 use Rattle.state.specs.Answers.{Told}
 use Rattle.state.specs.Steps.{refused, stepRefusal, stepped}
 use Rattle.state.specs.Rules.{StepsByRules}
-use Rattle.state.proofs.View.{state-sound}
+use Rattle.state.proofs.View.{state-sound, packed-view}
 use Rattle.state.proofs.Keep.{eliminated-packed}
 use Rattle.state.proofs.Steps.{unsound-step, sound-step, stepped-taken, stepped-refused}
 
@@ -38,7 +38,7 @@ module _ (s : State) (l f : ℕ) where
       let t = taken-sound e in
       let L = not-refused-legal (view s) l f (eq-eqb _ 0 (sym (sound-step s l f t) ∙ e)) in
       let same : view (stepped s l f .state) ≡ eliminate (view s) (pred l) (pred f) =
-      ap (λ (a : Told). view (a .state)) (stepped-taken s l f e) ∙ eliminated-packed s h t (pred l) (pred f) L .packed-view in
+      ap (λ (a : Told). view (a .state)) (stepped-taken s l f e) ∙ packed-view (eliminated-packed s h t (pred l) (pred f) L) in
       rw same (eliminate-rules (view s) (state-sound s h t) (pred l) (pred f) (legal-e (view s) (pred l) (pred f) L .distinct))
 
 pub step-rules : StepsByRules

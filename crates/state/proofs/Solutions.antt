@@ -2,10 +2,10 @@
 use mathlib.Core.Bool.{true, false}
 use mathlib.Core.List.{List}
 use mathlib.Core.Path.{_≡_, refl, sym, ap, _∙_}
-use Prim.Native.Nat.{ℕ, _≤_, _<_}
+use Prim.Native.Nat.{ℕ, _≤_}
 use native.Mathlib.Omega.{arith}
 use lib.Dec.{eqb}
-use lib.ListN.{length, getD, replicate}
+use lib.ListN.{length, replicate}
 use borrow.Author.Tests.{eq-eqb, ne-eqb, eqb-true, eqb-false, lt-ltb}
 use Rattle.bounded.specs.Table.{tabulate}
 use Rattle.bounded.proofs.Bool.{by-cases, not-i, not-false-i, if-true, if-false}
@@ -15,10 +15,11 @@ use Rattle.network.specs.Sound.{Sound}
 use Rattle.network.specs.Completion.{allowedChoice, completed, verdict, shown}
 use Rattle.network.proofs.Completion as completion
 use Rattle.state.specs.declared.state.State.{State}
-use Rattle.state.specs.View.{view, soundState}
+use Rattle.state.specs.View.{headIn, view, soundState}
 use Rattle.answers.specs.Answers.{says, refuses, rules, no-verdict}
 use Rattle.state.specs.Solutions.{valuesOf, solutionRefusal, tested, completeNumber, completedBuffer, verdictOf}
-use Rattle.state.proofs.View.{Shaped, state-sound}
+use Rattle.head.specs.Held.{HeadShaped}
+use Rattle.head.proofs.Held.{held-sound}
 
 -- The tests that the tester and the completer share: 9, 14, and then the call's own.
 module _ (s : State) (build : List ℕ) (own : ℕ) where
@@ -62,11 +63,11 @@ unfolding testRefusal
 solves-in-range N S f h =
     if-true _ _ _ (every-i (N .n) _ (λ i l. lt-ltb _ _ (S .domain-in i (f i) (completion.solves-domain N f h i l))))
 
-module _ (s : State) (h : Shaped s) (t : soundState s ≡ true) (build : List ℕ) where
+module _ (s : State) (h : HeadShaped (headIn s)) (t : soundState s ≡ true) (build : List ℕ) where
   -- "The tester says yes exactly when each value is in its option's list and each stated pair allows its two values", of a buffer of n bytes.
   pub tested-yes : length build ≡ s .n → solves (view s) (valuesOf build) ≡ true → tested s build ≡ says true
   tested-yes e k =
-      tested-says s build (build-own s build _ t e ∙ solves-in-range (view s) (state-sound s h t) (valuesOf build) k)
+      tested-says s build (build-own s build _ t e ∙ solves-in-range (view s) (held-sound _ _ h t) (valuesOf build) k)
       ∙ ap says k
 
   pub yes-solves : tested s build ≡ says true → (length build ≡ s .n) × (solves (view s) (valuesOf build) ≡ true)

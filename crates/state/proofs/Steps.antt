@@ -19,7 +19,9 @@ use Rattle.state.specs.declared.state.State.{State}
 use Rattle.state.specs.View.{view, pack, soundState}
 use Rattle.state.specs.Answers.{Told}
 use Rattle.state.specs.Steps.{refused, stepRefusal, stepped, reducedAs, reduced}
-use Rattle.state.proofs.View.{Shaped, Packed, pack-view, state-sound, kept-packed}
+use Rattle.head.specs.Held.{held, headOf}
+use Rattle.head.proofs.Held.{Packed, kept-packed}
+use Rattle.state.proofs.View.{Shaped, state-sound, pack-view, packed-view, packed-state, packed-shaped}
 use Rattle.state.proofs.Keep.{reduced-packed}
 
 -- The follow step, case by case.
@@ -67,7 +69,7 @@ module _ (s : State) (h : Shaped s) (t : soundState s ≡ true) where
   reduced-answers = ap (λ (a : Told). a .state) (reduced-done s t) ∙ ap pack (sym (answer-reduced (view s)))
 
   pub answer-packed : (c : Call) → Packed (answer (view s) c)
-  answer-packed c = kept-packed s h t (answer (view s) c) _ (answer-keeps (view s) (state-sound s h t) c)
+  answer-packed c = kept-packed _ _ (h .head-shaped) t (answer (view s) c) _ (answer-keeps (view s) (state-sound s h t) c)
 
 -- What every call keeps of a state, refused or not: t, handed back for s, is sound if s is, and has the same variables, sizes and solutions.
 pub record StateKept (s t : State) : Type 0 where
@@ -88,14 +90,14 @@ kept-self s h =
     }
 
 kept-packed-state : (s : State) (M : Network) → Keeps (view s) M (λ (f : ℕ → ℕ). true) → Packed M → StateKept s (pack M)
-unfolding view pack
+unfolding held headOf pack
 kept-packed-state s M K P =
     record {
-      kept-shaped = P .packed-shaped;
-      kept-sound = λ t. P .packed-sound;
+      kept-shaped = packed-shaped P;
+      kept-sound = λ t. packed-state P;
       kept-n = K .same-n;
-      kept-size = λ i. ap (λ (N : Network). N .size i) (P .packed-view) ∙ K .same-size i;
-      kept-solutions = λ g. ap (λ (N : Network). solves N g) (P .packed-view) ∙ K .same-solutions g ∙ and-true (solves (view s) g);
+      kept-size = λ i. ap (λ (N : Network). N .size i) (packed-view P) ∙ K .same-size i;
+      kept-solutions = λ g. ap (λ (N : Network). solves N g) (packed-view P) ∙ K .same-solutions g ∙ and-true (solves (view s) g);
     }
 
 pub answer-kept : (s : State) → Shaped s → soundState s ≡ true → (c : Call) → StateKept s (pack (answer (view s) c))
@@ -119,7 +121,7 @@ reduced-keeps s h =
 module _ (s : State) (h : Shaped s) (t : soundState s ≡ true) where
   reduced-view : view (reduced s .state) ≡ reduce (view s) .network
   unfolding reducedAs
-  reduced-view = ap (λ (a : Told). view (a .state)) (reduced-done s t) ∙ reduced-packed s h t .packed-view
+  reduced-view = ap (λ (a : Told). view (a .state)) (reduced-done s t) ∙ packed-view (reduced-packed s h t)
 
   reduced-steps : reduced s .steps ≡ reduce (view s) .steps
   unfolding reducedAs
@@ -135,12 +137,12 @@ module _ (s : State) (h : Shaped s) (t : soundState s ≡ true) where
 
   -- "the number of steps, which equals the number of options that were live before and are not now"
   pub reduced-taken : count (s .n) (λ (x : ℕ). and (free (view s) x) (not (free (view (reduced s .state)) x))) ≡ reduced s .steps
-  unfolding view
+  unfolding held
   reduced-taken =
       ap (λ (N : Network). count (s .n) (λ (x : ℕ). and (free (view s) x) (not (free N x)))) reduced-view
       ∙ reduce-taken (view s) (state-sound s h t) ∙ sym reduced-steps
 
   -- "and is at most n - 1"
   pub reduced-most : suc (reduced s .steps) ≤ s .n
-  unfolding view
+  unfolding held
   reduced-most = rw reduced-steps (reduce-most (view s) (state-sound s h t))

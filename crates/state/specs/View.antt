@@ -1,78 +1,39 @@
 -- States and networks.
 use mathlib.Core.Bool.{Bool}
 use mathlib.Core.List.{List}
-use Prim.Native.Nat.{ℕ, _<_, _*_, _^_}
-use lib.ListN.{getD, replicate}
-use Rattle.bounded.specs.Table.{tabulate}
-use Rattle.bounded.specs.Array.{Array}
-use Rattle.words.specs.Word.{has, word}
+use Prim.Native.Nat.{ℕ}
+use Rattle.words.specs.Word.{width}
 use Rattle.network.specs.Network.{Network}
-use Rattle.network.specs.Sound.{sound}
-use Rattle.rows.specs.Rows.{allowsOf, rowsOf}
+use Rattle.pairs.specs.Pairs.{rowsOf}
+use Rattle.head.specs.declared.Head.{Head}
+use Rattle.head.specs.Held.{HeadShaped, RowsShaped, held, headOf, zeroHead, zeroRows, soundIn}
 use Rattle.state.specs.declared.state.State.{State}
 
--- How many variables the arrays of a state hold,
-abbrev pub variables : ℕ
-variables = 16
+-- The head of a state,
+abbrev pub headIn : State → Head
+headIn s = record { n = s .n; sizes = s .sizes; domains = s .domains; leaders = s .leaders; stated = s .stated }
 
--- how many bits a word of them has: the values that a domain or a row can tell, and the variables that `stated` can,
-abbrev pub width : ℕ
-width = 16
-
--- and how large a size may be: "sizes are 1 to 16".
-abbrev pub mostValues : ℕ
-mostValues = 16
-
--- The state of its parts, where they are lent one by one.
-abbrev pub stateOf : ℕ → (sizes domains leaders stated rows : List ℕ) → State
-stateOf n sizes domains leaders stated rows =
-    record { n = n; sizes = sizes; domains = domains; leaders = leaders; stated = stated; rows = rows }
+-- and the state of a head and rows.
+abbrev pub stateOf : Head → List ℕ → State
+stateOf h rows = record { n = h .n; sizes = h .sizes; domains = h .domains; leaders = h .leaders; stated = h .stated; rows = rows }
 
 -- What the types of the fields say of every state.
 pub record Shaped (s : State) : Type 0 where
-  pub n-lt : s .n < 2 ^ 64
-  pub sizes-array : Array 16 (2 ^ 8) (s .sizes)
-  pub domains-array : Array 16 (2 ^ 16) (s .domains)
-  pub leaders-array : Array 16 (2 ^ 8) (s .leaders)
-  pub stated-array : Array 16 (2 ^ 16) (s .stated)
-  pub rows-array : Array 4096 (2 ^ 16) (s .rows)
+  pub head-shaped : HeadShaped (headIn s)
+  pub rows-shaped : RowsShaped (s .rows)
 
 -- The network that a state holds.
-unfoldable pub view : State → Network
-view s =
-    record {
-      n = s .n;
-      size = λ (i : ℕ). getD (s .sizes) i 0;
-      domain = λ (i a : ℕ). has (getD (s .domains) i 0) a;
-      leader = λ (i : ℕ). getD (s .leaders) i 0;
-      stated = λ (i j : ℕ). has (getD (s .stated) i 0) j;
-      allows = allowsOf width (s .rows);
-    }
+abbrev pub view : State → Network
+view s = held (headIn s) (s .rows)
 
--- The state that holds a network, where the network is within these bounds.
+-- The state that holds a network, where the network is within the bounds of the arrays.
 unfoldable pub pack : Network → State
-pack N =
-    record {
-      n = N .n;
-      sizes = tabulate variables (N .size);
-      domains = tabulate variables (λ (i : ℕ). word width (N .domain i));
-      leaders = tabulate variables (N .leader);
-      stated = tabulate variables (λ (i : ℕ). word width (N .stated i));
-      rows = rowsOf width (N .allows);
-    }
+pack N = stateOf (headOf N) (rowsOf width (N .allows))
 
 -- "The zero state is zero throughout, n included."
 unfoldable pub zeroState : State
-zeroState =
-    record {
-      n = 0;
-      sizes = replicate variables 0;
-      domains = replicate variables 0;
-      leaders = replicate variables 0;
-      stated = replicate variables 0;
-      rows = replicate (variables * variables * width) 0;
-    }
+zeroState = stateOf zeroHead zeroRows
 
--- "A state is sound when" its network is, by these three numbers.
-unfoldable pub soundState : State → Bool
-soundState s = sound variables width mostValues (view s)
+-- "A state is sound when" its network is.
+abbrev pub soundState : State → Bool
+soundState s = soundIn (headIn s) (s .rows)

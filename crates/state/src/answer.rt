@@ -3,6 +3,7 @@ use crate::state::State;
 use answers::Outcome;
 use answers::ReadOutcome;
 use answers::Verdict;
+use head::VARIABLES;
 
 pub struct ReadAnswer {
     pub outcome: ReadOutcome,
@@ -22,5 +23,5 @@ pub struct CutAnswer {
     pub state: State,
     pub steps: usize,
     pub verdict: Verdict,
-    pub solution: [u8; 16],
+    pub solution: [u8; VARIABLES],
 }

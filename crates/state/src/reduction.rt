@@ -1,9 +1,13 @@
-// The follow step and the full reduction: the public calls take a state and hand it back beside the count of steps. Below them its parts are lent: the rows
-// are worked on where they are, and the smaller arrays are built anew.
+// The follow step and the full reduction: the public calls take a state and hand it back beside the count of steps. Below them its head goes by value and
+// its rows are lent: they are worked on where they are.
 use crate::answer::Answer;
 use crate::state::State;
+use crate::state::head_in;
+use crate::state::state_of;
 use answers::Outcome;
 use cause::Cause;
+use head::Head;
+use head::Rows;
 use soundness::sound_parts;
 use step_choice::Judgement;
 use step_choice::Pair;
@@ -13,163 +17,97 @@ use step_rules::step;
 ghost use mathlib.Core.Bool.{true};
 ghost use mathlib.Core.Path.{_≡_};
 ghost use Rattle.network.specs.Reduction.{reduce};
-ghost use Rattle.soundness.specs.Parts.{Lent};
-ghost use Rattle.state.specs.View.{view, soundState, stateOf};
+ghost use Rattle.head.specs.Held.{RowsShaped, held, soundIn};
+ghost use Rattle.state.specs.View.{stateOf};
 ghost use Rattle.answers.specs.Answers.{outcomeNumber};
 ghost use Rattle.state.specs.Answers.{told};
 ghost use Rattle.state.specs.Steps.{stepRefusal, stepped, reducedAs, reduced};
 ghost use Rattle.state.specs.Worked.{workedTold};
 
-// What a step or a reduction makes of the smaller arrays, and its count.
+// What a step or a reduction makes of the head, and its count.
 pub struct Worked {
     pub outcome: Outcome,
     pub steps: usize,
-    pub domains: [u16; 16],
-    pub leaders: [u8; 16],
-    pub stated: [u16; 16],
+    pub head: Head,
 }
 
 // Why a follow step is refused, or `Done`: soundness is tested first.
-fn refuse_step<'a>(
-    n: usize,
-    sizes: &'a [u8; 16],
-    domains: &'a [u16; 16],
-    leaders: &'a [u8; 16],
-    stated: &'a [u16; 16],
-    rows: &'a [u16; 4096],
-    leader: usize,
-    follower: usize,
-) -> Outcome
-    requires { ⌜ Lent (now sizes) (now domains) (now leaders) (now stated) (now rows) ⌝ }
-    ensures { λ r. ⌜ outcomeNumber r ≡ stepRefusal (stateOf n (now (sizes .entry)) (now (domains .entry)) (now (leaders .entry)) (now (stated .entry)) (now (rows .entry))) leader follower ⌝ }
+fn refuse_step(head: Head, rows: &Rows, leader: usize, follower: usize) -> Outcome
+    ensures { λ r. ⌜ outcomeNumber r ≡ stepRefusal (stateOf head (now (rows .entry))) leader follower ⌝ }
 {
-    if !sound_parts(n, sizes, domains, leaders, stated, rows) {
+    if !sound_parts(head, rows) {
         return Outcome::Refused(Cause::Unsound);
     }
-    match judge(n, domains, leaders, stated, rows, leader, follower) {
+    match judge(head, rows, leader, follower) {
         Judgement::Legal => Outcome::Done,
         Judgement::Refused(cause) => Outcome::Refused(cause),
     }
 }
 
-// One follow step on lent parts; a refusal leaves them as they are.
-pub fn eliminate_parts<'a>(
-    n: usize,
-    sizes: &'a [u8; 16],
-    domains: &'a [u16; 16],
-    leaders: &'a [u8; 16],
-    stated: &'a [u16; 16],
-    rows: &mut [u16; 4096],
-    leader: usize,
-    follower: usize,
-) -> Worked
-    requires { ⌜ Lent (now sizes) (now domains) (now leaders) (now stated) (now rows) ⌝ }
-    ensures { λ r. ⌜
-        workedTold n (now (sizes .entry)) r (now (rows .exit))
-        ≡ stepped (stateOf n (now (sizes .entry)) (now (domains .entry)) (now (leaders .entry)) (now (stated .entry)) (now (rows .entry))) leader follower
-        ⌝ }
+// One follow step. A refusal comes before anything is stored.
+pub fn eliminate_parts(head: Head, rows: &mut Rows, leader: usize, follower: usize) -> Worked
+    requires { ⌜ RowsShaped (now rows) ⌝ }
+    ensures { λ r. ⌜ workedTold r (now (rows .exit)) ≡ stepped (stateOf head (now (rows .entry))) leader follower ⌝ }
 {
-    let outcome = refuse_step(n, sizes, domains, leaders, stated, rows, leader, follower);
+    let outcome = refuse_step(head, rows, leader, follower);
     let Outcome::Done = outcome else {
         return Worked {
             outcome,
             steps: 0,
-            domains: *domains,
-            leaders: *leaders,
-            stated: *stated,
+            head,
         };
     };
-    let after = step(domains, leaders, stated, rows, leader - 1, follower - 1);
-    let trimmed = after.domains;
-    let led = after.leaders;
-    let pairs = after.stated;
+    let after = step(head, rows, leader - 1, follower - 1);
     Worked {
         outcome,
         steps: 1,
-        domains: trimmed,
-        leaders: led,
-        stated: pairs,
+        head: after,
     }
 }
 
 // The full reduction of a sound state: "repeats until no step is legal".
-pub fn reduce_sound<'a>(
-    n: usize,
-    sizes: &'a [u8; 16],
-    domains: &'a [u16; 16],
-    leaders: &'a [u8; 16],
-    stated: &'a [u16; 16],
-    rows: &mut [u16; 4096],
-) -> Worked
-    requires { ⌜ Lent (now sizes) (now domains) (now leaders) (now stated) (now rows) × (soundState (stateOf n (now sizes) (now domains) (now leaders) (now stated) (now rows)) ≡ true) ⌝ }
-    ensures { λ r. ⌜
-        workedTold n (now (sizes .entry)) r (now (rows .exit))
-        ≡ reducedAs (reduce (view (stateOf n (now (sizes .entry)) (now (domains .entry)) (now (leaders .entry)) (now (stated .entry)) (now (rows .entry)))))
-        ⌝ }
+pub fn reduce_sound(head: Head, rows: &mut Rows) -> Worked
+    requires { ⌜ RowsShaped (now rows) × (soundIn head (now rows) ≡ true) ⌝ }
+    ensures { λ r. ⌜ workedTold r (now (rows .exit)) ≡ reducedAs (reduce (held head (now (rows .entry)))) ⌝ }
 {
-    let mut trimmed = *domains;
-    let mut led = *leaders;
-    let mut pairs = *stated;
+    let mut cut = head;
     let mut steps: usize = 0;
     loop {
-        let pair = next_pair(n, &trimmed, &led, &pairs, rows);
+        let pair = next_pair(cut, rows);
         let Pair::Found(i, j) = pair else {
             return Worked {
                 outcome: Outcome::Done,
                 steps,
-                domains: trimmed,
-                leaders: led,
-                stated: pairs,
+                head: cut,
             };
         };
-        let after = step(&trimmed, &led, &pairs, rows, i, j);
-        trimmed = after.domains;
-        led = after.leaders;
-        pairs = after.stated;
+        cut = step(cut, rows, i, j);
         steps += 1;
     }
 }
 
-// The full reduction on lent parts.
-pub fn reduce_parts<'a>(
-    n: usize,
-    sizes: &'a [u8; 16],
-    domains: &'a [u16; 16],
-    leaders: &'a [u8; 16],
-    stated: &'a [u16; 16],
-    rows: &mut [u16; 4096],
-) -> Worked
-    requires { ⌜ Lent (now sizes) (now domains) (now leaders) (now stated) (now rows) ⌝ }
-    ensures { λ r. ⌜ workedTold n (now (sizes .entry)) r (now (rows .exit)) ≡ reduced (stateOf n (now (sizes .entry)) (now (domains .entry)) (now (leaders .entry)) (now (stated .entry)) (now (rows .entry))) ⌝ }
+// The full reduction. A refusal comes before anything is stored.
+pub fn reduce_parts(head: Head, rows: &mut Rows) -> Worked
+    requires { ⌜ RowsShaped (now rows) ⌝ }
+    ensures { λ r. ⌜ workedTold r (now (rows .exit)) ≡ reduced (stateOf head (now (rows .entry))) ⌝ }
 {
-    if !sound_parts(n, sizes, domains, leaders, stated, rows) {
+    if !sound_parts(head, rows) {
         return Worked {
             outcome: Outcome::Refused(Cause::Unsound),
             steps: 0,
-            domains: *domains,
-            leaders: *leaders,
-            stated: *stated,
+            head,
         };
     }
-    reduce_sound(n, sizes, domains, leaders, stated, rows)
+    reduce_sound(head, rows)
 }
 
 // "It hands back the state and the number of steps".
-fn handed_back(n: usize, sizes: [u8; 16], worked: Worked, rows: [u16; 4096]) -> Answer
-    ensures { λ r. ⌜ told r ≡ workedTold n sizes worked rows ⌝ }
+fn handed_back(worked: Worked, rows: Rows) -> Answer
+    ensures { λ r. ⌜ told r ≡ workedTold worked rows ⌝ }
 {
     let outcome = worked.outcome;
-    let domains = worked.domains;
-    let leaders = worked.leaders;
-    let stated = worked.stated;
-    let state = State {
-        n,
-        sizes,
-        domains,
-        leaders,
-        stated,
-        rows,
-    };
+    let head = worked.head;
+    let state = state_of(head, rows);
     Answer {
         outcome,
         state,
@@ -182,36 +120,19 @@ impl State {
     pub fn eliminate(self, leader: usize, follower: usize) -> Answer
         ensures { λ r. ⌜ told r ≡ stepped self leader follower ⌝ }
     {
-        let n = self.n;
-        let sizes = self.sizes;
-        let domains = self.domains;
-        let leaders = self.leaders;
-        let stated = self.stated;
+        let head = head_in(self);
         let mut rows = self.rows;
-        let worked = eliminate_parts(
-            n,
-            &sizes,
-            &domains,
-            &leaders,
-            &stated,
-            &mut rows,
-            leader,
-            follower,
-        );
-        handed_back(n, sizes, worked, rows)
+        let worked = eliminate_parts(head, &mut rows, leader, follower);
+        handed_back(worked, rows)
     }
 
     // The full reduction: the state that no step is legal in any more, and how many steps led there.
     pub fn reduce(self) -> Answer
         ensures { λ r. ⌜ told r ≡ reduced self ⌝ }
     {
-        let n = self.n;
-        let sizes = self.sizes;
-        let domains = self.domains;
-        let leaders = self.leaders;
-        let stated = self.stated;
+        let head = head_in(self);
         let mut rows = self.rows;
-        let worked = reduce_parts(n, &sizes, &domains, &leaders, &stated, &mut rows);
-        handed_back(n, sizes, worked, rows)
+        let worked = reduce_parts(head, &mut rows);
+        handed_back(worked, rows)
     }
 }

@@ -11,6 +11,9 @@ use Rattle.cause.specs.Number.{numberOf}
 use Rattle.cause.proofs.Laws.{number-positive}
 use Rattle.network.specs.Reduction.{reduce}
 use Rattle.network.specs.Sheet.{Sheet}
+use Rattle.pairs.specs.Pairs.{variables}
+use Rattle.head.specs.Held.{zeroHead}
+use Rattle.head.proofs.Held.{held-n}
 use Rattle.format.specs.Parse.{Octets, parse, got, bad}
 use Rattle.format.specs.Layout.{longest}
 use Rattle.format.proofs.Places.{refused-place}
@@ -27,7 +30,7 @@ use Rattle.state.specs.Solutions.{verdictOf}
 use Rattle.state.specs.Cut.{CutTold, cutAs, cutSheet}
 use Rattle.state_read.specs.Parts.{readPartsTold}
 use Rattle.state_cut.specs.Parts.{cutPartsTold}
-use Rattle.state.proofs.View.{Shaped, n-most, zero-unsound}
+use Rattle.state.proofs.View.{zero-unsound}
 use Rattle.state.proofs.Steps.{StateKept, reduced-done, reduced-refused, reduced-keeps, reduced-most}
 use Rattle.state.proofs.Solutions.{verdict-refused}
 use Rattle.state_read.proofs.RoundTrip.{AsRead, got-or-bad, read-refused, read-got, read-sound}
@@ -43,23 +46,23 @@ cut-unsound r t =
 
 -- Parts that tell what reading says, and their rows.
 module _ (bytes : List ℕ) (a : ReadParts) (rows : List ℕ) (e : readPartsTold a rows ≡ readSheet bytes) where
-  unfoldable pub stateRead : State
-  stateRead = stateOf (a .n) (a .sizes) (a .domains) (replicate 16 0) (a .stated) rows
+  abbrev pub stateRead : State
+  stateRead = stateOf (a .head) rows
 
   told-number : readNumber (a .outcome) ≡ readSheet bytes .number
   unfolding readPartsTold
   told-number = ap (λ (r : ReadTold). r .number) e
 
   told-state : stateRead ≡ readSheet bytes .state
-  unfolding readPartsTold stateRead
+  unfolding readPartsTold
   told-state = ap (λ (r : ReadTold). r .state) e
 
   -- A refused sheet gives the zero state, which is not sound.
   refused-unsound : {c : Cause} {at : ℕ} → a .outcome ≡ readOutcome.Refused c at → soundState stateRead ≡ false
   unfolding readNumber
   refused-unsound {c} h =
-      rw told-state
-      (got-or-bad bytes (parse bytes) refl
+      ap soundState told-state
+      ∙ (got-or-bad bytes (parse bytes) refl
       (λ s next g. absurd (let z : numberOf c ≡ 0 = sym (ap readNumber h) ∙ told-number ∙ ap (λ (r : ReadTold). r .number) (read-got bytes s next g) in
       let x : ⊥ = omega (arith, number-positive c) in x))
       (λ d at g. ap (λ (r : ReadTold). soundState (r .state)) (read-refused bytes d at g) ∙ zero-unsound))
@@ -68,18 +71,14 @@ module _ (bytes : List ℕ) (a : ReadParts) (rows : List ℕ) (e : readPartsTold
       → cutPartsTold
       (record {
         outcome = a .outcome;
-        n = a .n;
-        sizes = a .sizes;
-        domains = a .domains;
-        leaders = replicate 16 0;
-        stated = a .stated;
+        head = a .head;
         steps = 0;
         verdict = verdict.Refused cause.Unsound;
-        solution = replicate 16 0;
+        solution = replicate variables 0;
       })
       rows
       ≡ cutSheet bytes
-  unfolding cutPartsTold cutSheet readPartsTold verdictTold stateRead
+  unfolding cutPartsTold cutSheet readPartsTold verdictTold
   cut-refused h =
       sym (cut-unsound (readPartsTold a rows) (refused-unsound h)) ∙ ap (λ (r : ReadTold). cutAs r (reduced (r .state))) e
 
@@ -96,9 +95,6 @@ module _ (bytes : List ℕ) (a : ReadParts) (rows : List ℕ) (e : readPartsTold
     kept : StateKept stateRead (b .state)
     kept = rw (ap (λ (x : Told). x .state) told-reduced) (reduced-keeps stateRead (r .read-shaped))
 
-    pub cut-shaped : Shaped (b .state)
-    cut-shaped = kept .kept-shaped
-
     pub cut-sound : soundState (b .state) ≡ true
     cut-sound = kept .kept-sound (r .is-sound)
 
@@ -107,17 +103,17 @@ module _ (bytes : List ℕ) (a : ReadParts) (rows : List ℕ) (e : readPartsTold
         → _≡_ {A = CutTold}
         (record { number = readNumber (a .outcome); place = readPlace (a .outcome); state = b .state; steps = b .steps; verdict = v })
         (cutSheet bytes)
-    unfolding cutAs cutSheet readPartsTold stateRead
+    unfolding cutAs cutSheet readPartsTold
     cut-accepted v g =
         (λ z. record { number = readNumber (a .outcome); place = readPlace (a .outcome); state = b .state; steps = b .steps; verdict = g z })
         ∙ ap (cutAs (readPartsTold a rows)) told-reduced
         ∙ ap (λ (x : ReadTold). cutAs x (reduced (x .state))) e
 
--- How large the numbers of an answer are: a place is within the largest sheet, and there are at most 16 options and so fewer steps.
+-- How large the numbers of an answer are: a place is within the largest sheet, and there are at most 16 variables and so fewer steps.
 pub record Small (c : CutTold) : Type 0 where
   pub place-small : c .place ≤ 4101
-  pub n-small : c .state .n ≤ 16
-  pub steps-small : c .steps < 16
+  pub n-small : c .state .n ≤ variables
+  pub steps-small : c .steps < variables
 
 module _ (bytes : List ℕ) (octets : Octets bytes) where
   small-accepted : (s : Sheet) (next : ℕ) → parse bytes ≡ got s next → Small (cutSheet bytes)
@@ -127,13 +123,13 @@ module _ (bytes : List ℕ) (octets : Octets bytes) where
       let r = read-sound bytes octets (ap (λ (x : ReadTold). x .number) g) in
       let t = readSheet bytes .state in
       let p : readSheet bytes .place ≡ 0 = ap (λ (x : ReadTold). x .place) g in
-      let few = n-most t (r .is-sound) in
+      let few = held-n _ (t .rows) (r .is-sound) in
       let kept = reduced-keeps t (r .read-shaped) .kept-n in
       let most = reduced-most t (r .read-shaped) (r .is-sound) in
       record { place-small = omega arith; n-small = omega arith; steps-small = omega arith }
 
   small-refused : (c : Cause) (at : ℕ) → parse bytes ≡ bad c at → Small (cutSheet bytes)
-  unfolding cutSheet zeroState longest
+  unfolding cutSheet zeroState zeroHead longest
   small-refused c at e =
       let g = read-refused bytes c at e in
       let l = refused-place bytes e in

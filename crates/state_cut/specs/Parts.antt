@@ -11,7 +11,7 @@ cutPartsTold r rows =
     record {
       number = readNumber (r .outcome);
       place = readPlace (r .outcome);
-      state = stateOf (r .n) (r .sizes) (r .domains) (r .leaders) (r .stated) rows;
+      state = stateOf (r .head) rows;
       steps = r .steps;
       verdict = verdictTold (r .verdict) (r .solution);
     }

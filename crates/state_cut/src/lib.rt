@@ -2,66 +2,51 @@
 use answers::ReadOutcome;
 use answers::Verdict;
 use cause::Cause;
+use head::Head;
+use head::Rows;
+use head::VARIABLES;
 use state::reduce_sound;
 use state_read::read_parts;
 use state_verdict::verdict_of;
 ghost use mathlib.Core.Path.{_≡_};
-ghost use lib.ListN.{replicate};
+ghost use Rattle.head.specs.Held.{zeroRows};
 ghost use Rattle.state.specs.Cut.{cutSheet};
 ghost use Rattle.state_cut.specs.Parts.{cutPartsTold};
 
 // What a cut gives besides the rows.
 pub struct CutParts {
     pub outcome: ReadOutcome,
-    pub n: usize,
-    pub sizes: [u8; 16],
-    pub domains: [u16; 16],
-    pub leaders: [u8; 16],
-    pub stated: [u16; 16],
+    pub head: Head,
     pub steps: usize,
     pub verdict: Verdict,
-    pub solution: [u8; 16],
+    pub solution: [u8; VARIABLES],
 }
 
 // What the three calls give one after the other. A state just read is sound and a reduction keeps it so: nothing is tested twice.
-pub fn cut_parts(bytes: &[u8], rows: &mut [u16; 4096]) -> CutParts
-    requires { ⌜ now rows ≡ replicate 4096 0 ⌝ }
+pub fn cut_parts(bytes: &[u8], rows: &mut Rows) -> CutParts
+    requires { ⌜ now rows ≡ zeroRows ⌝ }
     ensures { λ r. ⌜ cutPartsTold r (now (rows .exit)) ≡ cutSheet (now (bytes .entry)) ⌝ }
 {
     let read = read_parts(bytes, rows);
     let outcome = read.outcome;
-    let n = read.n;
-    let sizes = read.sizes;
-    let domains = read.domains;
-    let stated = read.stated;
-    let leaders = [0u8; 16];
+    let head = read.head;
     let ReadOutcome::Accepted = outcome else {
         return CutParts {
             outcome,
-            n,
-            sizes,
-            domains,
-            leaders,
-            stated,
+            head,
             steps: 0,
             verdict: Verdict::Refused(Cause::Unsound),
-            solution: [0; 16],
+            solution: [0; VARIABLES],
         };
     };
-    let cut = reduce_sound(n, &sizes, &domains, &leaders, &stated, rows);
-    let domains = cut.domains;
-    let leaders = cut.leaders;
-    let stated = cut.stated;
-    let decided = verdict_of(n, &sizes, &domains, &leaders, &stated, rows);
+    let cut = reduce_sound(head, rows);
+    let head = cut.head;
+    let decided = verdict_of(head, rows);
     let verdict = decided.verdict;
     let solution = decided.solution;
     CutParts {
         outcome,
-        n,
-        sizes,
-        domains,
-        leaders,
-        stated,
+        head,
         steps: cut.steps,
         verdict,
         solution,

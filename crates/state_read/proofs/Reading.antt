@@ -9,77 +9,78 @@ use borrow.Author.Tests.{ltb-true, ltb-false}
 use Rattle.bounded.specs.Table.{tabulate}
 use Rattle.bounded.proofs.Bool.{by-cases}
 use Rattle.bounded.proofs.Table.{tabulate-cong, getD-tabulate, getD-tabulate-past}
-use Rattle.words.specs.Word.{word}
+use Rattle.words.specs.Word.{width, word}
 use Rattle.words.proofs.Laws.{word-cong}
 use Rattle.cause.specs.declared.Cause.{Cause}
 use Rattle.network.specs.Sheet.{Sheet, networkOf}
+use Rattle.pairs.specs.Pairs.{variables}
+use Rattle.head.specs.declared.Head.{Head}
+use Rattle.head.specs.Held.{mostValues, headOf, zeroHead, zeroRows}
 use Rattle.format.specs.Parse.{Octets, parse}
+use Rattle.format.proofs.RoundTrip as format
+use Rattle.format.proofs.SheetOf.{wellformed-size}
 use Rattle.read_field.specs.declared.field.Read.{Read}
 use Rattle.read_field.specs.declared.field.Read.the-variants.{Value, Refused}
 use Rattle.read_field.proofs.Fields.{as-got, as-bad}
 use Rattle.read_sheet.specs.Reading.{Holds, SheetRead}
-use Rattle.format.proofs.RoundTrip as format
-use Rattle.format.proofs.SheetOf.{wellformed-size}
-use Rattle.state.specs.declared.state.State.{State}
 use Rattle.answers.specs.declared.ReadOutcome.the-variants as readOutcome
-use Rattle.state.specs.View.{pack, zeroState}
 use Rattle.answers.specs.Answers.{readNumber, readPlace}
-use Rattle.state.specs.Answers.{readTold}
+use Rattle.state.specs.View.{stateOf, pack, zeroState}
 use Rattle.state.specs.Read.{readAs, readSheet}
+use Rattle.state_read.specs.Parts.{readPartsTold}
 
--- The lists that are full for the sizes in an array.
+-- The domains that are full for the sizes in an array,
 unfoldable pub fullDomains : List ℕ → List ℕ
-fullDomains sizes = tabulate 16 (λ (i : ℕ). word 16 (λ (a : ℕ). ltb a (getD sizes i 0)))
+fullDomains sizes = tabulate variables (λ (i : ℕ). word width (λ (a : ℕ). ltb a (getD sizes i 0)))
 
--- The state of arrays as just read.
-unfoldable pub stateRead : ℕ → List ℕ → List ℕ → List ℕ → State
-stateRead n sizes stated rows =
-    record { n = n; sizes = sizes; domains = fullDomains sizes; leaders = replicate 16 0; stated = stated; rows = rows }
+-- and the head of arrays as just read.
+unfoldable pub headRead : ℕ → List ℕ → List ℕ → Head
+headRead n sizes stated = record { n = n; sizes = sizes; domains = fullDomains sizes; leaders = replicate variables 0; stated = stated }
 
-held-domains : (s : Sheet) (sizes : List ℕ) → sizes ≡ tabulate 16 (networkOf s .size)
-    → fullDomains sizes ≡ tabulate 16 (λ (k : ℕ). word 16 (networkOf s .domain k))
+read-domains : (s : Sheet) (sizes : List ℕ) → sizes ≡ tabulate variables (networkOf s .size)
+    → fullDomains sizes ≡ tabulate variables (λ (k : ℕ). word width (networkOf s .domain k))
 unfolding fullDomains networkOf
-held-domains s sizes e =
-    tabulate-cong 16 _ _
-    (λ k h. word-cong 16 _ _ (λ a l. ap (ltb a) (ap (λ (xs : List ℕ). getD xs k 0) e ∙ getD-tabulate 16 _ k 0 h)))
+read-domains s sizes e =
+    tabulate-cong variables _ _
+    (λ k h. word-cong width _ _ (λ a l. ap (ltb a) (ap (λ (xs : List ℕ). getD xs k 0) e ∙ getD-tabulate variables _ k 0 h)))
 
-held-state : (s : Sheet) (n : ℕ) (sizes stated rows : List ℕ) → n ≡ length (s .sizes) → Holds s sizes stated rows
-    → stateRead n sizes stated rows ≡ pack (networkOf s)
-unfolding stateRead pack networkOf tabulate
-held-state s n sizes stated rows e H =
+read-head : (s : Sheet) (n : ℕ) (sizes stated rows : List ℕ) → n ≡ length (s .sizes) → Holds s sizes stated rows
+    → headRead n sizes stated ≡ headOf (networkOf s)
+unfolding headRead headOf networkOf tabulate
+read-head s n sizes stated rows e H =
     λ i. record {
       n = e i;
       sizes = H .sizes-are i;
-      domains = held-domains s sizes (H .sizes-are) i;
-      leaders = replicate 16 0;
+      domains = read-domains s sizes (H .sizes-are) i;
+      leaders = replicate variables 0;
       stated = H .stated-are i;
-      rows = H .rows-are i;
     }
 
 module _ (bytes sizes stated rows : List ℕ) (r : Read) (R : SheetRead (parse bytes) sizes stated rows r) where
   -- An accepted sheet: the state of the arrays is the one of its network.
   pub read-accepted : (n next : ℕ) → r ≡ Value n next
-      → readTold (record { outcome = readOutcome.Accepted; state = stateRead n sizes stated rows }) ≡ readSheet bytes
-  unfolding readSheet readAs readTold readNumber readPlace
+      → readPartsTold (record { outcome = readOutcome.Accepted; head = headRead n sizes stated }) rows ≡ readSheet bytes
+  unfolding readSheet readAs readPartsTold readNumber readPlace pack
   read-accepted n next e =
+      let H = R .holds n next e in
       rw (as-got _ r _ n next (R .parsed) e)
-      (λ i. record { number = 0; place = 0; state = held-state (R .sheet) n sizes stated rows (R .count-is n next e) (R .holds n next e) i })
+      (λ i. record { number = 0; place = 0; state = stateOf (read-head (R .sheet) n sizes stated rows (R .count-is n next e) H i) (H .rows-are i) })
 
   -- A refused one: its number, its place and the zero state.
   pub read-refused : (c : Cause) (at : ℕ) → r ≡ Refused c at
-      → readTold (record { outcome = readOutcome.Refused c at; state = zeroState }) ≡ readSheet bytes
-  unfolding readSheet readAs readTold readNumber readPlace
+      → readPartsTold (record { outcome = readOutcome.Refused c at; head = zeroHead }) zeroRows ≡ readSheet bytes
+  unfolding readSheet readAs readPartsTold readNumber readPlace zeroState
   read-refused c at e = rw (as-bad _ r _ c at (R .parsed) e)
 
-  -- The sizes of an accepted sheet are at most 16.
-  pub read-sizes : Octets bytes → (n next : ℕ) → r ≡ Value n next → (i : ℕ) → getD sizes i 0 ≤ 16
+  -- The sizes of an accepted sheet are small.
+  pub read-sizes : Octets bytes → (n next : ℕ) → r ≡ Value n next → (i : ℕ) → getD sizes i 0 ≤ mostValues
   read-sizes octets n next e i =
-      let is : sizes ≡ tabulate 16 (networkOf (R .sheet) .size) = R .holds n next e .sizes-are in
-      by-cases (ltb i 16)
+      let is : sizes ≡ tabulate variables (networkOf (R .sheet) .size) = R .holds n next e .sizes-are in
+      by-cases (ltb i variables)
       (λ t. let b : getD sizes i 0 ≡ networkOf (R .sheet) .size i
-      = ap (λ (xs : List ℕ). getD xs i 0) is ∙ getD-tabulate 16 _ i 0 (ltb-true i 16 t) in
+      = ap (λ (xs : List ℕ). getD xs i 0) is ∙ getD-tabulate variables _ i 0 (ltb-true i variables t) in
       let f = format.parsed bytes octets (R .sheet) next (as-got _ r _ n next (R .parsed) e) in
       omega (arith, wellformed-size (f .layout) (f .usable) (R .sheet) (f .body .well-formed) i))
       (λ t. let b : getD sizes i 0 ≡ 0
-      = ap (λ (xs : List ℕ). getD xs i 0) is ∙ getD-tabulate-past 16 _ i 0 (ltb-false i 16 t) in
+      = ap (λ (xs : List ℕ). getD xs i 0) is ∙ getD-tabulate-past variables _ i 0 (ltb-false i variables t) in
       omega arith)

@@ -20,6 +20,9 @@ use Rattle.network.specs.Network.{Network, solves}
 use Rattle.network.specs.Sound.{Sound}
 use Rattle.network.specs.Sheet.{Sheet, tabled, networkOf, sheetOf, fresh}
 use Rattle.network.proofs.SheetOf.{fresh-leader, fresh-domain, networkOf-fresh, networkOf-stated, networkOf-sheetOf, row-networkOf}
+use Rattle.pairs.specs.Pairs.{variables}
+use Rattle.head.specs.Held.{held}
+use Rattle.head.proofs.Held.{Packed, pack-sound, held-n, held-size}
 use Rattle.format.specs.Layout.{version1}
 use Rattle.format.specs.Parse.{Octets, Parse, got, bad, parse}
 use Rattle.format.specs.Builds.{isBuild}
@@ -33,7 +36,7 @@ use Rattle.state.specs.Answers.{ReadTold}
 use Rattle.state.specs.Read.{readAs, readSheet}
 use Rattle.state.specs.Write.{Wrote, sheetBytes, writeRefusal, writeAs, writeSheet}
 use Rattle.state_read.specs.RoundTrip.{AcceptedExactly, ReadTables, ReadOfWrite, WriteOfRead}
-use Rattle.state.proofs.View.{Shaped, Packed, pack-view, pack-sound, state-sound, state-n, state-size}
+use Rattle.state.proofs.View.{Shaped, pack-view, state-sound, packed-view, packed-state, packed-shaped}
 
 -- Reading, case by case.
 module _ (bytes : List ℕ) where
@@ -70,7 +73,7 @@ pub record Accepted (bytes : List ℕ) (s : Sheet) : Type 0 where
   pub got-sheet : parse bytes ≡ got s (length bytes)
   pub read : SheetRead bytes s (length bytes)
   pub sheet-sound : Sound (networkOf s)
-  pub at-most : networkOf s .n ≤ 16
+  pub at-most : networkOf s .n ≤ variables
   pub packed : Packed (networkOf s)
   pub state-is : readSheet bytes .state ≡ pack (networkOf s)
   pub view-is : view (readSheet bytes .state) ≡ networkOf s
@@ -98,7 +101,7 @@ module _ (bytes : List ℕ) (octets : Octets bytes) where
         at-most = n;
         packed = K;
         state-is = is;
-        view-is = ap view is ∙ K .packed-view;
+        view-is = ap view is ∙ packed-view K;
       }
 
   pub accepted : readSheet bytes .number ≡ 0 → (s : Sheet) × Accepted bytes s
@@ -109,8 +112,8 @@ module _ (bytes : List ℕ) (octets : Octets bytes) where
     read-sound =
         let (s, A) = accepted h in
         record {
-          read-shaped = rw (A .state-is) (A .packed .packed-shaped);
-          is-sound = rw (A .state-is) (A .packed .packed-sound);
+          read-shaped = rw (A .state-is) (packed-shaped (A .packed));
+          is-sound = rw (A .state-is) (packed-state (A .packed));
           is-fresh = rw (A .view-is) (networkOf-fresh s);
         }
 
@@ -161,11 +164,11 @@ module _ (s : State) (buffer : List ℕ) where
 -- The bytes of what is written read back as the state.
 read-sheetBytes : (s : State) → Shaped s → (space : ℕ) → writeRefusal s space ≡ 0
     → readSheet (sheetBytes s) ≡ record { number = 0; place = 0; state = s }
-unfolding sheetBytes version1
+unfolding sheetBytes version1 held
 read-sheetBytes s h space e =
     let (t, F) = written-fresh s space e in
     let S = state-sound s h t in
-    let W = sheetOf-wellformed version1 version1-usable (view s) S (state-n s t) (version1-takes (view s) (state-size s h t)) in
+    let W = sheetOf-wellformed version1 version1-usable (view s) S (held-n _ (s .rows) t) (version1-takes (view s) (held-size _ _ (h .head-shaped) t)) in
     read-got (sheetBytes s) (sheetOf (view s)) _ (parse-of-print version1 (version1-found _ refl) (sheetOf (view s)) W)
     ∙ ap (λ (u : State). record { number = 0; place = 0; state = u }) (ap pack (networkOf-sheetOf (view s) S F) ∙ pack-view s h)
 

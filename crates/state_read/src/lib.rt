@@ -2,67 +2,84 @@
 ghost use mathlib.Core.Path.{_≡_};
 ghost use Prim.Native.Nat.{ℕ, _≤_};
 ghost use lib.Dec.{ltb};
-ghost use lib.ListN.{getD, replicate};
+ghost use lib.ListN.{getD};
 ghost use Rattle.bounded.specs.Table.{tabulate};
-ghost use Rattle.words.specs.Word.{word};
+ghost use Rattle.words.specs.Word.{width, word};
+ghost use Rattle.pairs.specs.Pairs.{variables};
+ghost use Rattle.head.specs.Held.{zeroHead, zeroRows};
 ghost use Rattle.state.specs.Read.{readSheet};
 ghost use Rattle.state_read.specs.Parts.{readPartsTold};
 use answers::ReadOutcome;
+use head::Head;
+use head::Rows;
+use head::VARIABLES;
+use pairs::PLACES;
 use read_field::Read;
 
 // What was read besides the rows: all zero after a refusal.
 pub struct ReadParts {
     pub outcome: ReadOutcome,
-    pub n: usize,
-    pub sizes: [u8; 16],
-    pub domains: [u16; 16],
-    pub stated: [u16; 16],
+    pub head: Head,
 }
 
 // Full domains: all values below each size.
-fn full_domains(sizes: [u8; 16]) -> [u16; 16]
-    requires { ⌜ ((i : ℕ) → getD sizes i 0 ≤ 16) ⌝ }
-    ensures { λ r. ⌜ r ≡ tabulate 16 (λ (i : ℕ). word 16 (λ (a : ℕ). ltb a (getD sizes i 0))) ⌝ }
+fn full_domains(sizes: [u8; VARIABLES]) -> [u32; VARIABLES]
+    requires { ⌜ ((i : ℕ) → getD sizes i 0 ≤ width) ⌝ }
+    ensures { λ r. ⌜ r ≡ tabulate variables (λ (i : ℕ). word width (λ (a : ℕ). ltb a (getD sizes i 0))) ⌝ }
 {
-    let mut domains = [0u16; 16];
-    for i in 0..16 {
+    let mut domains = [0u32; VARIABLES];
+    for i in 0..VARIABLES {
         domains[i] = words::full(sizes[i] as usize);
     }
     domains
 }
 
-fn zero_rows(rows: &mut [u16; 4096])
-    ensures { λ _. ⌜ now (rows .exit) ≡ replicate 4096 0 ⌝ }
+fn zero_head() -> Head
+    ensures { λ r. ⌜ r ≡ zeroHead ⌝ }
 {
-    *rows = [0; 4096];
+    Head {
+        n: 0,
+        sizes: [0; VARIABLES],
+        domains: [0; VARIABLES],
+        leaders: [0; VARIABLES],
+        stated: [0; VARIABLES],
+    }
+}
+
+fn zero_rows(rows: &mut Rows)
+    ensures { λ _. ⌜ now (rows .exit) ≡ zeroRows ⌝ }
+{
+    *rows = [0; PLACES];
 }
 
 // The state of a sheet's bytes, of any length and contents, or why and where they are refused. "The zero state is zero throughout": so are then the rows.
-pub fn read_parts(bytes: &[u8], rows: &mut [u16; 4096]) -> ReadParts
-    requires { ⌜ now rows ≡ replicate 4096 0 ⌝ }
+pub fn read_parts(bytes: &[u8], rows: &mut Rows) -> ReadParts
+    requires { ⌜ now rows ≡ zeroRows ⌝ }
     ensures { λ r. ⌜ readPartsTold r (now (rows .exit)) ≡ readSheet (now (bytes .entry)) ⌝ }
 {
-    let mut sizes = [0u8; 16];
-    let mut stated = [0u16; 16];
+    let mut sizes = [0u8; VARIABLES];
+    let mut stated = [0u32; VARIABLES];
     match read_sheet::read_into(bytes, &mut sizes, &mut stated, rows) {
         Read::Value(n, _) => {
             let domains = full_domains(sizes);
-            ReadParts {
-                outcome: ReadOutcome::Accepted,
+            let leaders = [0u8; VARIABLES];
+            let head = Head {
                 n,
                 sizes,
                 domains,
+                leaders,
                 stated,
+            };
+            ReadParts {
+                outcome: ReadOutcome::Accepted,
+                head,
             }
         }
         Read::Refused(cause, place) => {
             zero_rows(rows);
             ReadParts {
                 outcome: ReadOutcome::Refused(cause, place),
-                n: 0,
-                sizes: [0; 16],
-                domains: [0; 16],
-                stated: [0; 16],
+                head: zero_head(),
             }
         }
     }

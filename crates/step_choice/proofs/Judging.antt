@@ -1,24 +1,28 @@
 -- Judging a step: each test that comes first decides its number, and the ones of row AND list decide whether a pair is functional.
-use mathlib.Core.Bool.{true, false}
+use mathlib.Core.Bool.{Bool, true, false}
 use mathlib.Core.List.{List}
-use mathlib.Core.Path.{_≡_, sym, ap, _∙_}
-use Prim.Native.Nat.{ℕ, _-_, _≤_, _<_}
+use mathlib.Core.Path.{_≡_, refl, sym, ap, _∙_}
+use Prim.Native.Nat.{ℕ, suc, pred, _-_, _≤_, _<_}
 use native.Mathlib.Numerals.{sub-one}
 use native.Mathlib.Omega.{arith}
-use lib.Dec.{leb}
+use lib.Dec.{eqb, leb}
 use lib.ListN.{getD}
-use borrow.Author.Tests.{eq-eqb, ne-eqb, lt-ltb, le-ltb, le-leb}
-use Rattle.bounded.specs.Bool.{and, or, implies, not, if}
+use borrow.Author.Tests.{eqb-true, eqb-false, eq-eqb, ne-eqb, lt-ltb, le-ltb, le-leb}
+use Rattle.bounded.specs.Bool.{and, or, not, if}
 use Rattle.bounded.specs.Fold.{count}
-use Rattle.bounded.proofs.Bool.{true-and, or-l, or-r, or-false-i, not-i, not-false-i, if-true, if-false}
-use Rattle.bounded.proofs.Fold.{every-cong, count-cong}
+use Rattle.bounded.proofs.Bool.{by-cases, bool-ext, true-and, and-l, or-l, or-r, or-false-i, implies-i, implies-e, not-i, not-false-i, not-true→false, if-true, if-false}
+use Rattle.bounded.proofs.Fold.{every-i, every-e, count-widen}
+use Rattle.words.specs.Word.{width, has}
 use Rattle.network.specs.Network.{Network, free, partner, functional}
-use Rattle.network.specs.Step.{outside, refusal}
-use Rattle.network.proofs.Step.{refusal-10, refusal-11, badNumber}
-use Rattle.rows.specs.Rows.{partnersAt, partnersWithin}
-use Rattle.rows.proofs.Laws.{allows-row}
-use Rattle.words.specs.Word.{has}
-use Rattle.step_choice.specs.Judging.{sizeless, pairRefusal}
+use Rattle.network.specs.Sound.{Sound}
+use Rattle.network.specs.Step.{outside, refusal, legal}
+use Rattle.network.proofs.Sound.{stated-distinct}
+use Rattle.network.proofs.Step.{refusal-10, refusal-11, badNumber, legal-e}
+use Rattle.pairs.specs.Pairs.{partnersAt, partnersWithin}
+use Rattle.head.specs.declared.Head.{Head}
+use Rattle.head.specs.Held.{HeadShaped, held, soundIn}
+use Rattle.head.proofs.Held.{held-sound, held-size}
+use Rattle.step_choice.specs.Judging.{pairNumber, pairRefusal}
 
 -- "option number 0 or above n"
 module _ (N : Network) (x : ℕ) where
@@ -63,47 +67,104 @@ module _ (N : Network) (l f : ℕ) (named : Named (N .n) l f) where
   same-variable e = refusal-11 N l f .1 (numbers-good, or-l _ _ (eq-eqb l f e))
 
   -- Past these tests the pair decides.
-  pub pair-decides : (l ≡ f → ⊥) → pairRefusal N (l - 1) (f - 1) ≡ refusal N l f
-  unfolding pairRefusal refusal or if
-  pair-decides d = rw (sub-one l, sub-one f, numbers-good, ne-eqb l f d)
+  pair-decides : (l ≡ f → ⊥) → pairRefusal N (pred l) (pred f) ≡ refusal N l f
+  unfolding pairRefusal pairNumber refusal or if
+  pair-decides d = rw (numbers-good, ne-eqb l f d)
 
 -- The same for a pair.
-module _ (N : Network) (i j : ℕ) where
-  pub leader-led : free N i ≡ false → pairRefusal N i j ≡ 11
-  unfolding pairRefusal
+module _ (leads follows stated single : Bool) where
+  pub leader-led : leads ≡ false → pairNumber leads follows stated single ≡ 11
+  unfolding pairNumber
   leader-led t = if-true _ _ _ (or-l _ _ (not-i _ t))
 
-  pub follower-led : free N j ≡ false → pairRefusal N i j ≡ 11
-  unfolding pairRefusal
+  pub follower-led : follows ≡ false → pairNumber leads follows stated single ≡ 11
+  unfolding pairNumber
   follower-led t = if-true _ _ _ (or-r _ _ (not-i _ t))
 
-  module _ (i-free : free N i ≡ true) (j-free : free N j ≡ true) where
-    both-free : or (not (free N i)) (not (free N j)) ≡ false
+  module _ (i-free : leads ≡ true) (j-free : follows ≡ true) where
+    both-free : or (not leads) (not follows) ≡ false
     both-free = or-false-i _ _ (not-false-i _ i-free) (not-false-i _ j-free)
 
-    pub not-stated : N .stated i j ≡ false → pairRefusal N i j ≡ 12
-    unfolding pairRefusal
+    pub not-stated : stated ≡ false → pairNumber leads follows stated single ≡ 12
+    unfolding pairNumber
     not-stated t = if-false _ _ _ both-free ∙ if-true _ _ _ (not-i _ t)
 
-    module _ (s : N .stated i j ≡ true) where
-      pub not-functional : functional N i j ≡ false → pairRefusal N i j ≡ 13
-      unfolding pairRefusal
+    module _ (s : stated ≡ true) where
+      pub not-functional : single ≡ false → pairNumber leads follows stated single ≡ 13
+      unfolding pairNumber
       not-functional t = if-false _ _ _ both-free ∙ if-false _ _ _ (not-false-i _ s) ∙ if-true _ _ _ (not-i _ t)
 
-      pub step-legal : functional N i j ≡ true → pairRefusal N i j ≡ 0
-      unfolding pairRefusal
+      pub step-legal : single ≡ true → pairNumber leads follows stated single ≡ 0
+      unfolding pairNumber
       step-legal t = if-false _ _ _ both-free ∙ if-false _ _ _ (not-false-i _ s) ∙ if-false _ _ _ (not-false-i _ t)
 
--- The ones of row AND list decide.
-module _ (n : ℕ) (domains leaders stated rows : List ℕ) (i j : ℕ) (j-in : j < 16) where
-  partners-counted : (a : ℕ) → a < 16
-      → count 16 (partner (sizeless n domains leaders stated rows) i j a) ≡ partnersAt 16 rows i j (getD domains j 0) a
-  unfolding sizeless partner partnersAt
-  partners-counted a l = count-cong 16 _ _ (λ b m. ap (and (has (getD domains j 0) b)) (allows-row 16 rows i j a b j-in l))
+-- What the words of the variables i and j say of a step: the number that refuses it, and whether it is legal.
+abbrev pub numberAt : List ℕ → List ℕ → List ℕ → List ℕ → ℕ → ℕ → ℕ
+numberAt leaders domains stated rows i j =
+    pairNumber (eqb (getD leaders i 0) 0) (eqb (getD leaders j 0) 0) (has (getD stated i 0) j)
+    (partnersWithin width rows i j (getD domains i 0) (getD domains j 0) 0 1)
 
-  pub functional-counted : functional (sizeless n domains leaders stated rows) i j
-      ≡ partnersWithin 16 rows i j (getD domains i 0) (getD domains j 0) 0 1
-  unfolding functional partnersWithin sizeless
-  functional-counted =
-      every-cong 16 _ _ (λ a l. ap (implies (has (getD domains i 0) a))
-      (ap (λ (k : ℕ). leb k 1) (partners-counted a l) ∙ sym (rw (le-leb 0 (partnersAt 16 rows i j (getD domains j 0) a) (omega arith)) (true-and _))))
+abbrev pub legalAt : List ℕ → List ℕ → List ℕ → List ℕ → ℕ → ℕ → Bool
+legalAt leaders domains stated rows i j = eqb (numberAt leaders domains stated rows i j) 0
+
+pub not-zero : (k n : ℕ) → k ≡ n → 1 ≤ n → eqb k 0 ≡ false
+not-zero k n e l = ne-eqb k 0 (omega arith)
+
+-- Two variables of a sound network are judged by their pair alone: no variable is stated with itself.
+module _ (N : Network) (S : Sound N) where
+  own-pair : (i : ℕ) → eqb (pairRefusal N i i) 0 ≡ false
+  unfolding pairRefusal
+  own-pair i =
+      by-cases (free N i)
+      (λ f. not-zero _ 12 (not-stated _ _ _ _ f f (S .no-self i)) (omega arith))
+      (λ f. not-zero _ 11 (leader-led _ _ _ _ f) (omega arith))
+
+  legal-pair : (i j : ℕ) → i < N .n → j < N .n → legal N i j ≡ eqb (pairRefusal N i j) 0
+  unfolding legal
+  legal-pair i j l m =
+      by-cases (eqb i j)
+      (λ t. rw (eqb-true i j t) (not-true→false _ (λ u. legal-e N j j u .distinct refl) ∙ sym (own-pair j)))
+      (λ t. let d : i ≡ j → ⊥ = eqb-false i j t in
+      ap (λ (r : ℕ). eqb r 0)
+      (sym (pair-decides N (suc i) (suc j) (record { l-some = omega arith; l-in = omega arith; f-some = omega arith; f-in = omega arith }) (λ e. d (ap pred e)))))
+
+-- The ones of row AND domain decide: in a sound network each domain lies within its size, so that counting all the values of a word counts no other.
+module _ (h : Head) (rows : List ℕ) (S : HeadShaped h) (t : soundIn h rows ≡ true) where
+  size-fits : (i : ℕ) → getD (h .sizes) i 0 ≤ width
+  size-fits i = omega (arith, held-size h rows S t i)
+
+  partners-counted : (i j a : ℕ) → partnersAt width rows i j (getD (h .domains) j 0) a ≡ count (held h rows .size j) (partner (held h rows) i j a)
+  unfolding held partner partnersAt
+  partners-counted i j a =
+      count-widen _ width _ (size-fits j) (λ b l. not-true→false _ (λ u.
+      let m = held-sound h rows S t .domain-in j b (and-l _ _ u) in let z : ⊥ = omega arith in z))
+
+  functional-counted : (i j : ℕ) → partnersWithin width rows i j (getD (h .domains) i 0) (getD (h .domains) j 0) 0 1 ≡ functional (held h rows) i j
+  unfolding functional partnersWithin held
+  functional-counted i j =
+      let one : (a : ℕ) → and (leb 0 (partnersAt width rows i j (getD (h .domains) j 0) a)) (leb (partnersAt width rows i j (getD (h .domains) j 0) a) 1)
+      ≡ leb (count (getD (h .sizes) j 0) (partner (held h rows) i j a)) 1 =
+      λ a. rw (le-leb 0 (partnersAt width rows i j (getD (h .domains) j 0) a) (omega arith)) (true-and _ ∙ ap (λ (k : ℕ). leb k 1) (partners-counted i j a)) in
+      bool-ext _ _
+      (λ e. every-i _ _ (λ a l. implies-i _ _ (λ d. sym (one a) ∙ implies-e _ _ (every-e width _ e a (omega (arith, size-fits i))) d)))
+      (λ e. every-i width _ (λ a l. implies-i _ _ (λ d. one a ∙ implies-e _ _ (every-e _ _ e a (held-sound h rows S t .domain-in i a d)) d)))
+
+  -- So the words of a pair say what refuses it,
+  number-counted : (i j : ℕ) → numberAt (h .leaders) (h .domains) (h .stated) rows i j ≡ pairRefusal (held h rows) i j
+  unfolding pairRefusal free held
+  number-counted i j =
+      ap (pairNumber (eqb (getD (h .leaders) i 0) 0) (eqb (getD (h .leaders) j 0) 0) (has (getD (h .stated) i 0) j)) (functional-counted i j)
+
+  pub refusal-counted : (l f : ℕ) → Named (h .n) l f → (l ≡ f → ⊥)
+      → numberAt (h .leaders) (h .domains) (h .stated) rows (l - 1) (f - 1) ≡ refusal (held h rows) l f
+  unfolding held
+  refusal-counted l f named d = rw (sub-one l, sub-one f) (number-counted (pred l) (pred f) ∙ pair-decides (held h rows) l f named d)
+
+  pub legal-counted : (i j : ℕ) → i < h .n → j < h .n → legal (held h rows) i j ≡ legalAt (h .leaders) (h .domains) (h .stated) rows i j
+  unfolding held
+  legal-counted i j l m = legal-pair (held h rows) (held-sound h rows S t) i j l m ∙ ap (λ (r : ℕ). eqb r 0) (sym (number-counted i j))
+
+  -- and a pair that is stated is of two variables.
+  pub stated-apart : (i j : ℕ) → has (getD (h .stated) i 0) j ≡ true → i ≡ j → ⊥
+  unfolding held
+  stated-apart i j = stated-distinct (held h rows) (held-sound h rows S t) i j

@@ -1,2 +1,2 @@
--- Which step is legal and which comes next, on lent arrays.
+-- Which step is legal and which comes next.
 pub mod Judging

@@ -1,121 +1,67 @@
-// Rules 1 and 2 of a follow step, on the flat array of rows.
-use blocks::Block;
-use blocks::all_rows;
-use blocks::common;
-use blocks::row_of;
-use blocks::transposed;
+// Rules 1 and 2 of a follow step, on the array of rows.
+use pairs::Rows;
+use words::WIDTH;
+use words::both;
 ghost use mathlib.Core.Path.{_≡_};
-ghost use Prim.Native.Nat.{ℕ, _<_};
+ghost use Prim.Native.Nat.{_<_};
 ghost use lib.ListN.{length};
-ghost use Rattle.blocks.specs.Blocks.{rowOf};
-ghost use Rattle.rows.specs.Rows.{supportedAt};
-ghost use Rattle.rows.specs.Frames.{Cleared};
-ghost use Rattle.step_compose.specs.Compose.{reach, composedAt, Composing, Composed};
-
-// Unstates one side of a pair: all rows of `i` against `j` become 0.
-pub fn clear(rows: &mut [u16; 4096], i: usize, j: usize)
-    requires { ⌜ (i < 16) × (j < 16) × (length (now rows) ≡ 4096) ⌝ }
-    ensures { λ _. ⌜ Cleared 16 (now (rows .entry)) (now (rows .exit)) i j ⌝ }
-{
-    for a in 0..16 {
-        rows::put(rows, i, j, a, 0);
-    }
-}
+ghost use Rattle.words.specs.Word.{width, word};
+ghost use Rattle.pairs.specs.Pairs.{variables};
+ghost use Rattle.step_compose.specs.Compose.{supportedAt, composedAt, Composed};
 
 // Rule 1: the values of `di` that have a partner in `dj`.
-pub fn supported(rows: &[u16; 4096], i: usize, j: usize, di: u16, dj: u16) -> u16
-    requires { ⌜ (i < 16) × (j < 16) ⌝ }
-    ensures { λ r. ⌜ r ≡ supportedAt 16 (now (rows .entry)) i j di dj ⌝ }
+pub fn supported(rows: &Rows, i: usize, j: usize, di: u32, dj: u32) -> u32
+    requires { ⌜ (i < variables) × (j < variables) × (i ≡ j → ⊥) ⌝ }
+    ensures { λ r. ⌜ r ≡ supportedAt width (now (rows .entry)) i j di dj ⌝ }
 {
-    let mut members: u16 = 0;
-    for a in 0..16 {
-        let partners = words::both(dj, rows::row(rows, i, j, a));
-        members |= ((partners != 0) as u16) << a;
-    }
-    words::both(di, members)
+    both(di, pairs::partners(rows, j, i, dj))
 }
 
-// The values of `i` that some value of `dj` joins to each value of `k`: the rows of `j` against `i`, each joined to the values of `k` that go with it.
-fn reaches(rows: &[u16; 4096], i: usize, j: usize, k: usize, dj: u16) -> Block
-    requires { ⌜ (i < 16) × (j < 16) × (k < 16) ⌝ }
-    ensures { λ r. ⌜ ((c : ℕ) → c < 16 → rowOf r c ≡ reach 16 (now (rows .entry)) i j k dj c) ⌝ }
-{
-    let mut others = rows::block_at(rows, k, j);
-    let mut reached = Block {
-        a: 0,
-        b: 0,
-        c: 0,
-        d: 0,
-    };
-    let mut rest = dj;
-    let mut b: usize = 0;
-    while rest != 0 {
-        if words::member(rest, 0) {
-            reached = blocks::joined(others, rows::row(rows, j, i, b), reached);
-        }
-        others = blocks::halved(others);
-        rest = rest >> 1;
-        b += 1;
-    }
-    reached
-}
-
-// Rule 2 for all values of `k`, seen from `k`: row `c` is for value `c`. A value outside `dk` gets none, and a pair that was stated bars what it barred.
-fn made(
-    rows: &[u16; 4096],
-    i: usize,
+// Rule 2 for value `x` of `l`: the values of `h` that go with it. A value outside `dl` has none, and a pair that was stated bars what it barred.
+fn composed_row(
+    rows: &Rows,
+    l: usize,
     j: usize,
-    k: usize,
-    ti: u16,
-    dj: u16,
-    dk: u16,
+    h: usize,
+    dl: u32,
+    dj: u32,
+    dh: u32,
     was: bool,
-) -> Block
-    requires { ⌜ (i < 16) × (j < 16) × (k < 16) ⌝ }
-    ensures { λ r. ⌜ ((c : ℕ) → c < 16 → rowOf r c ≡ composedAt 16 (now (rows .entry)) i j k ti dj dk was c) ⌝ }
+    x: usize,
+) -> u32
+    requires { ⌜ (l < variables) × (j < variables) × (h < variables) × (l ≡ j → ⊥) × (j ≡ h → ⊥) × (l ≡ h → ⊥) × (x < width) ⌝ }
+    ensures { λ r. ⌜ r ≡ word width (composedAt width (now (rows .entry)) l j h dl dj dh was x) ⌝ }
 {
-    let kept = common(reaches(rows, i, j, k, dj), all_rows(ti));
-    let listed = common(kept, transposed(all_rows(dk)));
+    if !words::member(dl, x) {
+        return 0;
+    }
+    let joining = both(dj, pairs::row(rows, l, j, x));
+    let joined = both(dh, pairs::partners(rows, j, h, joining));
     if !was {
-        return listed;
+        return joined;
     }
-    common(listed, rows::block_at(rows, k, i))
+    both(joined, pairs::row(rows, l, h, x))
 }
 
-// Rule 2 for the third variable `k`, value by value, the lowest first, seen from `k`.
-fn compose_values(
-    rows: &mut [u16; 4096],
-    i: usize,
-    j: usize,
-    k: usize,
-    ti: u16,
-    dj: u16,
-    dk: u16,
-    was: bool,
-)
-    requires { ⌜ (i < 16) × (j < 16) × (k < 16) × (i ≡ j → ⊥) × (j ≡ k → ⊥) × (length (now rows) ≡ 4096) ⌝ }
-    ensures { λ _. ⌜ Composing 16 (now (rows .entry)) (now (rows .exit)) i j k ti dj dk was 16 ⌝ }
+// Rule 2 in the orientation in which the pair is stored: `l` is lower than `h`, and each value of `l` has a row.
+fn compose_rows(rows: &mut Rows, l: usize, j: usize, h: usize, dl: u32, dj: u32, dh: u32, was: bool)
+    requires { ⌜ (l < h) × (h < variables) × (j < variables) × (l ≡ j → ⊥) × (j ≡ h → ⊥) × (length (now rows) ≡ 3840) ⌝ }
+    ensures { λ _. ⌜ Composed width (now (rows .entry)) (now (rows .exit)) l j h dl dj dh was ⌝ }
 {
-    let members = made(rows, i, j, k, ti, dj, dk, was);
-    for c in 0..16 {
-        rows::put(rows, k, i, c, row_of(members, c));
+    for x in 0..WIDTH {
+        let members = composed_row(rows, l, j, h, dl, dj, dh, was, x);
+        pairs::put_row(rows, l, h, x, members);
     }
 }
 
-// Rule 2 for the third variable `k`, from both sides.
-pub fn compose(
-    rows: &mut [u16; 4096],
-    i: usize,
-    j: usize,
-    k: usize,
-    ti: u16,
-    dj: u16,
-    dk: u16,
-    was: bool,
-)
-    requires { ⌜ (i < 16) × (j < 16) × (k < 16) × (i ≡ j → ⊥) × (j ≡ k → ⊥) × (k ≡ i → ⊥) × (length (now rows) ≡ 4096) ⌝ }
-    ensures { λ _. ⌜ Composed 16 (now (rows .entry)) (now (rows .exit)) i j k ti dj dk was ⌝ }
+// Rule 2 for the third variable `k`. It says the same of the pair from both of its sides, so that the lower one is taken.
+pub fn compose(rows: &mut Rows, i: usize, j: usize, k: usize, ti: u32, dj: u32, dk: u32, was: bool)
+    requires { ⌜ (i < variables) × (j < variables) × (k < variables) × (i ≡ j → ⊥) × (j ≡ k → ⊥) × (k ≡ i → ⊥) × (length (now rows) ≡ 3840) ⌝ }
+    ensures { λ _. ⌜ Composed width (now (rows .entry)) (now (rows .exit)) i j k ti dj dk was ⌝ }
 {
-    compose_values(rows, i, j, k, ti, dj, dk, was);
-    rows::mirror(rows, k, i);
+    if i < k {
+        compose_rows(rows, i, j, k, ti, dj, dk, was);
+        return;
+    }
+    compose_rows(rows, k, j, i, dk, dj, ti, was);
 }

@@ -1,3 +1,4 @@
+pub mod Thirds
 pub mod StepArrays
 pub mod StepRows
 pub mod Stepped

@@ -1,25 +1,170 @@
--- What the parts of a step make together.
+-- The head and rows that the rules leave of a sound state are those of the network after the step.
+use mathlib.Core.Bool.{Bool, true, false}
 use mathlib.Core.List.{List}
-use mathlib.Core.Path.{_≡_, ap, _∙_}
-use Prim.Native.Nat.{ℕ}
-use lib.ListN.{getD, set}
+use mathlib.Core.Path.{_≡_, refl, sym, ap, ap₂, fun-ext, subst, _∙_}
+use Prim.Native.Nat.{ℕ, _^_, _<_}
+use native.Mathlib.Omega.{arith}
+use lib.ListN.{getD, set, length-set}
+use lib.Seq.{getD-set-same, getD-set-other}
+use Rattle.bounded.specs.Bool.{and, implies}
 use Rattle.bounded.specs.Table.{tabulate}
-use Rattle.words.specs.Word.{has, word}
-use Rattle.rows.specs.Rows.{supportedAt}
-use Rattle.step_rules.specs.StepParts.{leaderAfter, thirdOf, statedAfter, madeRow, MovedRows}
-use Rattle.step_rules.specs.Stepped.{trimmedWord, thirdsWord, Stepped}
+use Rattle.bounded.proofs.Bool.{bool-ext, not-true→false, and-i, and-l, and-r}
+use Rattle.bounded.proofs.Fold.{is-or-not, some-i, some-e}
+use Rattle.bounded.proofs.Table.{is-table}
+use Rattle.words.specs.Word.{width, has, word}
+use Rattle.words.proofs.Laws.{has-word, has-all, has-below, is-word, within, word-lt}
+use Rattle.network.specs.Sound.{Sound, Bounded}
+use Rattle.network.specs.Step.{legal, trimmed, third, composed, eliminate}
+use Rattle.network.proofs.Pairs.{pair-case-sym}
+use Rattle.network.proofs.Reduction.{step-keeps}
+use Rattle.network.proofs.Step.{Legal, legal-e, third-e, i-not-third, j-not-third, domain-i, domain-other, eliminate-moves, moved-allows-sym}
+use Rattle.network.proofs.Step.{trimmed-domain, trimmed-e, trimmed-i, joined-e, joined-i}
+use Rattle.pairs.specs.Pairs.{variables, allowsOf}
+use Rattle.pairs.proofs.Laws.{allows-alike, rows-rule}
+use Rattle.head.specs.declared.Head.{Head}
+use Rattle.head.specs.Held.{RowsShaped, held, headOf, soundIn}
+use Rattle.head.proofs.Held.{HeadShaped, held-bounded, held-sound, held-n, kept-packed}
+use Rattle.step_compose.specs.Compose.{supportedAt, composedAt}
+use Rattle.step_rules.specs.StepParts.{leaderAfter, thirdOf, statedAfter, madeAt, MovedRows}
+use Rattle.step_rules.specs.Stepped.{Stepped}
 
-module _ {domains leaders stated rows : List ℕ} {i j ti thirds : ℕ} {leaders′ stated′ after : List ℕ} where
-  pub stepped : ti ≡ supportedAt 16 rows i j (getD domains i 0) (getD domains j 0) → thirds ≡ word 16 (thirdOf i j (has (getD stated j 0)))
-      → MovedRows rows after i j (has thirds) (madeRow rows domains (getD stated i 0) i j ti)
-      → leaders′ ≡ tabulate 16 (λ (x : ℕ). leaderAfter i j x (getD leaders x 0))
-      → stated′ ≡ tabulate 16 (λ (x : ℕ). word 16 (statedAfter i j (has thirds) x (has (getD stated x 0))))
-      → Stepped domains leaders stated rows i j (record { domains = set domains i ti; leaders = leaders′; stated = stated′ }) after
-  unfolding trimmedWord thirdsWord
-  stepped e f m l s =
-      record {
-        rule-1 = ap (set domains i) e;
-        rule-2 = s ∙ ap (λ (t : ℕ). tabulate 16 (λ (x : ℕ). word 16 (statedAfter i j (has t) x (has (getD stated x 0))))) f;
-        rule-2-rows = rw (← e, ← f) m;
-        rule-3 = l;
-      }
+module _ {h : Head} (rows : List ℕ) (S : HeadShaped h) (t : soundIn h rows ≡ true) (i j : ℕ) (l : legal (held h rows) i j ≡ true) where
+  sound : Sound (held h rows)
+  sound = held-sound h rows S t
+
+  bounded : Bounded variables width (held h rows)
+  bounded = held-bounded h rows S
+
+  may : Legal (held h rows) i j
+  may = legal-e (held h rows) i j l
+
+  below : (x : ℕ) → x < held h rows .n → x < variables
+  unfolding held
+  below x b = omega (arith, held-n h rows t)
+
+  -- The two variables.
+  pub step-asks : (i < variables) × (j < variables) × (i ≡ j → ⊥)
+  step-asks = (below i (may .i-in), below j (may .j-in), may .distinct)
+
+  -- Rule 1.
+  module _ {ti : ℕ} (is-ti : ti ≡ supportedAt width rows i j (getD (h .domains) i 0) (getD (h .domains) j 0)) where
+    has-trimmed : (a : ℕ) → a < width → has ti a ≡ trimmed (held h rows) i j a
+    unfolding supportedAt held
+    has-trimmed a la =
+        ap (λ (n : ℕ). has n a) is-ti ∙ has-word width _ a la
+        ∙ bool-ext _ _
+        (λ p. some-e width _ (and-r _ _ p) (λ b lb q. trimmed-i (held h rows) i j sound a b (and-l _ _ p) (and-l _ _ q) (and-r _ _ q)))
+        (λ p. trimmed-e (held h rows) i j a p (λ b db ab. and-i _ _ (trimmed-domain (held h rows) i j a p)
+        (some-i width _ b (bounded .domain-bound j b db .1) (and-i _ _ db ab))))
+
+    trimmed-lt : ti < 2 ^ width
+    unfolding supportedAt
+    trimmed-lt = rw is-ti (word-lt width _)
+
+    domains-after : set (h .domains) i ti ≡ headOf (eliminate (held h rows) i j) .domains
+    unfolding headOf
+    domains-after =
+        is-table variables _ (set (h .domains) i ti) 0 (length-set (h .domains) i ti ∙ S .domains-array .array-length)
+        (λ x _. is-or-not i (λ (y : ℕ). getD (set (h .domains) i ti) y 0 ≡ word width (eliminate (held h rows) i j .domain y))
+        (getD-set-same (h .domains) i ti 0 (omega (arith, S .domains-array .array-length, step-asks .0))
+        ∙ is-word width ti _ trimmed-lt (λ a la. has-trimmed a la ∙ sym (domain-i (held h rows) i j a)))
+        (λ y d. getD-set-other (h .domains) i y ti 0 d ∙ kept y d)
+        x)
+      where
+        kept : (y : ℕ) → (y ≡ i → ⊥) → getD (h .domains) y 0 ≡ word width (eliminate (held h rows) i j .domain y)
+        kept y d = is-word width _ _ (S .domains-array .element-lt y) (λ a la. unfold held in sym (domain-other (held h rows) i j y a d))
+
+    -- Rule 2 on rows, for a third variable.
+    made-composed : (k a c : ℕ) → a < width → c < width
+        → madeAt width rows (h .domains) (getD (h .stated) i 0) i j ti k a c
+        ≡ composed (held h rows) i j k a c (implies (held h rows .stated i k) (held h rows .allows i k a c))
+    unfolding madeAt composedAt composed held
+    made-composed k a c la lc =
+        ap₂ and (ap (λ (b : Bool). and b (held h rows .domain k c)) (has-trimmed a la))
+        (ap (λ (b : Bool). and b (implies (held h rows .stated i k) (held h rows .allows i k a c)))
+        (bool-ext _ _
+        (λ p. some-e width _ p (λ b lb q. joined-i (held h rows) i j sound k a b c (and-l _ _ q) (and-l _ _ (and-r _ _ q)) (and-r _ _ (and-r _ _ q))))
+        (λ p. joined-e (held h rows) i j k a c p (λ b db ab bc.
+        some-i width _ b (bounded .domain-bound j b db .1) (and-i _ _ db (and-i _ _ ab bc))))))
+
+  -- The third variables.
+  module _ {thirds : ℕ} (are : thirds ≡ word width (thirdOf i j (has (getD (h .stated) j 0)))) where
+    thirds-are : has thirds ≡ third (held h rows) i j
+    unfolding third thirdOf held
+    thirds-are = fun-ext λ k.
+        ap (λ (n : ℕ). has n k) are
+        ∙ has-all width _ k (λ past. not-true→false _ (λ u. let b : ⊥ = omega (arith, has-below width _ k (and-l _ _ u) (S .stated-array .element-lt j)) in b))
+
+    third-is : (k : ℕ) → has thirds k ≡ third (held h rows) i j k
+    third-is k = ap (λ (T : ℕ → Bool). T k) thirds-are
+
+    -- Neither i nor j is one of them, and each is a variable.
+    pub thirds-apart : (has thirds i ≡ false) × (has thirds j ≡ false) × (thirds < 2 ^ variables)
+    thirds-apart = (
+      third-is i ∙ i-not-third (held h rows) i j,
+      third-is j ∙ j-not-third (held h rows) i j,
+      within width thirds variables (rw are (word-lt width _)) (λ v k _. not-true→false _ (λ u.
+          let s = third-e (held h rows) i j v (sym (third-is v) ∙ u) in
+          let b : ⊥ = omega (arith, below v (sound .stated-in j v (s .0) .1)) in b)),
+    )
+
+    -- Rule 2 on stated pairs.
+    stated-is : tabulate variables (λ (x : ℕ). word width (statedAfter i j (has thirds) x (has (getD (h .stated) x 0)))) ≡ headOf (eliminate (held h rows) i j) .stated
+    unfolding headOf eliminate statedAfter held
+    stated-is = ap (λ (T : ℕ → Bool). tabulate variables (λ (x : ℕ). word width (statedAfter i j T x (has (getD (h .stated) x 0))))) thirds-are
+
+    -- All three rules.
+    module _ {ti : ℕ} (is-ti : ti ≡ supportedAt width rows i j (getD (h .domains) i 0) (getD (h .domains) j 0))
+        {after led linked : List ℕ} (R : RowsShaped rows)
+        (m : MovedRows width rows after i j (has thirds) (madeAt width rows (h .domains) (getD (h .stated) i 0) i j ti))
+        (leads : led ≡ tabulate variables (λ (x : ℕ). leaderAfter i j x (getD (h .leaders) x 0)))
+        (links : linked ≡ tabulate variables (λ (x : ℕ). word width (statedAfter i j (has thirds) x (has (getD (h .stated) x 0))))) where
+      moved : MovedRows width rows after i j (third (held h rows) i j) (madeAt width rows (h .domains) (getD (h .stated) i 0) i j ti)
+      moved = subst (λ (T : ℕ → Bool). MovedRows width rows after i j T (madeAt width rows (h .domains) (getD (h .stated) i 0) i j ti)) thirds-are m
+
+      allowed : (x y a b : ℕ) → a < width → b < width → allowsOf width after x y a b ≡ eliminate (held h rows) i j .allows x y a b
+      allowed =
+          let pairs = eliminate-moves (held h rows) i j (may .distinct) in
+          pair-case-sym i j (third (held h rows) i j)
+          (λ (x y : ℕ). (a b : ℕ) → a < width → b < width → allowsOf width after x y a b ≡ eliminate (held h rows) i j .allows x y a b)
+          (λ x y e a b la lb. allows-alike width after y x a b ∙ e b a lb la
+          ∙ moved-allows-sym (held h rows) sound i j _ (eliminate (held h rows) i j) pairs x y b a)
+          (λ k u a b la lb. moved .made-ik k a b u la lb ∙ made-composed is-ti k a b la lb ∙ sym (pairs .allows-moved a b .at-ik k u))
+          (λ k u a b la lb. moved .gone-jk k a b u la lb ∙ sym (pairs .allows-moved a b .at-jk k u))
+          (λ x y r a b la lb. moved .kept x y a b r ∙ unfold held in sym (pairs .allows-moved a b .elsewhere x y r))
+
+      head-after : record { n = h .n; sizes = h .sizes; domains = set (h .domains) i ti; leaders = led; stated = linked } ≡ headOf (eliminate (held h rows) i j)
+      unfolding headOf eliminate held leaderAfter
+      head-after = λ z.
+          record {
+            n = h .n;
+            sizes = is-table variables _ (h .sizes) 0 (S .sizes-array .array-length) (λ x lx. refl) z;
+            domains = domains-after is-ti z;
+            leaders = leads z;
+            stated = (links ∙ stated-is) z;
+          }
+
+      pub stepped : Stepped h rows i j (record { n = h .n; sizes = h .sizes; domains = set (h .domains) i ti; leaders = led; stated = linked }) after
+      stepped =
+          record {
+            head-is = head-after;
+            rows-are = rows-rule width _ after (m .same-length ∙ R .array-length) (m .words (R .element-lt)) (λ x y a b _ _ la lb. allowed x y a b la lb);
+          }
+
+-- What a step leaves is sound again, has the shape that it asks for, and holds the network after the step.
+pub record Again (h : Head) (rows : List ℕ) (i j : ℕ) (r : Head) (after : List ℕ) : Type 0 where
+  pub again-held : held r after ≡ eliminate (held h rows) i j
+  pub again-sound : soundIn r after ≡ true
+  pub again-head : HeadShaped r
+  pub again-rows : RowsShaped after
+
+pub stepped-again : {h : Head} {rows : List ℕ} → HeadShaped h → soundIn h rows ≡ true → {i j : ℕ} → legal (held h rows) i j ≡ true
+    → {r : Head} {after : List ℕ} → Stepped h rows i j r after → Again h rows i j r after
+stepped-again {h} {rows} S t {i} {j} l s =
+    let p = kept-packed h rows S t (eliminate (held h rows) i j) _ (step-keeps (held h rows) (held-sound h rows S t) i j l) in
+    record {
+      again-held = ap₂ held (s .head-is) (s .rows-are) ∙ p .packed-held;
+      again-sound = ap₂ soundIn (s .head-is) (s .rows-are) ∙ p .packed-sound;
+      again-head = subst HeadShaped (sym (s .head-is)) (p .packed-head);
+      again-rows = subst RowsShaped (sym (s .rows-are)) (p .packed-rows);
+    }

@@ -1,3 +1,3 @@
--- What the rules of a step make of the arrays of a state.
+-- What the rules of a step make of a head and rows.
 pub mod StepParts
 pub mod Stepped

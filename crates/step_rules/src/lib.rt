@@ -1,5 +1,40 @@
-// The rules of a step on the arrays of a state.
-mod arrays;
+// The rules of a follow step on a head and rows: `j` comes to follow `i`, both counted from 0.
+mod head_after;
+mod rows_after;
 
-pub use arrays::Arrays;
-pub use arrays::step;
+use head::Head;
+use head::Rows;
+use head_after::leaders_after;
+use head_after::stated_after;
+use head_after::thirds_of;
+use rows_after::move_thirds;
+ghost use mathlib.Core.Bool.{true};
+ghost use mathlib.Core.Path.{_≡_};
+ghost use Rattle.network.specs.Step.{legal};
+ghost use Rattle.head.specs.Held.{RowsShaped, held, soundIn};
+ghost use Rattle.step_rules.specs.Stepped.{Stepped};
+
+// Rules 1, 2 and 3, in order. The rows are worked on where they are; the head is built anew.
+pub fn step(head: Head, rows: &mut Rows, i: usize, j: usize) -> Head
+    requires { ⌜ (soundIn head (now rows) ≡ true) × RowsShaped (now rows) × (legal (held head (now rows)) i j ≡ true) ⌝ }
+    ensures { λ r. ⌜ Stepped head (now (rows .entry)) i j r (now (rows .exit)) ⌝ }
+{
+    let sizes = head.sizes;
+    let domains = head.domains;
+    let leaders = head.leaders;
+    let stated = head.stated;
+    let ti = step_compose::supported(rows, i, j, domains[i], domains[j]);
+    let thirds = thirds_of(stated[j], i, j);
+    move_thirds(rows, domains, stated[i], thirds, i, j, ti);
+    let led = leaders_after(leaders, i, j);
+    let linked = stated_after(stated, thirds, i, j);
+    let mut trimmed = domains;
+    trimmed[i] = ti;
+    Head {
+        n: head.n,
+        sizes: sizes,
+        domains: trimmed,
+        leaders: led,
+        stated: linked,
+    }
+}

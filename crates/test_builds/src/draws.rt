@@ -41,8 +41,8 @@ fn wide(x: u32) -> usize {
 }
 
 // A tuple with a live value that no list has, at the lowest of the live options.
-pub(crate) fn drawn_unlisted(bytes: &[u8], free: u16, seed: &mut u64) -> [u8; 16] {
-    let i = wide(u16::trailing_zeros(free));
+pub(crate) fn drawn_unlisted(bytes: &[u8], free: u32, seed: &mut u64) -> [u8; 16] {
+    let i = wide(u32::trailing_zeros(free));
     with_value(drawn(bytes, seed), i, 16 + random::byte(seed) % 240)
 }
 
@@ -54,7 +54,7 @@ fn chosen(is_first: bool, first: u8, second: u8) -> u8 {
 }
 
 // The tuple with any bytes at the followers and past n.
-pub(crate) fn with_garbage(free: u16, tuple: &[u8; 16], seed: &mut u64) -> [u8; 16] {
+pub(crate) fn with_garbage(free: u32, tuple: &[u8; 16], seed: &mut u64) -> [u8; 16] {
     let mut made = [0u8; 16];
     for i in 0..16 {
         made[i] = chosen(fields::has(free, i), tuple[i], random::byte(seed));

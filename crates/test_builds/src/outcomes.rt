@@ -25,14 +25,14 @@ fn letter(verdict: u8) -> u8 {
     }
 }
 
-fn is_listed(expected: &[u8], leader: u8, list: u16, at: usize) -> bool {
+fn is_listed(expected: &[u8], leader: u8, list: u32, at: usize) -> bool {
     if leader != 0 {
         return true;
     }
-    digit(expected, at) as u16 == list
+    digit(expected, at) as u32 == list
 }
 
-fn is_option(expected: &[u8], leader: u8, list: u16, value: u8, at: usize) -> bool {
+fn is_option(expected: &[u8], leader: u8, list: u32, value: u8, at: usize) -> bool {
     let is_led = digit(expected, at) == leader;
     let is_shown = digit(expected, brute::past(at, 2)) == value;
     is_led & is_shown & is_listed(expected, leader, list, brute::past(at, 1))
@@ -41,7 +41,7 @@ fn is_option(expected: &[u8], leader: u8, list: u16, value: u8, at: usize) -> bo
 fn are_options<'a>(
     expected: &[u8],
     leaders: &'a [u8; 16],
-    domains: &'a [u16; 16],
+    domains: &'a [u32; 16],
     solution: &[u8; 16],
 ) -> bool {
     for i in 0..16 {

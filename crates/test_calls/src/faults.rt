@@ -26,17 +26,58 @@ fn with_leader(state: State, i: usize, leader: u8) -> State {
     other
 }
 
-fn drawn_bit(seed: &mut u64) -> u16 {
-    1u16 << (random::byte(seed) % 16)
+fn drawn_bit(seed: &mut u64) -> u32 {
+    1u32 << (random::byte(seed) % 32)
 }
 
-// One bit of a row is another. The other side of the pair does not change with it.
-fn with_row_bit(state: State, seed: &mut u64) -> State {
+// A bit that no value has.
+fn high_bit(seed: &mut u64) -> u32 {
+    65536u32 << (random::byte(seed) % 16)
+}
+
+fn with_row(state: State, at: usize, bit: u32) -> State {
     let mut other = state;
-    let k = random::index(seed, 4096);
-    let bit = drawn_bit(seed);
-    if k < 4096 {
-        other.rows[k] = other.rows[k] ^ bit;
+    if at < 3840 {
+        other.rows[at] = other.rows[at] ^ bit;
+    }
+    other
+}
+
+// A row of any pair, stated or not, gets a value that no option has.
+fn with_row_bit(state: State, seed: &mut u64) -> State {
+    let at = random::index(seed, 3840);
+    with_row(state, at, high_bit(seed))
+}
+
+// A value that no option has gets a row.
+fn with_row_past(state: State, seed: &mut u64) -> State {
+    let pair = random::index(seed, 120);
+    let value = 16 + random::index(seed, 16) % 16;
+    with_row(
+        state,
+        std::num::wrapping_add_usize(pair % 120 * 32, value),
+        drawn_bit(seed),
+    )
+}
+
+// A pair that is not stated, or past n, allows its lowest values.
+fn with_unstated_row(state: State, i: usize, j: usize, seed: &mut u64) -> State {
+    if fields::has(fields::word_at(&state.stated, i), j) {
+        return with_row_past(state, seed);
+    }
+    if fields::place(i, j, 0) < 3840 {
+        return with_row(state, fields::place(i, j, 0), 1);
+    }
+    with_row_bit(state, seed)
+}
+
+// The list of an option gets a value that no option has.
+fn with_list_bit(state: State, seed: &mut u64) -> State {
+    let mut other = state;
+    let i = random::index(seed, 16);
+    let bit = high_bit(seed);
+    if i < 16 {
+        other.domains[i] = other.domains[i] ^ bit;
     }
     other
 }
@@ -62,8 +103,8 @@ fn with_stated_pair(state: State, i: usize, seed: &mut u64) -> State {
     if 15 < j {
         return with_stated_bit(state, seed);
     }
-    other.stated[i] = other.stated[i] | (1u16 << j);
-    other.stated[j] = other.stated[j] | (1u16 << i);
+    other.stated[i] = other.stated[i] | (1u32 << j);
+    other.stated[j] = other.stated[j] | (1u32 << i);
     other
 }
 
@@ -77,7 +118,7 @@ fn with_value_past_size(state: State, i: usize, seed: &mut u64) -> State {
     if 15 < size {
         return with_row_bit(state, seed);
     }
-    other.domains[i] = other.domains[i] | (1u16 << size);
+    other.domains[i] = other.domains[i] | (1u32 << size);
     other
 }
 
@@ -145,6 +186,9 @@ fn with_wrong_leader(kind: u64, state: State, places: Places, seed: &mut u64) ->
         10 => with_strange_leader(state, i, places.j, seed),
         11 => with_stated_bit(state, seed),
         12 => with_stated_pair(state, i, seed),
+        13 => with_row_past(state, seed),
+        14 => with_unstated_row(state, places.j, places.any, seed),
+        15 => with_list_bit(state, seed),
         _ => with_row_bit(state, seed),
     }
 }
@@ -152,7 +196,7 @@ fn with_wrong_leader(kind: u64, state: State, places: Places, seed: &mut u64) ->
 // A sound state with one fault, whatever is drawn.
 pub fn damaged(state: State, seed: &mut u64) -> State {
     let places = drawn_places(state.n, seed);
-    let kind = random::below(seed, 14);
+    let kind = random::below(seed, 17);
     if kind < 5 {
         return with_n(state, other_n(kind, state.n, seed));
     }

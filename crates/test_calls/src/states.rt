@@ -31,12 +31,12 @@ pub fn zero() -> State {
         domains: [0; 16],
         leaders: [0; 16],
         stated: [0; 16],
-        rows: [0; 4096],
+        rows: [0; 3840],
     }
 }
 
 // The live options, as bits.
-pub fn free(state: State) -> u16 {
+pub fn free(state: State) -> u32 {
     fields::free(state.n, &state.leaders)
 }
 
@@ -46,7 +46,7 @@ fn wide(x: u32) -> usize {
 
 // How many options are live.
 pub fn free_count(state: State) -> usize {
-    wide(u16::count_ones(free(state)))
+    wide(u32::count_ones(free(state)))
 }
 
 // What the completer is to refuse a choice with, 0 where it is allowed.

@@ -12,8 +12,8 @@ use test_oracle::fields;
 use test_oracle::judge;
 
 // A size and a list as a sheet just read has them; zero past n.
-fn is_fresh_at(bytes: &[u8], size: u8, list: u16, leader: u8, i: usize) -> bool {
-    let is_full = list == families::within(size);
+fn is_fresh_at(bytes: &[u8], size: u8, list: u32, leader: u8, i: usize) -> bool {
+    let is_full = list == families::within(size) as u32;
     (leader == 0) & (size as usize == brute::size(bytes, i)) & is_full
 }
 
@@ -21,7 +21,7 @@ fn is_fresh_at(bytes: &[u8], size: u8, list: u16, leader: u8, i: usize) -> bool 
 fn are_fresh<'a>(
     bytes: &[u8],
     sizes: &'a [u8; 16],
-    domains: &'a [u16; 16],
+    domains: &'a [u32; 16],
     leaders: &'a [u8; 16],
 ) -> bool {
     for i in 0..16 {

@@ -5,12 +5,12 @@ use crate::fields::has;
 use crate::fields::row_at;
 use crate::fields::word_at;
 
-fn is_listed(free: u16, domains: &[u16; 16], tuple: &[u8; 16], i: usize) -> bool {
+fn is_listed(free: u32, domains: &[u32; 16], tuple: &[u8; 16], i: usize) -> bool {
     !has(free, i) | has(word_at(domains, i), byte_at(tuple, i))
 }
 
 // Each live option's value is in its list.
-pub fn are_listed(free: u16, domains: &[u16; 16], tuple: &[u8; 16]) -> bool {
+pub fn are_listed(free: u32, domains: &[u32; 16], tuple: &[u8; 16]) -> bool {
     for i in 0..16 {
         if !is_listed(free, domains, tuple, i) {
             return false;
@@ -20,9 +20,9 @@ pub fn are_listed(free: u16, domains: &[u16; 16], tuple: &[u8; 16]) -> bool {
 }
 
 fn is_allowed<'a>(
-    free: u16,
-    stated: &'a [u16; 16],
-    rows: &'a [u16; 4096],
+    free: u32,
+    stated: &'a [u32; 16],
+    rows: &'a [u32; 3840],
     tuple: &[u8; 16],
     i: usize,
     j: usize,
@@ -38,9 +38,9 @@ fn is_allowed<'a>(
 
 // Each stated pair of two live options allows its two values.
 pub fn are_allowed<'a>(
-    free: u16,
-    stated: &'a [u16; 16],
-    rows: &'a [u16; 4096],
+    free: u32,
+    stated: &'a [u32; 16],
+    rows: &'a [u32; 3840],
     tuple: &[u8; 16],
 ) -> bool {
     for k in 0..256 {
@@ -51,12 +51,12 @@ pub fn are_allowed<'a>(
     true
 }
 
-fn is_choice_at(free: u16, tuple: &[u8; 16], i: usize) -> bool {
+fn is_choice_at(free: u32, tuple: &[u8; 16], i: usize) -> bool {
     has(free, i) | (byte_at(tuple, i) == 0)
 }
 
 // The values of followers are 0: of the tuples that agree at the live options, one.
-pub fn is_choice(free: u16, tuple: &[u8; 16]) -> bool {
+pub fn is_choice(free: u32, tuple: &[u8; 16]) -> bool {
     for i in 0..16 {
         if !is_choice_at(free, tuple, i) {
             return false;
@@ -65,13 +65,13 @@ pub fn is_choice(free: u16, tuple: &[u8; 16]) -> bool {
     true
 }
 
-fn is_kept(n: usize, free: u16, before: &[u8; 16], after: &[u8; 16], i: usize) -> bool {
+fn is_kept(n: usize, free: u32, before: &[u8; 16], after: &[u8; 16], i: usize) -> bool {
     let is_follower = (i < n) & !has(free, i);
     is_follower | (byte_at(before, i) == byte_at(after, i))
 }
 
 // The bytes of live options, and those past n, are as they were.
-pub fn are_kept(n: usize, free: u16, before: &[u8; 16], after: &[u8; 16]) -> bool {
+pub fn are_kept(n: usize, free: u32, before: &[u8; 16], after: &[u8; 16]) -> bool {
     for i in 0..16 {
         if !is_kept(n, free, before, after, i) {
             return false;
@@ -80,12 +80,12 @@ pub fn are_kept(n: usize, free: u16, before: &[u8; 16], after: &[u8; 16]) -> boo
     true
 }
 
-fn is_empty_at(free: u16, domains: &[u16; 16], i: usize) -> bool {
+fn is_empty_at(free: u32, domains: &[u32; 16], i: usize) -> bool {
     has(free, i) & (word_at(domains, i) == 0)
 }
 
 // Some live list is empty.
-pub fn has_empty_list(free: u16, domains: &[u16; 16]) -> bool {
+pub fn has_empty_list(free: u32, domains: &[u32; 16]) -> bool {
     for i in 0..16 {
         if is_empty_at(free, domains, i) {
             return true;
@@ -94,7 +94,7 @@ pub fn has_empty_list(free: u16, domains: &[u16; 16]) -> bool {
     false
 }
 
-fn is_lowest(free: u16, domains: &[u16; 16], tuple: &[u8; 16], i: usize) -> bool {
+fn is_lowest(free: u32, domains: &[u32; 16], tuple: &[u8; 16], i: usize) -> bool {
     if !has(free, i) {
         return true;
     }
@@ -107,7 +107,7 @@ fn is_lowest(free: u16, domains: &[u16; 16], tuple: &[u8; 16], i: usize) -> bool
 }
 
 // Each live option has the lowest value of its list.
-pub fn are_lowest(free: u16, domains: &[u16; 16], tuple: &[u8; 16]) -> bool {
+pub fn are_lowest(free: u32, domains: &[u32; 16], tuple: &[u8; 16]) -> bool {
     for i in 0..16 {
         if !is_lowest(free, domains, tuple, i) {
             return false;
@@ -116,12 +116,12 @@ pub fn are_lowest(free: u16, domains: &[u16; 16], tuple: &[u8; 16]) -> bool {
     true
 }
 
-fn is_apart(free: u16, stated: &[u16; 16], i: usize) -> bool {
+fn is_apart(free: u32, stated: &[u32; 16], i: usize) -> bool {
     !has(free, i) | (word_at(stated, i) & free == 0)
 }
 
 // No two live options are stated together.
-pub fn are_apart(free: u16, stated: &[u16; 16]) -> bool {
+pub fn are_apart(free: u32, stated: &[u32; 16]) -> bool {
     for i in 0..16 {
         if !is_apart(free, stated, i) {
             return false;

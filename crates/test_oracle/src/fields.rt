@@ -26,7 +26,7 @@ pub fn is_zero_from(bytes: &[u8], n: usize) -> bool {
 }
 
 // The two hold the same words.
-pub fn same_words(a: &[u16], b: &[u16]) -> bool {
+pub fn same_words(a: &[u32], b: &[u32]) -> bool {
     let length = a.len();
     if b.len() != length {
         return false;
@@ -39,20 +39,20 @@ pub fn same_words(a: &[u16], b: &[u16]) -> bool {
     true
 }
 
-pub(crate) fn bit_if(is_set: bool, v: usize) -> u16 {
+pub(crate) fn bit_if(is_set: bool, v: usize) -> u32 {
     if is_set {
-        return 1u16 << (v % 16);
+        return 1u32 << (v % 32);
     }
     0
 }
 
 // Bit `v` of a word.
-pub fn has(word: u16, v: usize) -> bool {
+pub fn has(word: u32, v: usize) -> bool {
     brute::has(word as usize, v)
 }
 
 // The word of the option `i`.
-pub fn word_at(words: &[u16; 16], i: usize) -> u16 {
+pub fn word_at(words: &[u32; 16], i: usize) -> u32 {
     if 15 < i {
         return 0;
     }
@@ -71,18 +71,54 @@ pub(crate) fn byte_at(bytes: &[u8; 16], i: usize) -> usize {
     wide(bytes[i])
 }
 
-// The row of value `a` of the option `i` against `j`.
-pub(crate) fn row_at(rows: &[u16; 4096], i: usize, j: usize, a: usize) -> u16 {
-    if 15 < i {
-        return 0;
-    }
+// Where the rows of each option begin, as the higher of a pair.
+const STARTS: [usize; 16] = [0, 0, 1, 3, 6, 10, 15, 21, 28, 36, 45, 55, 66, 78, 91, 105];
+
+// How many rows there are.
+pub(crate) const ROWS: usize = 3840;
+
+// The place of the row of value `a` of the option `i` against the higher `j`; past the array where there is none.
+pub fn place(i: usize, j: usize, a: usize) -> usize {
     if 15 < j {
+        return ROWS;
+    }
+    if j <= i {
+        return ROWS;
+    }
+    if 31 < a {
+        return ROWS;
+    }
+    let start = STARTS[j];
+    if 105 < start {
+        return ROWS;
+    }
+    (start + i) * 32 + a
+}
+
+// That row.
+fn stored(rows: &[u32; 3840], i: usize, j: usize, a: usize) -> u32 {
+    let at = place(i, j, a);
+    if ROWS <= at {
         return 0;
     }
-    if 15 < a {
-        return 0;
+    rows[at]
+}
+
+// The same from the higher option: the values of `i` whose rows have value `b` of `j`.
+fn column(rows: &[u32; 3840], i: usize, j: usize, b: usize) -> u32 {
+    let mut word: u32 = 0;
+    for a in 0..16 {
+        word = word | bit_if(has(stored(rows, i, j, a), b), a);
     }
-    rows[(i * 16 + j) * 16 + a]
+    word
+}
+
+// The values of the option `j` that go with value `a` of `i`.
+pub(crate) fn row_at(rows: &[u32; 3840], i: usize, j: usize, a: usize) -> u32 {
+    if i < j {
+        return stored(rows, i, j, a);
+    }
+    column(rows, j, i, a)
 }
 
 fn is_free(n: usize, leaders: &[u8; 16], i: usize) -> bool {
@@ -93,8 +129,8 @@ fn is_free(n: usize, leaders: &[u8; 16], i: usize) -> bool {
 }
 
 // The live options, as bits.
-pub fn free(n: usize, leaders: &[u8; 16]) -> u16 {
-    let mut word: u16 = 0;
+pub fn free(n: usize, leaders: &[u8; 16]) -> u32 {
+    let mut word: u32 = 0;
     for i in 0..16 {
         word = word | bit_if(is_free(n, leaders, i), i);
     }

@@ -9,7 +9,7 @@ fn is_option(n: usize, number: usize) -> bool {
 }
 
 // No value in the list of `i` has more than one allowed partner in the list of `j`.
-fn is_functional<'a>(domains: &'a [u16; 16], rows: &'a [u16; 4096], i: usize, j: usize) -> bool {
+fn is_functional<'a>(domains: &'a [u32; 16], rows: &'a [u32; 3840], i: usize, j: usize) -> bool {
     for a in 0..16 {
         if has_two_partners(domains, rows, i, j, a) {
             return false;
@@ -19,23 +19,23 @@ fn is_functional<'a>(domains: &'a [u16; 16], rows: &'a [u16; 4096], i: usize, j:
 }
 
 fn has_two_partners<'a>(
-    domains: &'a [u16; 16],
-    rows: &'a [u16; 4096],
+    domains: &'a [u32; 16],
+    rows: &'a [u32; 3840],
     i: usize,
     j: usize,
     a: usize,
 ) -> bool {
     let partners = row_at(rows, i, j, a) & word_at(domains, j);
-    has(word_at(domains, i), a) & (1 < u16::count_ones(partners))
+    has(word_at(domains, i), a) & (1 < u32::count_ones(partners))
 }
 
 // What a step is to be refused with, options counted from 1; 0 where it is legal.
 pub fn refusal<'a>(
     n: usize,
-    free: u16,
-    domains: &'a [u16; 16],
-    stated: &'a [u16; 16],
-    rows: &'a [u16; 4096],
+    free: u32,
+    domains: &'a [u32; 16],
+    stated: &'a [u32; 16],
+    rows: &'a [u32; 3840],
     leader: usize,
     follower: usize,
 ) -> u8 {
@@ -56,10 +56,10 @@ pub fn refusal<'a>(
 }
 
 fn refusal_of_pair<'a>(
-    free: u16,
-    domains: &'a [u16; 16],
-    stated: &'a [u16; 16],
-    rows: &'a [u16; 4096],
+    free: u32,
+    domains: &'a [u32; 16],
+    stated: &'a [u32; 16],
+    rows: &'a [u32; 3840],
     i: usize,
     j: usize,
 ) -> u8 {
@@ -84,10 +84,10 @@ pub struct Pair {
 // The first legal pair from the pair number `start` on, where the pair number `k` has the leader k / 16 and the follower k % 16, counted from 0.
 // From 0 on it is the lowest leader that has a legal follower, with the lowest such follower.
 pub fn legal_from<'a>(
-    free: u16,
-    domains: &'a [u16; 16],
-    stated: &'a [u16; 16],
-    rows: &'a [u16; 4096],
+    free: u32,
+    domains: &'a [u32; 16],
+    stated: &'a [u32; 16],
+    rows: &'a [u32; 3840],
     start: usize,
 ) -> Pair {
     for k in 0..256 {

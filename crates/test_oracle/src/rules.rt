@@ -1,13 +1,15 @@
 // The three rules of a legal follow step by their words, value by value. `j` comes to follow `i`, both counted from 0.
+use crate::fields::ROWS;
 use crate::fields::bit_if;
 use crate::fields::has;
+use crate::fields::place;
 use crate::fields::row_at;
 use crate::fields::word_at;
 
 // The value `a` of `i` is in its list, and some value in the list of `j` goes with it.
 fn is_kept<'a>(
-    domains: &'a [u16; 16],
-    rows: &'a [u16; 4096],
+    domains: &'a [u32; 16],
+    rows: &'a [u32; 3840],
     i: usize,
     j: usize,
     a: usize,
@@ -16,8 +18,8 @@ fn is_kept<'a>(
 }
 
 // Rule 1: "The list of i loses each value that has no allowed partner in the list of j."
-pub fn trimmed<'a>(domains: &'a [u16; 16], rows: &'a [u16; 4096], i: usize, j: usize) -> u16 {
-    let mut list: u16 = 0;
+pub fn trimmed<'a>(domains: &'a [u32; 16], rows: &'a [u32; 3840], i: usize, j: usize) -> u32 {
+    let mut list: u32 = 0;
     for a in 0..16 {
         list = list | bit_if(is_kept(domains, rows, i, j, a), a);
     }
@@ -25,14 +27,14 @@ pub fn trimmed<'a>(domains: &'a [u16; 16], rows: &'a [u16; 4096], i: usize, j: u
 }
 
 // "each third option k stated with j"
-fn is_third(stated: &[u16; 16], i: usize, j: usize, k: usize) -> bool {
+fn is_third(stated: &[u32; 16], i: usize, j: usize, k: usize) -> bool {
     (k != i) & (k != j) & has(word_at(stated, j), k)
 }
 
 // "some b in the list of j goes with both"
 fn is_joined<'a>(
-    domains: &'a [u16; 16],
-    rows: &'a [u16; 4096],
+    domains: &'a [u32; 16],
+    rows: &'a [u32; 3840],
     i: usize,
     j: usize,
     k: usize,
@@ -44,8 +46,8 @@ fn is_joined<'a>(
 
 // "if i, k was stated before, it allowed (a, c) before"
 fn was_allowed<'a>(
-    stated: &'a [u16; 16],
-    rows: &'a [u16; 4096],
+    stated: &'a [u32; 16],
+    rows: &'a [u32; 3840],
     i: usize,
     k: usize,
     a: usize,
@@ -56,9 +58,9 @@ fn was_allowed<'a>(
 
 // Rule 2 for the values `a` of `i` and `c` of `k`; `domains` has the new list of `i`.
 fn is_composed<'a>(
-    domains: &'a [u16; 16],
-    stated: &'a [u16; 16],
-    rows: &'a [u16; 4096],
+    domains: &'a [u32; 16],
+    stated: &'a [u32; 16],
+    rows: &'a [u32; 3840],
     i: usize,
     j: usize,
     k: usize,
@@ -72,9 +74,9 @@ fn is_composed<'a>(
 
 // The same for the values `a` of `p` and `c` of `q`, where one of the two is `i` and the other a third option.
 fn is_composed_from<'a>(
-    domains: &'a [u16; 16],
-    stated: &'a [u16; 16],
-    rows: &'a [u16; 4096],
+    domains: &'a [u32; 16],
+    stated: &'a [u32; 16],
+    rows: &'a [u32; 3840],
     i: usize,
     j: usize,
     p: usize,
@@ -89,16 +91,16 @@ fn is_composed_from<'a>(
 }
 
 fn composed_row<'a>(
-    domains: &'a [u16; 16],
-    stated: &'a [u16; 16],
-    rows: &'a [u16; 4096],
+    domains: &'a [u32; 16],
+    stated: &'a [u32; 16],
+    rows: &'a [u32; 3840],
     i: usize,
     j: usize,
     p: usize,
     q: usize,
     a: usize,
-) -> u16 {
-    let mut row: u16 = 0;
+) -> u32 {
+    let mut row: u32 = 0;
     for c in 0..16 {
         row = row | bit_if(is_composed_from(domains, stated, rows, i, j, p, q, a, c), c);
     }
@@ -106,7 +108,7 @@ fn composed_row<'a>(
 }
 
 // The options `p` and `q` are `x` and a third option, in either order.
-fn is_with_third(stated: &[u16; 16], i: usize, j: usize, p: usize, q: usize, x: usize) -> bool {
+fn is_with_third(stated: &[u32; 16], i: usize, j: usize, p: usize, q: usize, x: usize) -> bool {
     if p == x {
         return is_third(stated, i, j, q);
     }
@@ -118,15 +120,15 @@ fn is_with_third(stated: &[u16; 16], i: usize, j: usize, p: usize, q: usize, x: 
 
 // The row of value `a` of `p` against `q` after the step.
 fn row_after<'a>(
-    domains: &'a [u16; 16],
-    stated: &'a [u16; 16],
-    rows: &'a [u16; 4096],
+    domains: &'a [u32; 16],
+    stated: &'a [u32; 16],
+    rows: &'a [u32; 3840],
     i: usize,
     j: usize,
     p: usize,
     q: usize,
     a: usize,
-) -> u16 {
+) -> u32 {
     if is_with_third(stated, i, j, p, q, i) {
         return composed_row(domains, stated, rows, i, j, p, q, a);
     }
@@ -136,23 +138,55 @@ fn row_after<'a>(
     row_at(rows, p, q, a)
 }
 
-// Rule 2: the rows after the step; `domains` has the new list of `i`.
-pub fn rows_after<'a>(
-    domains: &'a [u16; 16],
-    stated: &'a [u16; 16],
-    rows: &'a [u16; 4096],
+// Stores the row of value `a` of `p` against `q`, where `p` is the lower one.
+fn put_row(rows: &mut [u32; 3840], p: usize, q: usize, a: usize, row: u32) {
+    let at = place(p, q, a);
+    if at < ROWS {
+        rows[at] = row;
+    }
+}
+
+// Of the rows after the step the one numbered `k`, where it is one from the lower option.
+fn put_after<'a>(
+    after: &mut [u32; 3840],
+    domains: &'a [u32; 16],
+    stated: &'a [u32; 16],
+    rows: &'a [u32; 3840],
     i: usize,
     j: usize,
-) -> [u16; 4096] {
-    let mut after = [0u16; 4096];
+    k: usize,
+) {
+    let p = k / 256;
+    let q = k / 16 % 16;
+    let a = k % 16;
+    if p < q {
+        put_row(
+            after,
+            p,
+            q,
+            a,
+            row_after(domains, stated, rows, i, j, p, q, a),
+        );
+    }
+}
+
+// Rule 2: the rows after the step; `domains` has the new list of `i`.
+pub fn rows_after<'a>(
+    domains: &'a [u32; 16],
+    stated: &'a [u32; 16],
+    rows: &'a [u32; 3840],
+    i: usize,
+    j: usize,
+) -> [u32; 3840] {
+    let mut after = [0u32; 3840];
     for k in 0..4096 {
-        after[k] = row_after(domains, stated, rows, i, j, k / 256, k / 16 % 16, k % 16);
+        put_after(&mut after, domains, stated, rows, i, j, k);
     }
     after
 }
 
 // Whether `p` is stated with `q` after the step.
-fn is_stated_after(stated: &[u16; 16], i: usize, j: usize, p: usize, q: usize) -> bool {
+fn is_stated_after(stated: &[u32; 16], i: usize, j: usize, p: usize, q: usize) -> bool {
     if is_with_third(stated, i, j, p, q, i) {
         return true;
     }
@@ -163,8 +197,8 @@ fn is_stated_after(stated: &[u16; 16], i: usize, j: usize, p: usize, q: usize) -
 }
 
 // Rule 2: which pairs are stated after the step.
-pub fn stated_after(stated: &[u16; 16], i: usize, j: usize) -> [u16; 16] {
-    let mut after = [0u16; 16];
+pub fn stated_after(stated: &[u32; 16], i: usize, j: usize) -> [u32; 16] {
+    let mut after = [0u32; 16];
     for k in 0..256 {
         let p = k / 16;
         let q = k % 16;

@@ -115,7 +115,7 @@ fn apart(seed: &mut u64, tally: &mut Counts) {
     );
 }
 
-// As read, options 1, 2 and 3 of the first are live and stated with one another.
+// As read, options 1 and 2 of the first are live and stated together, and so are 2 and 3.
 fn apart_as_read(tally: &mut Counts) {
     let reading = calls::read(
         b"\x01\x00\x14\x04\x02\x03\x02\x04\x02\x01\x02\x00\x01\x00\x04\x02\x03\x00\x02\x00\x01\x00\x01",

@@ -6,7 +6,7 @@ use Prim.Native.String.{String, [] as noText, _∷_ as _before_}
 use lib.Dec.{eqb}
 use lib.ListN.{getD}
 use Rattle.bounded.specs.Bool.{if}
-use Rattle.buffers.specs.Digits.{decimal, hex4}
+use Rattle.buffers.specs.Digits.{decimal, hexText}
 
 -- The codes of a quoted text.
 unfoldable pub ascii : String → List ℕ
@@ -19,7 +19,7 @@ pairLine first one second two = first ++ (decimal one ++ (second ++ (decimal two
 
 -- "LIST is four upper-case hexadecimal digits; other numbers are decimal."
 unfoldable pub liveLine : ℕ → ℕ → List ℕ
-liveLine number list = ascii "LIVE " ++ (decimal number ++ (ascii " LIST " ++ (hex4 list ++ ascii "\n")))
+liveLine number list = ascii "LIVE " ++ (decimal number ++ (ascii " LIST " ++ (hexText 4 list ++ ascii "\n")))
 
 -- "LIVE with its number and list, or FOLLOWS with its number and its leader's": i counts from 0, the numbers printed from 1.
 unfoldable pub optionLine : ℕ → ℕ → ℕ → List ℕ

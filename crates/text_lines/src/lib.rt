@@ -3,7 +3,7 @@ ghost use Prim.Native.Nat.{_+_, _<_, _≤_};
 ghost use lib.ListN.{length};
 ghost use Rattle.buffers.specs.Wrote.{Wrote};
 ghost use Rattle.text_lines.specs.Text.{refusedText, pairLine, liveLine, optionLine, optionLines};
-use buffers::put_hex4;
+use buffers::put_hex;
 use buffers::put_text;
 use buffers::put_titled;
 
@@ -25,18 +25,18 @@ fn put_pair(
 }
 
 // The line of a live option, which counts from 1, with its list.
-fn put_live(buffer: &mut [u8], at: usize, number: usize, list: u16) -> usize
+fn put_live(buffer: &mut [u8], at: usize, number: usize, list: u32) -> usize
     requires { ⌜ at + length (liveLine number list) ≤ length (now buffer) ⌝ }
     ensures { λ r. ⌜ Wrote (now (buffer .entry)) (now (buffer .exit)) (liveLine number list) at r ⌝ }
 {
     let named = put_titled(buffer, at, b"LIVE ", number);
     let titled = put_text(buffer, named, b" LIST ");
-    let listed = put_hex4(buffer, titled, list);
+    let listed = put_hex(buffer, titled, list, 4);
     put_text(buffer, listed, b"\n")
 }
 
 // The line of the option `i`, which counts from 0.
-fn put_option(buffer: &mut [u8], at: usize, i: usize, leader: u8, list: u16) -> usize
+fn put_option(buffer: &mut [u8], at: usize, i: usize, leader: u8, list: u32) -> usize
     requires { ⌜ (i < 16) × (at + length (optionLine i leader list) ≤ length (now buffer)) ⌝ }
     ensures { λ r. ⌜ Wrote (now (buffer .entry)) (now (buffer .exit)) (optionLine i leader list) at r ⌝ }
 {
@@ -53,7 +53,7 @@ pub fn put_options(
     at: usize,
     n: usize,
     leaders: &[u8; 16],
-    lists: &[u16; 16],
+    lists: &[u32; 16],
 ) -> usize
     requires { ⌜ (n ≤ 16) × (at + length (optionLines (now leaders) (now lists) n) ≤ length (now buffer)) ⌝ }
     ensures { λ r. ⌜ Wrote (now (buffer .entry)) (now (buffer .exit)) (optionLines (now (leaders .entry)) (now (lists .entry)) n) at r ⌝ }

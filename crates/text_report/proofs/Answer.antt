@@ -21,7 +21,7 @@ use Rattle.text_report.specs.Printed.{Printable}
 use Rattle.text_report.proofs.Fits.{text-accepted, text-refused}
 
 pub accepted-text : (a : CutParts) (rows : List ℕ) → a .outcome ≡ Accepted
-    → textAs (cutPartsTold a rows) ≡ cutText (a .n) (a .leaders) (a .domains) (a .steps) (verdictTold (a .verdict) (a .solution))
+    → textAs (cutPartsTold a rows) ≡ cutText (a .head .n) (a .head .leaders) (a .head .domains) (a .steps) (verdictTold (a .verdict) (a .solution))
 unfolding cutPartsTold readNumber
 accepted-text a rows e = text-accepted (cutPartsTold a rows) (ap readNumber e)
 
@@ -45,7 +45,7 @@ build-of (verdict.Refused c) build = refl
 
 -- The answer for the bytes of a sheet can be printed, whatever they are.
 pub printable-answer : (bytes : List ℕ) → ((k : ℕ) → getD bytes k 0 < 256) → (a : CutParts) (rows : List ℕ) → cutPartsTold a rows ≡ cutSheet bytes
-    → ((k : ℕ) → getD (a .leaders) k 0 < 256) → ((k : ℕ) → getD (a .solution) k 0 < 256) → (other : List ℕ) → Printable (cutPartsTold a other)
+    → ((k : ℕ) → getD (a .head .leaders) k 0 < 256) → ((k : ℕ) → getD (a .solution) k 0 < 256) → (other : List ℕ) → Printable (cutPartsTold a other)
 unfolding cutPartsTold
 printable-answer bytes octets a rows e leaders values other =
     let small : Small (cutPartsTold a rows) = rw e (cut-small bytes octets) in

@@ -8,9 +8,9 @@ use lib.ListN.{length, getD, take, drop, replicate, length-append}
 use lib.Seq.{take-at}
 use borrow.Author.Tests.{eq-eqb, ne-eqb, eqb-true, eqb-false}
 use Rattle.bounded.proofs.Bool.{by-cases, if-true, if-false}
-use Rattle.buffers.specs.Digits.{decimal, hex4}
+use Rattle.buffers.specs.Digits.{decimal}
 use Rattle.buffers.specs.Wrote.{Wrote}
-use Rattle.buffers.proofs.Digits.{length-decimal-le}
+use Rattle.buffers.proofs.Digits.{length-decimal-le, length-hex}
 use Rattle.network.specs.Completion.{NONE, BUILT, OPEN}
 use Rattle.answers.specs.Answers.{VerdictTold, rules, no-verdict, verdictSolution}
 use Rattle.state.specs.Cut.{CutTold}
@@ -38,8 +38,8 @@ unfolding pairLine ascii
 length-pair first one second two = simp length-append
 
 length-live : (number list : ℕ) → length (liveLine number list) ≡ length (decimal number) + 16
-unfolding liveLine ascii hex4
-length-live number list = simp length-append (omega arith)
+unfolding liveLine ascii
+length-live number list = simp (length-append, length-hex) (omega arith)
 
 option-le : (i leader list : ℕ) → i < 16 → leader < 256 → length (optionLine i leader list) ≤ 18
 unfolding ascii

@@ -16,7 +16,7 @@ pub(crate) fn put_cut(
     at: usize,
     n: usize,
     leaders: &[u8; 16],
-    lists: &[u16; 16],
+    lists: &[u32; 16],
     steps: usize,
     verdict: Verdict,
     solution: &[u8; 16],

@@ -29,14 +29,15 @@ pub(crate) fn written(cut: CutParts) -> Text
         let length = put_refusal(&mut bytes, 0, read_number(outcome), read_place(outcome));
         return Text { bytes, length };
     };
-    let leaders = cut.leaders;
-    let lists = cut.domains;
+    let head = cut.head;
+    let leaders = head.leaders;
+    let lists = head.domains;
     let verdict = cut.verdict;
     let solution = cut.solution;
     let length = put_cut(
         &mut bytes,
         0,
-        cut.n,
+        head.n,
         &leaders,
         &lists,
         cut.steps,
@@ -50,6 +51,6 @@ pub(crate) fn written(cut: CutParts) -> Text
 pub fn report(bytes: &[u8]) -> Text
     ensures { λ r. ⌜ Printed 512 (textOf (now (bytes .entry))) (r .bytes) (r .length) ⌝ }
 {
-    let mut rows = [0u16; 4096];
+    let mut rows = [0u32; 3840];
     written(cut_parts(bytes, &mut rows))
 }

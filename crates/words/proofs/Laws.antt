@@ -6,14 +6,14 @@ use Prim.Native.Nat.{ℕ, zero, suc, _+_, _-_, _*_, _/_, _%_, _^_, _≤_, _<_, m
 use native.Mathlib.Nat.{mod-one, div-one, mod-lt, mod-eq-of-lt, div-eq-of-lt, sub-add-cancel, pow-suc, mul-le-mul-right, add-mul-div-right, add-mul-mod-self-right, mul-add-mod-self-right}
 use native.Mathlib.Numerals.{one-add}
 use native.Mathlib.Omega.{arith}
-use lib.Bits.{bitAnd, bitOr, bitXor, differ, and-step, or-step, xor-step, and-shr, or-shr, xor-shr}
+use lib.Bits.{bitAnd, bitOr, bitXor, differ, and-step, or-step, xor-step, and-shr, or-shr, xor-shr, and-le-l}
 use lib.Count.{ones, ones-cat, trailingZeros, under}
 use lib.Dec.{eqb, ltb}
 use lib.Pow.{pow-pos, pow-mono, pow-add, high, mod-pow-add, shr-shr}
-use borrow.Author.Tests.{ltb-true, ltb-false, lt-ltb, le-ltb, eq-eqb, ne-eqb}
+use borrow.Author.Tests.{ltb-true, ltb-false, lt-ltb, le-ltb, eq-eqb, eqb-true, ne-eqb}
 use Rattle.bounded.specs.Bool.{and, or, implies, not, bit, if}
 use Rattle.bounded.specs.Fold.{every, some, sum, count, first}
-use Rattle.bounded.proofs.Bool.{by-cases, clash, bool-ext, not-true→false, implies-i, implies-e, bit-le, bit-true}
+use Rattle.bounded.proofs.Bool.{by-cases, clash, bool-ext, not-true→false, implies-i, implies-e, false-and, and-true, bit-le, bit-true, bit-false}
 use Rattle.bounded.proofs.Fold.{below-suc, every-i, every-e, none-of, count-two, count-unique, first-cong}
 use Rattle.words.specs.Word.{has, word}
 
@@ -304,3 +304,53 @@ trailing-first zero x = refl
 trailing-first (suc w) x =
     ap₂ under (has-lowest x) (trailing-first w (x / 2) ∙ first-cong w _ _ (λ v l. has-half x v))
     ∙ under-if (has x 0) (first w (λ (v : ℕ). has x (suc v)))
+
+-- ---- without the lowest value
+
+and-self : (b : Bool) → and b b ≡ and b true
+unfolding and
+and-self true = refl
+and-self false = refl
+
+eqb-suc : (u v : ℕ) → eqb (suc u) (suc v) ≡ eqb u v
+eqb-suc u v =
+    bool-ext _ _
+    (λ t. eq-eqb u v (omega (arith, eqb-true (suc u) (suc v) t)))
+    (λ t. eq-eqb (suc u) (suc v) (omega (arith, eqb-true u v t)))
+
+drop-odd : (x v : ℕ) → has x 0 ≡ true → and (has x v) (has (x - 1) v) ≡ and (has x v) (not (eqb v 0))
+unfolding not bit
+drop-odd x zero t =
+    let l : x % 2 ≡ 1 = has-lowest x ∙ bit-true (has x 0) t in
+    let e : bit (has (x - 1) 0) ≡ 0 = sym (has-lowest (x - 1)) ∙ omega arith in
+    ap (and (has x 0)) (bit-inj (has (x - 1) 0) false e)
+drop-odd x (suc u) t =
+    let l : x % 2 ≡ 1 = has-lowest x ∙ bit-true (has x 0) t in
+    let e : (x - 1) / 2 ≡ x / 2 = omega arith in
+    rw (← has-half (x - 1) u, e, has-half x u, ne-eqb (suc u) 0 (omega arith)) (and-self (has x (suc u)))
+
+drop-even : (w x v : ℕ) → has x 0 ≡ false → 0 < x → x < 2 ^ suc w
+    → ((u : ℕ) → and (has (x / 2) u) (has (x / 2 - 1) u) ≡ and (has (x / 2) u) (not (eqb u (first w (has (x / 2))))))
+    → and (has x v) (has (x - 1) v) ≡ and (has x v) (not (eqb v (suc (first w (λ (k : ℕ). has x (suc k))))))
+drop-even w x zero f p h again = rw f (false-and (has (x - 1) 0) ∙ sym (false-and (not (eqb 0 (suc (first w (λ (k : ℕ). has x (suc k))))))))
+drop-even w x (suc u) f p h again =
+    let l : x % 2 ≡ 0 = has-lowest x ∙ bit-false (has x 0) f in
+    let e : (x - 1) / 2 ≡ x / 2 - 1 = omega arith in
+    let g : first w (has (x / 2)) ≡ first w (λ (k : ℕ). has x (suc k)) = first-cong w _ _ (λ k m. has-half x k) in
+    rw (← has-half (x - 1) u, e, ← has-half x u, ← g, eqb-suc) (again u)
+
+-- `x - 1` lacks the lowest member of x and has every higher one.
+drop-lowest : (w x v : ℕ) → x < 2 ^ w → 0 < x → and (has x v) (has (x - 1) v) ≡ and (has x v) (not (eqb v (first w (has x))))
+unfolding first if
+drop-lowest zero x v h p = absurd (let z : ⊥ = omega arith in z)
+drop-lowest (suc w) x v h p =
+    by-cases (has x 0)
+    (λ t. rw t (drop-odd x v t))
+    (λ f. rw f (drop-even w x v f p h
+    (λ u. let l : x % 2 ≡ 0 = has-lowest x ∙ bit-false (has x 0) f in
+    let b : x < 2 * 2 ^ w = omega (arith, pow-suc 2 w) in
+    drop-lowest w (x / 2) u (omega arith) (omega arith))))
+
+-- `x & (x - 1)` is x without its lowest member.
+pub dropped-is : (w x : ℕ) → x < 2 ^ w → 0 < x → bitAnd x (x - 1) ≡ word w (λ (u : ℕ). and (has x u) (not (eqb u (first w (has x)))))
+dropped-is w x h p = is-word w (bitAnd x (x - 1)) _ (omega (arith, and-le-l x (x - 1))) (λ v l. has-and x (x - 1) v ∙ drop-lowest w x v h p)

@@ -5,6 +5,10 @@ use lib.Dec.{eqb}
 use Rattle.bounded.specs.Bool.{bit}
 use Rattle.bounded.specs.Fold.{sum}
 
+-- How many bits a word has: the values that a domain or a row can tell, and the variables that `stated` can.
+abbrev pub width : ℕ
+width = 32
+
 -- The value v is a member of the word x.
 unfoldable pub has : ℕ → ℕ → Bool
 has x v = eqb (x / 2 ^ v % 2) 1

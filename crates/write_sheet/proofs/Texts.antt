@@ -2,16 +2,17 @@
 use mathlib.Core.Bool.{true, false}
 use mathlib.Core.List.{List, [], _∷_, _++_, append-assoc, append-nil}
 use mathlib.Core.Path.{_≡_, refl, sym, _∙_, ap}
-use Prim.Native.Nat.{ℕ, zero, suc, _+_, _-_, _/_, _%_, _≤_, _<_}
+use Prim.Native.Nat.{ℕ, zero, suc, _+_, _-_, _/_, _%_, _^_, _≤_, _<_}
 use native.Mathlib.Nat.{add-zero}
 use native.Mathlib.Omega.{arith}
-use lib.ListN.{length, getD, drop, length-append}
+use lib.ListN.{length, drop, length-append}
 use Rattle.bounded.proofs.Bool.{if-true, if-false}
+use Rattle.buffers.specs.Wrote.{Wrote}
 use Rattle.buffers.proofs.Laws.{wrote-none, wrote-then}
+use Rattle.buffers.proofs.Digits.{Digits}
 use Rattle.words.specs.Word.{has}
 use Rattle.network.specs.Sheet.{collect}
 use Rattle.format.specs.Print.{bytesOf}
-use Rattle.buffers.specs.Wrote.{Wrote}
 use Rattle.write_sheet.specs.Texts.{joined, rowsText, tableText}
 
 -- ---- texts in a buffer
@@ -21,15 +22,10 @@ pub wrote-whole : {a b text : List ℕ} {r : ℕ} → Wrote a b text 0 r → (r 
 wrote-whole {text} {r} w =
     let e : r ≡ length text = omega arith in (e, rw e at (w .holds))
 
--- A number below 65536 in two bytes.
-pub wrote-number : {a b c : List ℕ} {high low at mid r : ℕ} (v : ℕ) → v < 65536 → high ≡ v / 256 → low ≡ v % 256
-    → Wrote a b (high ∷ []) at mid → Wrote b c (low ∷ []) mid r
-    → Wrote a c (bytesOf 2 v) at r
+-- The bytes of a number are its digits to the base 256.
+unfoldable pub octets : ℕ → Digits
 unfolding bytesOf
-wrote-number {high = high} {low = low} v l p q x y =
-    let e : v / 256 % 256 ≡ high = omega arith in
-    let f : v / 1 % 256 ≡ low = omega arith in
-    rw (e, f) (wrote-then x y)
+octets v = record { text = λ k. bytesOf k v; digit = λ k. v / 256 ^ k % 256; none = refl; more = λ k. refl }
 
 -- ---- texts that are joined
 
@@ -89,17 +85,16 @@ module _ (f : ℕ → List ℕ) where
 
 -- ---- a table
 
-module _ (sizes stated : List ℕ) (row : ℕ → ℕ → ℕ → ℕ) where
-  pub table-unstated : (i j : ℕ) → has (getD stated i 0) j ≡ false → tableText sizes stated row i j ≡ []
+module _ (k : ℕ) (row : ℕ → ℕ → ℕ → ℕ) (size stated i j : ℕ) where
+  pub table-unstated : has stated j ≡ false → tableText k row size stated i j ≡ []
   unfolding tableText
-  table-unstated i j h = if-false _ _ _ h
+  table-unstated h = if-false _ _ _ h
 
-  pub table-stated : (i j : ℕ) → has (getD stated i 0) j ≡ true
-      → tableText sizes stated row i j ≡ suc i ∷ suc j ∷ rowsText (getD sizes i 0) (row i j)
+  pub table-stated : has stated j ≡ true → tableText k row size stated i j ≡ suc i ∷ suc j ∷ rowsText k row size i j
   unfolding tableText
-  table-stated i j h = if-true _ _ _ h
+  table-stated h = if-true _ _ _ h
 
-  pub wrote-table : {a b c d : List ℕ} {i j p q at second third r : ℕ} → has (getD stated i 0) j ≡ true → p ≡ suc i → q ≡ suc j
-      → Wrote a b (p ∷ []) at second → Wrote b c (q ∷ []) second third → Wrote c d (rowsText (getD sizes i 0) (row i j)) third r
-      → Wrote a d (tableText sizes stated row i j) at r
-  wrote-table {i} {j} h e f x y z = rw (table-stated i j h, ← e, ← f) (wrote-then x (wrote-then y z))
+  pub wrote-table : {a b c d : List ℕ} {p q at second third r : ℕ} → has stated j ≡ true → p ≡ suc i → q ≡ suc j
+      → Wrote a b (p ∷ []) at second → Wrote b c (q ∷ []) second third → Wrote c d (rowsText k row size i j) third r
+      → Wrote a d (tableText k row size stated i j) at r
+  wrote-table h e f x y z = rw (table-stated h, ← e, ← f) (wrote-then x (wrote-then y z))

@@ -1,27 +1,19 @@
--- The bytes that writing arrays comes to.
+-- The bytes that writing a head and rows comes to.
 use mathlib.Core.List.{List}
+use mathlib.Core.Path.{_≡_}
 use Prim.Native.Nat.{ℕ}
-use lib.Dec.{ltb}
-use lib.ListN.{getD}
-use Rattle.words.specs.Word.{has}
-use Rattle.network.specs.Network.{Network}
+use lib.ListN.{length}
 use Rattle.network.specs.Sheet.{sheetOf}
-use Rattle.rows.specs.Rows.{allowsOf}
+use Rattle.head.specs.declared.Head.{Head}
+use Rattle.head.specs.Held.{held}
 use Rattle.format.specs.Layout.{version1}
 use Rattle.format.specs.Print.{print}
 
--- The network that arrays hold of a sheet just read: full domains, no leader.
-unfoldable pub heldBy : ℕ → List ℕ → List ℕ → List ℕ → Network
-heldBy n sizes stated rows =
-    record {
-      n = n;
-      size = λ (i : ℕ). getD sizes i 0;
-      domain = λ (i a : ℕ). ltb a (getD sizes i 0);
-      leader = λ (i : ℕ). 0;
-      stated = λ (i j : ℕ). has (getD stated i 0) j;
-      allows = allowsOf 16 rows;
-    }
+-- The sheet of the network that they hold, in version 1.
+unfoldable pub bytesHeld : Head → List ℕ → List ℕ
+bytesHeld h rows = print version1 (sheetOf (held h rows))
 
--- Its sheet, in version 1.
-unfoldable pub bytesHeld : ℕ → List ℕ → List ℕ → List ℕ → List ℕ
-bytesHeld n sizes stated rows = print version1 (sheetOf (heldBy n sizes stated rows))
+-- So many bytes has the sheet of every head with these sizes and stated pairs, whatever else it and the rows are.
+abbrev pub LengthIs : ℕ → List ℕ → List ℕ → ℕ → Type 0
+LengthIs n sizes stated bytes =
+    (h : Head) (rows : List ℕ) → h .n ≡ n → h .sizes ≡ sizes → h .stated ≡ stated → bytes ≡ length (bytesHeld h rows)

@@ -1,30 +1,49 @@
-// Writing: a sheet from the arrays of a network as just read into a lent buffer.
-ghost use mathlib.Core.List.{List, [], _∷_, _++_};
+// Writing: a sheet from a head and rows into a lent buffer.
+ghost use mathlib.Core.List.{[], _∷_, _++_};
 ghost use mathlib.Core.Bool.{true};
 ghost use mathlib.Core.Path.{_≡_};
-ghost use Prim.Native.Nat.{ℕ, _+_, _*_, _<_, _≤_};
+ghost use Prim.Native.Nat.{ℕ, _+_, _*_, _/_, _%_, _^_, _<_, _≤_};
 ghost use lib.ListN.{length, getD, drop};
 ghost use Rattle.buffers.specs.Wrote.{Wrote};
-ghost use Rattle.words.specs.Word.{has};
-ghost use Rattle.network.specs.Sound.{Sound};
-ghost use Rattle.rows.specs.Rows.{rowAt};
+ghost use Rattle.words.specs.Word.{width, has};
+ghost use Rattle.pairs.specs.Pairs.{variables};
+ghost use Rattle.head.specs.Held.{soundIn};
 ghost use Rattle.format.specs.Print.{bytesOf};
-ghost use Rattle.write_sheet.specs.Writing.{heldBy, bytesHeld};
-ghost use Rattle.write_sheet.specs.Texts.{sizesText, rowsText, tableText, laterText, tablesText, later, tableCount};
+ghost use Rattle.write_sheet.specs.Writing.{bytesHeld, LengthIs};
+ghost use Rattle.write_sheet.specs.Texts.{sizesText, rowOf, rowsText, tableText, laterText, tablesText, later, tableCount};
 use buffers::put_byte;
+use head::Head;
+use pairs::Rows;
+use pairs::VARIABLES;
 
-// A number in two bytes, big-endian.
-fn put_number(buffer: &mut [u8], at: usize, number: u16) -> usize
-    requires { ⌜ at + 2 ≤ length (now buffer) ⌝ }
-    ensures { λ r. ⌜ Wrote (now (buffer .entry)) (now (buffer .exit)) (bytesOf 2 number) at r ⌝ }
+// What version 1 of the format fixes: its number, and the bytes of a row.
+const VERSION: u8 = 1;
+
+const ROW_BYTES: usize = 2;
+
+// The byte of `number` of weight 256 to the `k`.
+fn byte_of(number: u32, k: usize) -> u8
+    requires { ⌜ k < 4 ⌝ }
+    ensures { λ r. ⌜ r ≡ number / 256 ^ k % 256 ⌝ }
 {
-    let next = put_byte(buffer, at, (number / 256) as u8);
-    put_byte(buffer, next, (number % 256) as u8)
+    ((number >> (8 * k)) % 256) as u8
+}
+
+// The low `bytes` bytes of a number, big-endian. A number has 4.
+fn put_number(buffer: &mut [u8], at: usize, number: u32, bytes: usize) -> usize
+    requires { ⌜ (bytes ≤ 4) × (at + bytes ≤ length (now buffer)) ⌝ }
+    ensures { λ r. ⌜ Wrote (now (buffer .entry)) (now (buffer .exit)) (bytesOf bytes number) at r ⌝ }
+{
+    let mut next = at;
+    for i in 0..bytes {
+        next = put_byte(buffer, next, byte_of(number, bytes - 1 - i));
+    }
+    next
 }
 
 // The sizes, a byte each.
-fn write_sizes(n: usize, sizes: &[u8; 16], buffer: &mut [u8], at: usize) -> usize
-    requires { ⌜ (n ≤ 16) × (at + length (sizesText n (now sizes)) ≤ length (now buffer)) ⌝ }
+fn write_sizes(n: usize, sizes: &[u8; VARIABLES], buffer: &mut [u8], at: usize) -> usize
+    requires { ⌜ (n ≤ variables) × (at + length (sizesText n (now sizes)) ≤ length (now buffer)) ⌝ }
     ensures { λ r. ⌜ Wrote (now (buffer .entry)) (now (buffer .exit)) (sizesText n (now (sizes .entry))) at r ⌝ }
 {
     let mut next = at;
@@ -34,102 +53,106 @@ fn write_sizes(n: usize, sizes: &[u8; 16], buffer: &mut [u8], at: usize) -> usiz
     next
 }
 
-// The rows of the table of `i` and `j`, one for each of the `size` values of `i`.
+// The rows of the table of `i` and the later `j`, one for each of the `size` values of `i`, in `bytes` bytes each.
 fn write_rows(
+    bytes: usize,
     size: usize,
     i: usize,
     j: usize,
-    rows: &[u16; 4096],
+    rows: &Rows,
     buffer: &mut [u8],
     at: usize,
 ) -> usize
-    requires { ⌜ (i < 16) × (j < 16) × (size ≤ 16) × (at + length (rowsText size (rowAt 16 (now rows) i j)) ≤ length (now buffer)) ⌝ }
-    ensures { λ r. ⌜ Wrote (now (buffer .entry)) (now (buffer .exit)) (rowsText size (rowAt 16 (now (rows .entry)) i j)) at r ⌝ }
+    requires { ⌜ (bytes ≤ 4) × (size ≤ width) × (i < j) × (j < variables) ⌝ }
+    requires { ⌜ at + length (rowsText bytes (rowOf (now rows)) size i j) ≤ length (now buffer) ⌝ }
+    ensures { λ r. ⌜ Wrote (now (buffer .entry)) (now (buffer .exit)) (rowsText bytes (rowOf (now (rows .entry))) size i j) at r ⌝ }
 {
     let mut next = at;
     for a in 0..size {
-        next = put_number(buffer, next, rows[(i * 16 + j) * 16 + a]);
+        next = put_number(buffer, next, pairs::row(rows, i, j, a), bytes);
     }
     next
 }
 
-// The table of `i` and `j`, where they are stated together: the pair, counted from 1, and the rows.
+// The table of `i` and the later `j`, where they are stated together: the pair, counted from 1, and the rows.
 fn write_table(
+    bytes: usize,
+    size: usize,
+    stated: u32,
     i: usize,
     j: usize,
-    sizes: &[u8; 16],
-    stated: &[u16; 16],
-    rows: &[u16; 4096],
+    rows: &Rows,
     buffer: &mut [u8],
     at: usize,
 ) -> usize
-    requires { ⌜ (i < 16) × (j < 16) × (getD (now sizes) i 0 ≤ 16) ⌝ }
-    requires { ⌜ at + length (tableText (now sizes) (now stated) (rowAt 16 (now rows)) i j) ≤ length (now buffer) ⌝ }
-    ensures { λ r. ⌜ Wrote (now (buffer .entry)) (now (buffer .exit))
-        (tableText (now (sizes .entry)) (now (stated .entry)) (rowAt 16 (now (rows .entry))) i j) at r ⌝ }
+    requires { ⌜ (bytes ≤ 4) × (size ≤ width) × (i < j) × (j < variables) ⌝ }
+    requires { ⌜ at + length (tableText bytes (rowOf (now rows)) size stated i j) ≤ length (now buffer) ⌝ }
+    ensures { λ r. ⌜ Wrote (now (buffer .entry)) (now (buffer .exit)) (tableText bytes (rowOf (now (rows .entry))) size stated i j) at r ⌝ }
 {
-    if !words::member(stated[i], j) {
+    if !words::member(stated, j) {
         return at;
     }
     let second = put_byte(buffer, at, (i + 1) as u8);
     let first_row = put_byte(buffer, second, (j + 1) as u8);
-    write_rows(sizes[i] as usize, i, j, rows, buffer, first_row)
+    write_rows(bytes, size, i, j, rows, buffer, first_row)
 }
 
 // The tables of `i` and each later variable.
 fn write_later(
-    i: usize,
+    bytes: usize,
     n: usize,
-    sizes: &[u8; 16],
-    stated: &[u16; 16],
-    rows: &[u16; 4096],
+    size: usize,
+    stated: u32,
+    i: usize,
+    rows: &Rows,
     buffer: &mut [u8],
     at: usize,
 ) -> usize
-    requires { ⌜ (i < n) × (n ≤ 16) × (getD (now sizes) i 0 ≤ 16) ⌝ }
-    requires { ⌜ at + length (laterText n (now sizes) (now stated) (rowAt 16 (now rows)) i) ≤ length (now buffer) ⌝ }
-    ensures { λ r. ⌜ Wrote (now (buffer .entry)) (now (buffer .exit))
-        (laterText n (now (sizes .entry)) (now (stated .entry)) (rowAt 16 (now (rows .entry))) i) at r ⌝ }
+    requires { ⌜ (bytes ≤ 4) × (size ≤ width) × (i < n) × (n ≤ variables) ⌝ }
+    requires { ⌜ at + length (laterText bytes (rowOf (now rows)) n size stated i) ≤ length (now buffer) ⌝ }
+    ensures { λ r. ⌜ Wrote (now (buffer .entry)) (now (buffer .exit)) (laterText bytes (rowOf (now (rows .entry))) n size stated i) at r ⌝ }
 {
     let mut next = at;
     for j in i + 1..n {
-        next = write_table(i, j, sizes, stated, rows, buffer, next);
+        next = write_table(bytes, size, stated, i, j, rows, buffer, next);
     }
     next
 }
 
 // All tables, by their first variable and then by their second.
-fn write_tables(
+fn write_tables<'a>(
+    bytes: usize,
     n: usize,
-    sizes: &[u8; 16],
-    stated: &[u16; 16],
-    rows: &[u16; 4096],
+    sizes: &'a [u8; VARIABLES],
+    stated: &'a [u32; VARIABLES],
+    rows: &Rows,
     buffer: &mut [u8],
     at: usize,
 ) -> usize
-    requires { ⌜ (n ≤ 16) × ((i : ℕ) → getD (now sizes) i 0 ≤ 16) ⌝ }
-    requires { ⌜ at + length (tablesText n (now sizes) (now stated) (rowAt 16 (now rows))) ≤ length (now buffer) ⌝ }
+    requires { ⌜ (bytes ≤ 4) × (n ≤ variables) × ((i : ℕ) → getD (now sizes) i 0 ≤ width) ⌝ }
+    requires { ⌜ at + length (tablesText bytes (rowOf (now rows)) n (now sizes) (now stated)) ≤ length (now buffer) ⌝ }
     ensures { λ r. ⌜ Wrote (now (buffer .entry)) (now (buffer .exit))
-        (tablesText n (now (sizes .entry)) (now (stated .entry)) (rowAt 16 (now (rows .entry)))) at r ⌝ }
+        (tablesText bytes (rowOf (now (rows .entry))) n (now (sizes .entry)) (now (stated .entry))) at r ⌝ }
 {
     let mut next = at;
     for i in 0..n {
-        next = write_later(i, n, sizes, stated, rows, buffer, next);
+        let size = words::wide(sizes[i]);
+        next = write_later(bytes, n, size, stated[i], i, rows, buffer, next);
     }
     next
 }
 
-// How many members of `x` are above `i`. The shift is in two steps, since it may be one of 16.
-fn later(x: u16, i: usize) -> usize
-    requires { ⌜ i < 16 ⌝ }
-    ensures { λ r. ⌜ (r ≡ later x i) × (r ≤ 16) ⌝ }
+// How many members of `x` are above `i`.
+fn later(x: u32, i: usize) -> usize
+    requires { ⌜ i < variables ⌝ }
+    ensures { λ r. ⌜ (r ≡ later x i) × (r ≤ width) ⌝ }
 {
-    words::count((x >> i) >> 1)
+    words::count(x >> (i + 1))
 }
 
 // How many tables there are.
-fn table_count(n: usize, stated: &[u16; 16]) -> usize
-    requires { ⌜ n ≤ 16 ⌝ }
+fn table_count(n: usize, stated: &[u32; VARIABLES]) -> usize
+    requires { ⌜ n ≤ variables ⌝ }
     ensures { λ r. ⌜ r ≡ tableCount n (now (stated .entry)) ⌝ }
 {
     let mut tables = 0;
@@ -139,55 +162,57 @@ fn table_count(n: usize, stated: &[u16; 16]) -> usize
     tables
 }
 
-// How many bytes `tables` tables have whose first variable has `size` values.
-fn tables_length(size: u8, tables: usize) -> usize
-    requires { ⌜ tables ≤ 16 ⌝ }
-    ensures { λ r. ⌜ (r ≡ (2 + 2 * size) * tables) × (r ≤ 8192) ⌝ }
+// How many bytes `tables` tables have whose first variable has `size` values, with `bytes` to a row.
+fn tables_length(bytes: usize, size: u8, tables: usize) -> usize
+    requires { ⌜ (bytes ≤ 4) × (tables ≤ width) ⌝ }
+    ensures { λ r. ⌜ (r ≡ (2 + bytes * size) * tables) × (r ≤ 32768) ⌝ }
 {
-    (2 + 2 * size as usize) * tables
+    (2 + bytes * size as usize) * tables
 }
 
 // How many bytes the sheet has: 5, a size each, and for each table its pair and its rows. No variable is stated with one at `n` or above.
-pub fn sheet_length<'a>(n: usize, sizes: &'a [u8; 16], stated: &'a [u16; 16]) -> usize
-    requires { ⌜ (n ≤ 16) × ((i j : ℕ) → has (getD (now stated) i 0) j ≡ true → j < n) ⌝ }
-    ensures { λ r. ⌜ ((rows : List ℕ) → r ≡ length (bytesHeld n (now (sizes .entry)) (now (stated .entry)) rows)) ⌝ }
+pub fn sheet_length<'a>(n: usize, sizes: &'a [u8; VARIABLES], stated: &'a [u32; VARIABLES]) -> usize
+    requires { ⌜ (n ≤ variables) × ((i j : ℕ) → has (getD (now stated) i 0) j ≡ true → j < n) ⌝ }
+    ensures { λ r. ⌜ LengthIs n (now (sizes .entry)) (now (stated .entry)) r ⌝ }
 {
     let mut bytes = 5 + n;
     for i in 0..n {
-        bytes += tables_length(sizes[i], later(stated[i], i));
+        bytes += tables_length(ROW_BYTES, sizes[i], later(stated[i], i));
     }
     bytes
 }
 
 // The version, the count of the bytes that follow it, and the number of variables.
-fn write_header(n: u8, follow: u16, buffer: &mut [u8]) -> usize
+fn write_header(version: u8, n: u8, follow: u32, buffer: &mut [u8]) -> usize
     requires { ⌜ 4 ≤ length (now buffer) ⌝ }
-    ensures { λ r. ⌜ Wrote (now (buffer .entry)) (now (buffer .exit)) (1 ∷ (bytesOf 2 follow ++ (n ∷ []))) 0 r ⌝ }
+    ensures { λ r. ⌜ Wrote (now (buffer .entry)) (now (buffer .exit)) (version ∷ (bytesOf 2 follow ++ (n ∷ []))) 0 r ⌝ }
 {
-    let count = put_byte(buffer, 0, 1);
-    let variables = put_number(buffer, count, follow);
+    let count = put_byte(buffer, 0, version);
+    let variables = put_number(buffer, count, follow, 2);
     put_byte(buffer, variables, n)
 }
 
-// The sheet of the network that the arrays hold, at the start of the buffer; how many bytes it has.
-pub fn write_into<'a>(
-    n: usize,
-    sizes: &'a [u8; 16],
-    stated: &'a [u16; 16],
-    rows: &'a [u16; 4096],
-    buffer: &mut [u8],
-) -> usize
-    requires { ⌜ Sound (heldBy n (now sizes) (now stated) (now rows)) ⌝ }
-    requires { ⌜ (n ≤ 16) × ((i : ℕ) → getD (now sizes) i 0 ≤ 16) ⌝ }
-    requires { ⌜ length (bytesHeld n (now sizes) (now stated) (now rows)) ≤ length (now buffer) ⌝ }
-    ensures { λ r. ⌜ r ≡ length (bytesHeld n (now (sizes .entry)) (now (stated .entry)) (now (rows .entry))) ⌝ }
-    ensures { λ r. ⌜ now (buffer .exit) ≡ bytesHeld n (now (sizes .entry)) (now (stated .entry)) (now (rows .entry))
-        ++ drop (length (bytesHeld n (now (sizes .entry)) (now (stated .entry)) (now (rows .entry)))) (now (buffer .entry)) ⌝ }
+// The sheet of the network that a head and rows hold, at the start of the buffer; how many bytes it has.
+pub fn write_into(head: Head, rows: &Rows, buffer: &mut [u8]) -> usize
+    requires { ⌜ soundIn head (now rows) ≡ true ⌝ }
+    requires { ⌜ length (bytesHeld head (now rows)) ≤ length (now buffer) ⌝ }
+    ensures { λ r. ⌜ r ≡ length (bytesHeld head (now (rows .entry))) ⌝ }
+    ensures { λ r. ⌜ now (buffer .exit) ≡ bytesHeld head (now (rows .entry))
+        ++ drop (length (bytesHeld head (now (rows .entry)))) (now (buffer .entry)) ⌝ }
 {
-    let bytes = sheet_length(n, sizes, stated);
-    let first_size = write_header(n as u8, (bytes - 3) as u16, buffer);
-    let past_sizes = write_sizes(n, sizes, buffer, first_size);
-    let tables = table_count(n, stated) as u8;
+    let n = head.n;
+    let bytes = sheet_length(n, &head.sizes, &head.stated);
+    let first_size = write_header(VERSION, n as u8, (bytes - 3) as u32, buffer);
+    let past_sizes = write_sizes(n, &head.sizes, buffer, first_size);
+    let tables = table_count(n, &head.stated) as u8;
     let first_table = put_byte(buffer, past_sizes, tables);
-    write_tables(n, sizes, stated, rows, buffer, first_table)
+    write_tables(
+        ROW_BYTES,
+        n,
+        &head.sizes,
+        &head.stated,
+        rows,
+        buffer,
+        first_table,
+    )
 }

@@ -1,21 +1,19 @@
--- The loop's invariant: the lists of the variables before the `i`th stand in the array.
+-- The loop's invariant: the domains of the variables before the `i`th stand in the array.
 use Prim.Native.Nat.{ℕ, _-_}
 use borrow.Author.Needs.{needs}
 use lib.Dec.{ltb}
 use lib.ListN.{getD}
 use Rattle.bounded.proofs.Fill.{Filled, filled-none, filled-more, filled-end}
-use Rattle.words.specs.Word.{word}
+use Rattle.words.specs.Word.{width, word}
+use Rattle.pairs.specs.Pairs.{variables}
 use Rattle.state_read.proofs.full_domains.Statement.{statement}
 use Rattle.state_read.proofs.full_domains.Tie as tie
-use Rattle.state_read.proofs.full_domains.Reads as reads
-use Rattle.state_read.proofs.full_domains.Lts as lts
-use Rattle.words.proofs.full.Reads as full-reads
 
 abbrev Inv-loop : tie.InvT-loop
-Inv-loop sizes domains₀ i₀ domains i = Filled 16 (λ (k : ℕ). word 16 (λ (a : ℕ). ltb a (getD sizes k 0))) domains i
+Inv-loop sizes domains₀ i₀ domains i = Filled variables (λ (k : ℕ). word width (λ (a : ℕ). ltb a (getD sizes k 0))) domains i
 
 abbrev μ-loop : tie.MeasureT-loop
-μ-loop sizes domains₀ i₀ domains i = 16 - i
+μ-loop sizes domains₀ i₀ domains i = variables - i
 
 loop-holds : tie.Need-loop-holds Inv-loop μ-loop
 loop-holds c = search (filled-none, needs)

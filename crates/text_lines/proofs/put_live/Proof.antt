@@ -2,8 +2,8 @@
 use borrow.Author.Needs.{needs}
 use native.Mathlib.Omega.{arith}
 use lib.ListN.{length-append}
-use Rattle.buffers.specs.Digits.{hex4}
 use Rattle.buffers.proofs.Laws.{wrote-then}
+use Rattle.buffers.proofs.Digits.{length-hex}
 use Rattle.text_lines.specs.Text.{ascii, liveLine}
 use Rattle.text_lines.proofs.put_live.Statement.{statement}
 use Rattle.text_lines.proofs.put_live.Tie as tie
@@ -16,13 +16,16 @@ put-text-requires : tie.Need-put-text-requires
 unfolding liveLine ascii
 put-text-requires c κs = omega (arith, simp length-append at (c .before .before .before .before .before .before .before .before .pre))
 
-put-hex4-requires : tie.Need-put-hex4-requires
-unfolding liveLine ascii hex4
-put-hex4-requires c κs = omega (arith, simp length-append at (c .before .before .before .before .before .before .before .before .before .before .before .before .pre))
+put-hex-requires : tie.Need-put-hex-requires
+unfolding liveLine ascii
+put-hex-requires c κs = omega (arith, simp (length-append, length-hex) at (c .before .before .before .before .before .before .before .before .before .before .before .before .pre))
 
 put-text-requires-2 : tie.Need-put-text-requires-2
 unfolding liveLine ascii
-put-text-requires-2 c κs = omega (arith, simp length-append at (c .before .before .before .before .before .before .before .before .before .before .before .before .before .before .before .before .before .pre))
+put-text-requires-2 c κs =
+    let h = c .before .before .before .before in
+    omega
+    (arith, simp (length-append, length-hex) at (h .before .before .before .before .before .before .before .before .before .before .before .before .before .pre), simp length-hex at (h .put-hex .ensures .ends))
 
 returns : tie.Need-returns
 unfolding liveLine ascii
@@ -31,7 +34,7 @@ returns c =
     let h = n .before .before .before .before .before in
     let l = h .before .before .before .before in
     let f = l .before .before .before .before .before in
-    wrote-then (f .put-titled .ensures) (wrote-then (l .put-text .ensures) (wrote-then (h .put-hex4 .ensures) (n .put-text2 .ensures)))
+    wrote-then (f .put-titled .ensures) (wrote-then (l .put-text .ensures) (wrote-then (h .put-hex .ensures) (n .put-text2 .ensures)))
 
 pub put-live-spec : {M : Type 1} → statement M
 put-live-spec =
@@ -41,7 +44,7 @@ put-live-spec =
     put-titled-requires
     (λ c. search needs)
     put-text-requires
-    put-hex4-requires
+    put-hex-requires
     (λ c. search needs)
     put-text-requires-2
     (λ c. search needs)

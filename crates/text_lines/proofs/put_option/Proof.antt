@@ -2,7 +2,6 @@
 use borrow.Author.Needs.{needs}
 use native.Mathlib.Omega.{arith}
 use lib.ListN.{length-append}
-use Rattle.buffers.specs.Digits.{hex4}
 use Rattle.buffers.proofs.Digits.{length-decimal-next}
 use Rattle.text_lines.specs.Text.{ascii, pairLine, liveLine}
 use Rattle.text_lines.proofs.Laws.{option-live, option-follows}
@@ -10,7 +9,7 @@ use Rattle.text_lines.proofs.put_option.Statement.{statement}
 use Rattle.text_lines.proofs.put_option.Tie as tie
 
 put-live-requires : tie.Need-put-live-requires
-unfolding liveLine hex4 ascii
+unfolding liveLine ascii
 put-live-requires c κs =
     let s = c .before .before .before in
     let room = rw (option-live _ _ (s .args .list) (c .before .if1 .taken)) at (s .pre .1) in

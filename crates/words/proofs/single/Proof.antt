@@ -1,4 +1,4 @@
--- A 1 moved to the place of `v`, which is below 16, is not lost: `single-is`.
+-- A 1 moved to the place of `v`, which is below 32, is not lost: `single-is`.
 use Rattle.words.proofs.Machine.{machine}
 use Rattle.words.proofs.single.Statement.{statement}
 use Rattle.words.proofs.single.Tie as tie

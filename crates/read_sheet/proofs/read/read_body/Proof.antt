@@ -17,7 +17,9 @@ at-n : (c : tie.After-known-told) → Counted (now (c .before .before .before .b
 at-n c = counted _ (read-got (c .before .before .before .byte-field .ensures) (c .before .count .given .1))
 
 read-sizes-requires : tie.Need-read-sizes-requires
-read-sizes-requires c κs = (at-n (c .before) .few, c .before .before .before .before .before .before .pre .0)
+read-sizes-requires c κs =
+    let start = c .before .before .before .before .before .before in
+    (at-n (c .before) .few, start .pre .1, start .pre .2)
 
 returns-2 : tie.Need-returns-2
 returns-2 c =
@@ -28,7 +30,8 @@ returns-2 c =
 at-sizes : (c : tie.After-known-told2)
     → (let sizes = c .before .before .before in
     let n = sizes .before .before .before in
-    Listed (now (n .before .before .before .before .args .bytes)) (n .count .given .0 .0) (sizes .read-sizes .last .1 .1 .0)
+    let args = n .before .before .before .before .args in
+    Listed (now (args .bytes)) (args .most) (n .count .given .0 .0) (sizes .read-sizes .last .1 .1 .1 .0)
     (c .before .listed .given .0 .1 .0))
 at-sizes c =
     let sizes = c .before .before .before in
@@ -49,7 +52,8 @@ returns-3 c =
 at-p : (c : tie.After-known-told3)
     → (let sizes = c .before .before .before .before .before .before .before in
     let n = sizes .before .before .before in
-    Constrained (now (n .before .before .before .before .args .bytes)) (n .count .given .0 .0) (sizes .read-sizes .last .1 .1 .0)
+    let args = n .before .before .before .before .args in
+    Constrained (now (args .bytes)) (args .most) (n .count .given .0 .0) (sizes .read-sizes .last .1 .1 .1 .0)
     (c .before .constraints .given .0 .0) (c .before .constraints .given .0 .1 .0))
 at-p c =
     constrained _ (at-sizes (c .before .before .before .before))
@@ -59,7 +63,7 @@ read-tables-requires : tie.Need-read-tables-requires
 read-tables-requires c κs =
     let p = c .before .before .before in
     let start = p .before .before .before .before .before .before .before .before .before .before .before .before .before .before in
-    (at-p p .inside, at-p p .few, start .pre .1, start .pre .2, at-p p .sized)
+    (at-p p .inside, start .pre .0, at-p p .few, start .pre .3, start .pre .4, at-p p .sized)
 
 returns-4 : tie.Need-returns-4
 returns-4 c =
@@ -72,8 +76,9 @@ at-end : (c : tie.After-known-told4)
     → (let tables = c .before .before .before in
     let sizes = tables .before .before .before .before .before .before .before .before .before .before .before in
     let n = sizes .before .before .before in
-    Tabled (now (n .before .before .before .before .args .bytes)) (n .count .given .0 .0) (sizes .read-sizes .last .1 .1 .0)
-    (tables .read-tables .last .1 .1 .1 .1 .1 .0) (tables .read-tables .last .1 .1 .1 .1 .1 .1 .0) (c .before .all .given .0 .1 .0))
+    let args = n .before .before .before .before .args in
+    Tabled (now (args .bytes)) (args .k) (args .most) (n .count .given .0 .0) (sizes .read-sizes .last .1 .1 .1 .0)
+    (tables .read-tables .last .1 .1 .1 .1 .1 .1 .0) (tables .read-tables .last .1 .1 .1 .1 .1 .1 .1 .0) (c .before .all .given .0 .1 .0))
 at-end c =
     let tables = c .before .before .before in
     tabled-all _ (at-p (tables .before .before .before .before)) (tables .read-tables .ensures) (c .before .all .given .1)

@@ -8,10 +8,10 @@ use Rattle.read_sheet.proofs.sizes.read_sizes.Statement.{statement}
 use Rattle.read_sheet.proofs.sizes.read_sizes.Tie as tie
 
 abbrev Inv-loop : tie.InvT-loop
-Inv-loop bytes n sizes₀ at₀ i₀ sizes at i = SizesSoFar bytes n sizes at i
+Inv-loop bytes n most sizes₀ at₀ i₀ sizes at i = SizesSoFar bytes n most sizes at i
 
 abbrev μ-loop : tie.MeasureT-loop
-μ-loop bytes n sizes₀ at₀ i₀ sizes at i = n - i
+μ-loop bytes n most sizes₀ at₀ i₀ sizes at i = n - i
 
 loop-holds : tie.Need-loop-holds Inv-loop μ-loop
 loop-holds c = search (sizes-none, needs)
@@ -23,11 +23,11 @@ returns c =
     (read-bad (c .before .before .byte-field .ensures) (c .enum-told .given .1)))
 
 cast-sizes : tie.Need-cast-sizes Inv-loop μ-loop
-cast-sizes c = size-fits _ _ (read-got (c .before .before .before .byte-field .ensures) (c .before .size .given .1))
+cast-sizes c = size-fits _ _ (omega arith) (read-got (c .before .before .before .byte-field .ensures) (c .before .size .given .1))
 
 loop-again : tie.Need-loop-again Inv-loop μ-loop
 loop-again c =
-    sizes-more (c .before .before .before .before .before .loop .inv) (omega arith) (omega arith)
+    sizes-more (c .before .before .before .before .before .loop .inv) (omega arith) (omega arith) (omega arith)
     (read-got (c .before .before .before .byte-field .ensures) (c .before .size .given .1))
 
 returns-2 : tie.Need-returns-2 Inv-loop μ-loop

@@ -3,8 +3,8 @@ use native.Mathlib.Omega.{arith}
 use borrow.Author.Needs.{needs}
 use mathlib.Core.Path.{_≡_, refl}
 use Prim.Native.Nat.{ℕ, _-_, _≤_}
+use Rattle.bounded.proofs.Fold.{test-joins}
 use Rattle.bounded.specs.Fold.{every}
-use Rattle.rows.proofs.Loops.{test-joins}
 use lib.ListN.{getD}
 use Rattle.solutions.specs.Choices.{domainOpen, domainsOpen}
 use Rattle.solutions.proofs.values.domains_open.Statement.{statement}

@@ -5,10 +5,10 @@ use native.Mathlib.Omega.{arith}
 use lib.Dec.{eqb}
 use lib.ListN.{getD}
 use borrow.Author.Needs.{needs}
+use Rattle.bounded.proofs.Fold.{test-joins}
 use Rattle.bounded.specs.Bool.{and, implies, not}
 use Rattle.bounded.specs.Fold.{every}
 use Rattle.words.specs.Word.{has}
-use Rattle.rows.proofs.Loops.{test-joins}
 use Rattle.solutions.specs.Choices.{freeApart}
 use Rattle.solutions.proofs.Choices.{side-pairs}
 use Rattle.solutions.proofs.values.free_apart.Statement.{statement}
@@ -32,7 +32,7 @@ loop-again c =
     let entry = turn .before in (
       omega arith,
       test-joins _ _ _ _ (turn .loop .inv .1)
-          (c .side-apart .ensures ∙ side-pairs _ _ _ _ _ (entry .before .pre) (entry .free-variables .ensures)),
+          (c .side-apart .ensures ∙ side-pairs _ _ _ _ (omega arith) (entry .free-variables .ensures) _),
     )
 
 returns : tie.Need-returns Inv-loop μ-loop

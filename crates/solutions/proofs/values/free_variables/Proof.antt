@@ -1,12 +1,11 @@
--- The loop's invariant: `free` holds those of the first `i` variables. A turn adds one digit: `digit-joins`.
-use mathlib.Core.Path.{_≡_, sym}
-use Prim.Native.Nat.{ℕ, _-_, _≤_}
+-- The loop's invariant: `free` holds those of the first `i` variables. A turn adds one bit: `bit-joins`.
+use mathlib.Core.Path.{_≡_, refl, sym}
+use Prim.Native.Nat.{_-_, _≤_}
 use native.Mathlib.Omega.{arith}
 use lib.Pow.{pow-mono}
 use borrow.Author.Needs.{needs}
 use Rattle.words.proofs.Laws.{word-zero}
-use Rattle.rows.proofs.Loops.{digit-joins}
-use Rattle.rows.proofs.Partners.{byte-bit}
+use Rattle.pairs.proofs.Runs.{bit-joins}
 use Rattle.solutions.specs.Choices.{freeWord}
 use Rattle.solutions.proofs.values.free_variables.Statement.{statement}
 use Rattle.solutions.proofs.values.free_variables.Tie as tie
@@ -23,7 +22,7 @@ loop-holds c = (omega arith, sym (word-zero _))
 
 loop-again : tie.Need-loop-again Inv-loop μ-loop
 unfolding freeWord
-loop-again c = (omega arith, digit-joins 65536 _ _ (pow-mono {j = 16} (omega arith)) (c .before .before .loop .inv .1) (byte-bit _))
+loop-again c = (omega arith, bit-joins 4294967296 _ _ _ _ (pow-mono {j = 32} (omega arith)) (c .before .before .loop .inv .1) refl)
 
 returns : tie.Need-returns Inv-loop μ-loop
 returns c = rw (let e : c .before .loop .i ≡ c .before .before .args .n = omega arith in e) at (c .before .loop .inv .1)

@@ -1,12 +1,12 @@
 -- The loop's invariant: the first `i` options are fresh. A turn tests one more.
 use mathlib.Core.Path.{_≡_, refl}
 use Prim.Native.Nat.{ℕ, _-_, _≤_}
-use Rattle.bounded.specs.Fold.{every}
-use Rattle.rows.proofs.Loops.{test-joins}
-use lib.ListN.{getD}
-use Rattle.solutions.specs.Choices.{freshValue, freshParts}
 use native.Mathlib.Omega.{arith}
+use lib.ListN.{getD}
 use borrow.Author.Needs.{needs}
+use Rattle.bounded.proofs.Fold.{test-joins}
+use Rattle.bounded.specs.Fold.{every}
+use Rattle.solutions.specs.Choices.{freshValue, freshParts}
 use Rattle.solutions.proofs.values.fresh_parts.Statement.{statement}
 use Rattle.solutions.proofs.values.fresh_parts.Tie as tie
 
@@ -24,11 +24,11 @@ fresh-value-requires : tie.Need-fresh-value-requires Inv-loop μ-loop
 fresh-value-requires c κs = c .before .before .before .before .before .pre .1 _
 
 loop-again : tie.Need-loop-again Inv-loop μ-loop
-loop-again c = (omega arith, test-joins _ _ _ _ (c .before .before .before .before .before .loop .inv .1) (c .fresh-value .ensures))
+loop-again c = (omega arith, test-joins _ _ _ _ (c .before .before .loop .inv .1) (c .fresh-value .ensures))
 
 returns : tie.Need-returns Inv-loop μ-loop
 unfolding freshParts
-returns c = rw (let e : c .before .loop .i ≡ c .before .before .args .n = omega arith in e) at (c .before .loop .inv .1)
+returns c = rw (let e : c .before .loop .i ≡ c .before .before .before .before .before .args .head .n = omega arith in e) at (c .before .loop .inv .1)
 
 pub fresh-parts-spec : {M : Type 1} → statement M
 fresh-parts-spec =

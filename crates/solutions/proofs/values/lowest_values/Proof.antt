@@ -4,13 +4,14 @@ use borrow.Author.Needs.{needs}
 use mathlib.Core.Path.{_≡_}
 use Prim.Native.Nat.{_-_, _≤_}
 use Rattle.bounded.specs.Table.{tabulate}
+use Rattle.pairs.specs.Pairs.{variables}
 use Rattle.solutions.specs.Choices.{lowestOf}
 use Rattle.solutions.proofs.Choices.{lowest-none, lowest-more}
 use Rattle.solutions.proofs.values.lowest_values.Statement.{statement}
 use Rattle.solutions.proofs.values.lowest_values.Tie as tie
 
 abbrev Inv-loop : tie.InvT-loop
-Inv-loop n domains values₀ i₀ values i = (i ≤ n) × (values ≡ tabulate 16 (lowestOf i domains))
+Inv-loop n domains values₀ i₀ values i = (i ≤ n) × (values ≡ tabulate variables (lowestOf i domains))
 
 abbrev μ-loop : tie.MeasureT-loop
 μ-loop n domains values₀ i₀ values i = n - i

@@ -1,28 +1,28 @@
 -- A live option keeps its value; a follower gets the partner of its leader's.
 use native.Mathlib.Omega.{arith}
 use mathlib.Core.Path.{_∙_}
-use Prim.Native.Nat.{_-_, _<_}
-use lib.ListN.{length, getD}
-use Rattle.solutions.proofs.Choices.{completed-live, completed-follower}
 use Prim.Native.Nat.{_-_}
+use Rattle.solutions.specs.Choices.{LeaderReady}
+use Rattle.solutions.proofs.Choices.{completed-live, completed-follower}
 use borrow.Author.Needs.{needs}
 use Rattle.solutions.proofs.values.value_completed.Statement.{statement}
 use Rattle.solutions.proofs.values.value_completed.Tie as tie
 
 -- The leader, counted from 0, is a variable that has a value.
 led : (c : tie.After-wide)
-    → (c .wide .result - 1 < 16) × (c .wide .result - 1 < length (c .before .before .before .before .args .values .now))
-    × (getD (c .before .before .before .before .args .values .now) (c .wide .result - 1) 0 < 16)
+    → LeaderReady (c .before .before .before .before .args .i) (c .wide .result - 1) (c .before .before .before .before .args .values .now)
 led c = c .before .before .before .before .pre .2 (c .wide .result - 1) (omega (arith, c .wide .ensures, c .before .if1 .left))
 
 returns : tie.Need-returns
 returns c = completed-live _ _ _ _ _ (c .before .if1 .taken)
 
 shared-slice-read-wide : tie.Need-shared-slice-read-wide
-shared-slice-read-wide c = led (c .before .before) .1
+shared-slice-read-wide c = led (c .before .before) .leader-read
 
 partner-of-requires : tie.Need-partner-of-requires
-partner-of-requires c κs = (led (c .before .before .before) .0, c .before .before .before .before .before .before .before .pre .0, omega (arith, c .wide2 .ensures, led (c .before .before .before) .2))
+partner-of-requires c κs =
+    let l = led (c .before .before .before) in
+    (l .leader-in, c .before .before .before .before .before .before .before .pre .0, l .leader-other, omega (arith, c .wide2 .ensures, l .leader-fits))
 
 returns-2 : tie.Need-returns-2
 returns-2 c = c .partner-of .ensures

@@ -1,22 +1,22 @@
 -- The loop's invariant: the first `i` domains lie within their sizes. A turn tests one more.
 use mathlib.Core.Path.{_≡_, refl}
 use Prim.Native.Nat.{ℕ, _-_, _≤_}
-use Rattle.bounded.specs.Fold.{every}
-use Rattle.rows.proofs.Loops.{test-joins}
+use native.Mathlib.Omega.{arith}
 use lib.ListN.{getD}
+use borrow.Author.Needs.{needs}
+use Rattle.bounded.proofs.Fold.{test-joins}
+use Rattle.bounded.specs.Fold.{every}
+use Rattle.pairs.specs.Pairs.{variables}
 use Rattle.soundness.specs.Parts.{within, domainsFit}
 use Rattle.soundness.proofs.Tests.{within-same}
-use mathlib.Core.Path.{_≡_, refl}
-use native.Mathlib.Omega.{arith}
-use borrow.Author.Needs.{needs}
 use Rattle.soundness.proofs.sound.domains_sound.Statement.{statement}
 use Rattle.soundness.proofs.sound.domains_sound.Tie as tie
 
 abbrev Inv-loop : tie.InvT-loop
-Inv-loop sizes domains all₀ i₀ all i = (i ≤ 16) × (all ≡ every i (λ (k : ℕ). within (getD domains k 0) (getD sizes k 0)))
+Inv-loop sizes domains all₀ i₀ all i = (i ≤ variables) × (all ≡ every i (λ (k : ℕ). within (getD domains k 0) (getD sizes k 0)))
 
 abbrev μ-loop : tie.MeasureT-loop
-μ-loop sizes domains all₀ i₀ all i = 16 - i
+μ-loop sizes domains all₀ i₀ all i = variables - i
 
 loop-holds : tie.Need-loop-holds Inv-loop μ-loop
 unfolding every
@@ -34,7 +34,7 @@ loop-again c = (
 
 returns : tie.Need-returns Inv-loop μ-loop
 unfolding domainsFit
-returns c = rw (let e : c .before .loop .i ≡ 16 = omega arith in e) at (c .before .loop .inv .1)
+returns c = rw (let e : c .before .loop .i ≡ variables = omega arith in e) at (c .before .loop .inv .1)
 
 pub domains-sound-spec : {M : Type 1} → statement M
 domains-sound-spec =

@@ -1,8 +1,8 @@
 -- A free variable passes; another is tested with its leader, whose number counts from 1.
-use native.Mathlib.Omega.{arith}
 use mathlib.Core.Path.{_∙_}
-use Rattle.soundness.proofs.Tests.{variable-free, variable-led}
+use native.Mathlib.Omega.{arith}
 use borrow.Author.Needs.{needs}
+use Rattle.soundness.proofs.Tests.{variable-free, variable-led}
 use Rattle.soundness.proofs.sound.free_or_sound.Statement.{statement}
 use Rattle.soundness.proofs.sound.free_or_sound.Tie as tie
 

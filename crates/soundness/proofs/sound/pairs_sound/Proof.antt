@@ -3,17 +3,18 @@ use native.Mathlib.Omega.{arith}
 use borrow.Author.Needs.{needs}
 use mathlib.Core.Path.{_≡_, refl}
 use Prim.Native.Nat.{_-_, _≤_}
+use Rattle.bounded.proofs.Fold.{test-joins}
 use Rattle.bounded.specs.Fold.{every}
-use Rattle.rows.proofs.Loops.{test-joins}
+use Rattle.pairs.specs.Pairs.{variables}
 use Rattle.soundness.specs.Parts.{variableFits, pairsFit}
 use Rattle.soundness.proofs.sound.pairs_sound.Statement.{statement}
 use Rattle.soundness.proofs.sound.pairs_sound.Tie as tie
 
 abbrev Inv-loop : tie.InvT-loop
-Inv-loop n stated all₀ i₀ all i = (i ≤ 16) × (all ≡ every i (variableFits n stated))
+Inv-loop n stated all₀ i₀ all i = (i ≤ variables) × (all ≡ every i (variableFits n stated))
 
 abbrev μ-loop : tie.MeasureT-loop
-μ-loop n stated all₀ i₀ all i = 16 - i
+μ-loop n stated all₀ i₀ all i = variables - i
 
 loop-holds : tie.Need-loop-holds Inv-loop μ-loop
 unfolding every
@@ -24,7 +25,7 @@ loop-again c = (omega arith, test-joins _ _ _ _ (c .before .before .loop .inv .1
 
 returns : tie.Need-returns Inv-loop μ-loop
 unfolding pairsFit
-returns c = rw (let e : c .before .loop .i ≡ 16 = omega arith in e) at (c .before .loop .inv .1)
+returns c = rw (let e : c .before .loop .i ≡ variables = omega arith in e) at (c .before .loop .inv .1)
 
 pub pairs-sound-spec : {M : Type 1} → statement M
 pairs-sound-spec =

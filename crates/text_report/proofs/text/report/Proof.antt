@@ -17,7 +17,7 @@ use Rattle.state_cut.proofs.cut_parts.Reads as cut-parts-reads
 written-requires : tie.Need-written-requires
 written-requires c κs =
     printable-answer _ (λ k. omega (arith, c .before .before .shared-slice-known .given k)) (c .cut-parts .result) _ (c .cut-parts .ensures)
-    (λ k. let f : Fits w8 (getD (c .cut-parts .result .leaders) k 0) = search needs in f .fits)
+    (λ k. let f : Fits w8 (getD (c .cut-parts .result .head .leaders) k 0) = search needs in f .fits)
     (λ k. let f : Fits w8 (getD (c .cut-parts .result .solution) k 0) = search needs in f .fits)
 
 returns : tie.Need-returns

@@ -24,13 +24,13 @@ returns c = λ rows.
 put-cut-requires : tie.Need-put-cut-requires
 unfolding cutPartsTold
 put-cut-requires c κs =
-    let t = c .before .before .before .before .before .before .before in
+    let t = c .before .before .before .before .before .before .before .before in
     let s = t .before .before in
     (s .pre [] .options-le, omega (arith, rw (accepted-text (s .args .cut) _ (t .enum-told .given .1)) at (text-fits _ (s .pre []))))
 
 returns-2 : tie.Need-returns-2
 returns-2 c = λ rows.
-    let t = c .before .before .before .before .before .before .before .before .before in
+    let t = c .before .before .before .before .before .before .before .before .before .before in
     let s = t .before .before in
     rw (accepted-text (s .args .cut) _ (t .enum-told .given .1)) (printed 512 (c .before .put-cut .ensures))
 

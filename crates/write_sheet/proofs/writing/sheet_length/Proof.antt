@@ -1,5 +1,5 @@
 -- The loop's invariant: the bytes of the tables whose first variable is below `i` are counted. The count is the sheet's: `length-held`.
-use mathlib.Core.Path.{_≡_, sym, _∙_, ap}
+use mathlib.Core.Path.{_≡_, _∙_, ap}
 use Prim.Native.Nat.{ℕ, _+_, _-_, _*_, _≤_}
 use native.Mathlib.Omega.{arith}
 use lib.ListN.{getD}
@@ -10,27 +10,30 @@ use Rattle.write_sheet.proofs.writing.sheet_length.Statement.{statement
 use Rattle.write_sheet.proofs.writing.sheet_length.Tie as tie
 
 abbrev Inv-loop : tie.InvT-loop
-Inv-loop n sizes stated bytes₀ i₀ bytes i = (i ≤ n) × (bytes ≡ 5 + n + tablesLength i sizes stated) × (bytes ≤ 21 + 8192 * i)
+Inv-loop n sizes stated bytes₀ i₀ bytes i = (i ≤ n) × (bytes ≡ 5 + n + tablesLength 2 i sizes stated) × (bytes ≤ 21 + 32768 * i)
 
 abbrev μ-loop : tie.MeasureT-loop
 μ-loop n sizes stated bytes₀ i₀ bytes i = n - i
 
 loop-holds : tie.Need-loop-holds Inv-loop μ-loop
-loop-holds c = let none = bytes-none (c .args .sizes .now) (c .args .stated .now) in (omega arith, omega arith, omega arith)
+loop-holds c = let none = bytes-none 2 (c .args .sizes .now) (c .args .stated .now) in (omega arith, omega arith, omega arith)
 
 loop-again : tie.Need-loop-again Inv-loop μ-loop
 loop-again c =
     let args = c .before .before .before .before .before .before .args in
     let i = c .before .before .before .before .before .loop .i in
-    let more = bytes-more i (args .sizes .now) (args .stated .now) in
+    let more = bytes-more 2 (args .sizes .now) (args .stated .now) i in
     let own = c .tables-length .ensures .0 ∙ ap (λ (k : ℕ). (2 + 2 * getD (args .sizes .now) i 0) * k) (c .before .later .ensures .0) in
     (omega arith, omega arith, omega arith)
 
 returns : tie.Need-returns Inv-loop μ-loop
 unfolding sheetLength
-returns c rows =
-    (rw (let e : c .before .loop .i ≡ c .before .before .args .n = omega arith in e) at (c .before .loop .inv .1))
-    ∙ sym (length-held _ _ _ rows (c .before .before .pre .0) (c .before .before .pre .1))
+returns c h rows n sizes stated =
+    let s = c .before .before in
+    let e : c .before .loop .i ≡ h .n = omega arith in
+    let counted = rw (e, ← sizes, ← stated) at (c .before .loop .inv .1) in
+    let held = length-held h rows (omega (arith, s .pre .0)) (rw (stated, n) (s .pre .1)) in
+    omega arith
 
 pub sheet-length-spec : {M : Type 1} → statement M
 sheet-length-spec =

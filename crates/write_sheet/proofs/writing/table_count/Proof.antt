@@ -9,7 +9,7 @@ use Rattle.write_sheet.proofs.writing.table_count.Statement.{statement}
 use Rattle.write_sheet.proofs.writing.table_count.Tie as tie
 
 abbrev Inv-loop : tie.InvT-loop
-Inv-loop n stated tables₀ i₀ tables i = (i ≤ n) × (tables ≡ tableCount i stated) × (tables ≤ 16 * i)
+Inv-loop n stated tables₀ i₀ tables i = (i ≤ n) × (tables ≡ tableCount i stated) × (tables ≤ 32 * i)
 
 abbrev μ-loop : tie.MeasureT-loop
 μ-loop n stated tables₀ i₀ tables i = n - i

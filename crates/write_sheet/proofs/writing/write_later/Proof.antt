@@ -3,19 +3,18 @@ use mathlib.Core.Path.{_≡_}
 use Prim.Native.Nat.{_+_, _-_, _≤_}
 use native.Mathlib.Omega.{arith}
 use borrow.Author.Needs.{needs}
-use Rattle.rows.specs.Rows.{rowAt}
 use Rattle.buffers.specs.Wrote.{Wrote}
-use Rattle.write_sheet.specs.Texts.{joined, tableText, laterText}
+use Rattle.write_sheet.specs.Texts.{joined, rowOf, tableText, laterText}
 use Rattle.write_sheet.proofs.Texts.{wrote-start, wrote-room, wrote-next}
 use Rattle.write_sheet.proofs.writing.write_later.Statement.{statement}
 use Rattle.write_sheet.proofs.writing.write_later.Tie as tie
 
 abbrev Inv-loop : tie.InvT-loop
-Inv-loop i n sizes stated rows buffer₀ at next₀ j₀ buffer next j =
-    (i + 1 ≤ j) × (j ≤ n) × Wrote buffer₀ buffer (joined (i + 1) j (tableText sizes stated (rowAt 16 rows) i)) at next
+Inv-loop bytes n size stated i rows buffer₀ at next₀ j₀ buffer next j =
+    (i + 1 ≤ j) × (j ≤ n) × Wrote buffer₀ buffer (joined (i + 1) j (tableText bytes (rowOf rows) size stated i)) at next
 
 abbrev μ-loop : tie.MeasureT-loop
-μ-loop i n sizes stated rows buffer₀ at next₀ j₀ buffer next j = n - j
+μ-loop bytes n size stated i rows buffer₀ at next₀ j₀ buffer next j = n - j
 
 loop-holds : tie.Need-loop-holds Inv-loop μ-loop
 unfolding laterText

@@ -3,29 +3,28 @@ use mathlib.Core.Bool.{true}
 use mathlib.Core.Path.{_≡_, sym, _∙_}
 use Prim.Native.Nat.{_+_, _≤_}
 use native.Mathlib.Omega.{arith}
-use lib.ListN.{length, getD}
+use lib.ListN.{length}
 use borrow.Author.Needs.{needs}
 use borrow.Author.Tests.{not-true, not-false}
 use Rattle.words.specs.Word.{has}
-use Rattle.rows.specs.Rows.{rowAt}
-use Rattle.write_sheet.specs.Texts.{rowsText}
+use Rattle.write_sheet.specs.Texts.{rowOf, rowsText}
 use Rattle.buffers.proofs.Laws.{wrote-none}
 use Rattle.write_sheet.proofs.Texts.{wrote-table, table-stated, table-unstated}
 use Rattle.write_sheet.proofs.writing.write_table.Statement.{statement}
 use Rattle.write_sheet.proofs.writing.write_table.Tie as tie
 
 -- Past the test the pair is stated,
-stated-here : (c : tie.Else1) → let s = c .before .before .before .before .args in has (getD (s .stated .now) (s .i) 0) (s .j) ≡ true
+stated-here : (c : tie.Else1) → let s = c .before .before .before .args in has (s .stated) (s .j) ≡ true
 stated-here c = sym (c .before .member .ensures) ∙ not-false _ (c .if1 .left)
 
 -- and there is room for it and the rows.
 room-here : (c : tie.Else1)
-    → let s = c .before .before .before .before .args in
-    s .at + (2 + length (rowsText (getD (s .sizes .now) (s .i) 0) (rowAt 16 (s .rows .now) (s .i) (s .j)))) ≤ length (s .buffer .now)
-room-here c = let r = rw (table-stated _ _ _ _ _ (stated-here c)) at (c .before .before .before .before .pre .1) in omega arith
+    → let s = c .before .before .before .args in
+    s .at + (2 + length (rowsText (s .bytes) (rowOf (s .rows .now)) (s .size) (s .i) (s .j))) ≤ length (s .buffer .now)
+room-here c = let r = rw (table-stated _ _ _ _ _ _ (stated-here c)) at (c .before .before .before .pre .1) in omega arith
 
 returns : tie.Need-returns
-returns c = rw (table-unstated _ _ _ _ _ (sym (c .before .member .ensures) ∙ not-true _ (c .if1 .taken))) (wrote-none _ _ (omega arith))
+returns c = rw (table-unstated _ _ _ _ _ _ (sym (c .before .member .ensures) ∙ not-true _ (c .if1 .taken))) (wrote-none _ _ (omega arith))
 
 put-byte-requires : tie.Need-put-byte-requires
 put-byte-requires c κs = omega (arith, room-here (c .before))
@@ -34,20 +33,18 @@ put-byte-requires-2 : tie.Need-put-byte-requires-2
 put-byte-requires-2 c κs = omega (arith, room-here (c .before .before .before .before .before))
 
 write-rows-requires : tie.Need-write-rows-requires
-write-rows-requires c κs = let r = room-here (c .before .before .before .before .before .before .before .before .before .before) in search needs
+write-rows-requires c κs = let r = room-here (c .before .before .before .before .before .before .before .before .before) in search needs
 
 returns-2 : tie.Need-returns-2
 returns-2 c =
-    let p = c .before .before .before .before .before .before .before in
-    wrote-table _ _ _ (stated-here (p .before .before .before .before .before .before)) (omega arith) (omega arith)
+    let p = c .before .before .before .before .before .before in
+    wrote-table _ _ _ _ _ _ (stated-here (p .before .before .before .before .before .before)) (omega arith) (omega arith)
     (p .before .before .before .before .put-byte .ensures) (p .put-byte2 .ensures) (c .before .before .write-rows .ensures)
 
 pub write-table-spec : {M : Type 1} → statement M
 write-table-spec =
     tie.close
     (tie.spec
-    (λ c. search needs)
-    (λ c. search needs)
     (λ c κs. search needs)
     returns
     (λ c. search needs)
@@ -56,8 +53,6 @@ write-table-spec =
     (λ c. search needs)
     (λ c. search needs)
     put-byte-requires-2
-    (λ c. search needs)
-    (λ c. search needs)
     write-rows-requires
     (λ c. search needs)
     returns-2)

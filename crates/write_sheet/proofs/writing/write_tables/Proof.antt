@@ -1,21 +1,21 @@
 -- The loop's invariant: the tables whose first variable is below `i` are written.
 use mathlib.Core.Path.{_≡_}
-use Prim.Native.Nat.{_-_, _≤_}
+use Prim.Native.Nat.{ℕ, _-_, _≤_}
 use native.Mathlib.Omega.{arith}
+use lib.ListN.{getD}
 use borrow.Author.Needs.{needs}
-use Rattle.rows.specs.Rows.{rowAt}
 use Rattle.buffers.specs.Wrote.{Wrote}
-use Rattle.write_sheet.specs.Texts.{joined, laterText, tablesText}
+use Rattle.write_sheet.specs.Texts.{joined, rowOf, laterText, tablesText}
 use Rattle.write_sheet.proofs.Texts.{wrote-start, wrote-room, wrote-next}
 use Rattle.write_sheet.proofs.writing.write_tables.Statement.{statement}
 use Rattle.write_sheet.proofs.writing.write_tables.Tie as tie
 
 abbrev Inv-loop : tie.InvT-loop
-Inv-loop n sizes stated rows buffer₀ at next₀ i₀ buffer next i =
-    (i ≤ n) × Wrote buffer₀ buffer (joined 0 i (laterText n sizes stated (rowAt 16 rows))) at next
+Inv-loop bytes n sizes stated rows buffer₀ at next₀ i₀ buffer next i =
+    (i ≤ n) × Wrote buffer₀ buffer (joined 0 i (λ (k : ℕ). laterText bytes (rowOf rows) n (getD sizes k 0) (getD stated k 0) k)) at next
 
 abbrev μ-loop : tie.MeasureT-loop
-μ-loop n sizes stated rows buffer₀ at next₀ i₀ buffer next i = n - i
+μ-loop bytes n sizes stated rows buffer₀ at next₀ i₀ buffer next i = n - i
 
 loop-holds : tie.Need-loop-holds Inv-loop μ-loop
 unfolding tablesText
@@ -24,14 +24,17 @@ loop-holds c = (omega arith, wrote-start _ _ (omega arith))
 write-later-requires : tie.Need-write-later-requires Inv-loop μ-loop
 unfolding tablesText
 write-later-requires c κs =
-    let s = c .before .before .before .before in
-    let r = wrote-room _ (s .args .n) (omega arith) (omega arith) (s .pre .1) (c .before .before .loop .inv .1) in
-    let small = s .pre .0 .1 (c .before .before .loop .i) in
-    search needs
+    let l = c .before .before .before .before .before in
+    let s = l .before .before in
+    let r = wrote-room _ (s .args .n) (omega arith) (omega arith) (s .pre .1) (l .loop .inv .1) in
+    let small = s .pre .0 .2 (l .loop .i) in
+    rw (c .before .before .wide .ensures) (search needs)
 
 loop-again : tie.Need-loop-again Inv-loop μ-loop
 loop-again c =
-    (omega arith, wrote-next _ (omega arith) (c .before .before .before .before .before .loop .inv .1) (c .before .before .write-later .ensures))
+    let p = c .before .before in
+    let w = p .before .before .before in
+    (omega arith, wrote-next _ (omega arith) (w .before .before .before .loop .inv .1) (rw (w .wide .ensures) at (p .write-later .ensures)))
 
 returns : tie.Need-returns Inv-loop μ-loop
 unfolding tablesText
@@ -44,6 +47,10 @@ write-tables-spec =
     Inv-loop
     μ-loop
     loop-holds
+    (λ c. search needs)
+    (λ c κs. search needs)
+    (λ c. search needs)
+    (λ c. search needs)
     write-later-requires
     (λ c. search needs)
     (λ c. search needs)

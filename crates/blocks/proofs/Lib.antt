@@ -1,4 +1,0 @@
-pub mod Digits
-pub mod Stages
-pub mod Blocks
-pub mod Joins

@@ -1,2 +1,0 @@
--- Rows four at a time and sixteen at a time.
-pub mod Blocks

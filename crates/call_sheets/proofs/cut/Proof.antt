@@ -1,0 +1,12 @@
+use borrow.Author.Needs.{needs}
+use Rattle.state.specs.Cut.{cutTold}
+use Rattle.state_cut.specs.Parts.{cutPartsTold}
+use Rattle.call_sheets.proofs.cut.Statement.{statement}
+use Rattle.call_sheets.proofs.cut.Tie as tie
+
+returns : tie.Need-returns
+unfolding cutTold cutPartsTold
+returns c = rw (c .state-of .ensures) (c .before .before .before .cut-parts .ensures)
+
+pub cut-spec : {M : Type 1} → statement M
+cut-spec = tie.close (tie.spec (λ c κs. search needs) (λ c κs. search needs) returns)

@@ -1,0 +1,12 @@
+use borrow.Author.Needs.{needs}
+use Rattle.state.specs.Answers.{readTold}
+use Rattle.state_read.specs.Parts.{readPartsTold}
+use Rattle.call_sheets.proofs.read.Statement.{statement}
+use Rattle.call_sheets.proofs.read.Tie as tie
+
+returns : tie.Need-returns
+unfolding readTold readPartsTold
+returns c = rw (c .state-of .ensures) (c .before .before .read-parts .ensures)
+
+pub read-spec : {M : Type 1} → statement M
+read-spec = tie.close (tie.spec (λ c κs. search needs) (λ c κs. search needs) returns)

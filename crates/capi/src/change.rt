@@ -1,0 +1,89 @@
+// The calls that change a state where it is. A refused one stores nothing.
+use crate::lent::head_of;
+use crate::lent::put_changed;
+use crate::lent::whole;
+use answers::outcome_number;
+use head::Rows;
+use head::VARIABLES;
+use state::Worked;
+use state::eliminate_parts;
+use state::reduce_parts;
+ghost use mathlib.Core.Path.{_≡_};
+ghost use Rattle.state.specs.Steps.{stepped, reduced};
+ghost use Rattle.capi.specs.Answers.{stateWith, leftAs, Left};
+
+// A step or a reduction: the number that refuses, and how many steps were taken.
+#[repr(C)]
+pub struct SheetStepped {
+    pub number: u8,
+    pub steps: usize,
+}
+
+// Stores what a step or a reduction that is not refused has made of a head, and tells its number and count.
+fn left(
+    worked: Worked,
+    lists: &mut [u32; VARIABLES],
+    leaders: &mut [u8; VARIABLES],
+    stated: &mut [u32; VARIABLES],
+) -> SheetStepped
+    ensures { λ r. ⌜ Left worked r (now (lists .entry)) (now (leaders .entry)) (now (stated .entry)) (now (lists .exit)) (now (leaders .exit)) (now (stated .exit)) ⌝ }
+{
+    let outcome = worked.outcome;
+    let number = outcome_number(outcome);
+    let steps = worked.steps;
+    if number != 0 {
+        return SheetStepped { number, steps };
+    }
+    let head = worked.head;
+    put_changed(head, lists, leaders, stated);
+    SheetStepped { number, steps }
+}
+
+// One follow step in place, options counted from 1.
+#[no_mangle]
+pub extern "C" fn sheet_eliminate_parts(
+    n: usize,
+    sizes: &[u8; VARIABLES],
+    lists: &mut [u32; VARIABLES],
+    leaders: &mut [u8; VARIABLES],
+    stated: &mut [u32; VARIABLES],
+    rows: &mut Rows,
+    leader: usize,
+    follower: usize,
+) -> SheetStepped
+    ensures { λ r. ⌜
+        leftAs (stateWith n (now (sizes .entry)) (now (lists .exit)) (now (leaders .exit)) (now (stated .exit)) (now (rows .exit))) r
+        ≡ stepped (stateWith n (now (sizes .entry)) (now (lists .entry)) (now (leaders .entry)) (now (stated .entry)) (now (rows .entry))) leader follower
+        ⌝ }
+{
+    let given = *rows;
+    whole(given);
+    let worked = eliminate_parts(
+        head_of(n, sizes, lists, leaders, stated),
+        rows,
+        leader,
+        follower,
+    );
+    left(worked, lists, leaders, stated)
+}
+
+// The full reduction in place.
+#[no_mangle]
+pub extern "C" fn sheet_reduce_parts(
+    n: usize,
+    sizes: &[u8; VARIABLES],
+    lists: &mut [u32; VARIABLES],
+    leaders: &mut [u8; VARIABLES],
+    stated: &mut [u32; VARIABLES],
+    rows: &mut Rows,
+) -> SheetStepped
+    ensures { λ r. ⌜
+        leftAs (stateWith n (now (sizes .entry)) (now (lists .exit)) (now (leaders .exit)) (now (stated .exit)) (now (rows .exit))) r
+        ≡ reduced (stateWith n (now (sizes .entry)) (now (lists .entry)) (now (leaders .entry)) (now (stated .entry)) (now (rows .entry)))
+        ⌝ }
+{
+    let given = *rows;
+    whole(given);
+    let worked = reduce_parts(head_of(n, sizes, lists, leaders, stated), rows);
+    left(worked, lists, leaders, stated)
+}

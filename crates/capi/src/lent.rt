@@ -1,0 +1,75 @@
+// The arrays of a state that is lent.
+use head::Head;
+use head::Rows;
+use head::VARIABLES;
+ghost use mathlib.Core.Path.{_≡_};
+ghost use Rattle.head.specs.Held.{RowsShaped, zeroRows};
+ghost use Rattle.capi.specs.Answers.{headWith};
+
+// Its head, by value.
+pub(crate) fn head_of<'a>(
+    n: usize,
+    sizes: &'a [u8; VARIABLES],
+    lists: &'a [u32; VARIABLES],
+    leaders: &'a [u8; VARIABLES],
+    stated: &'a [u32; VARIABLES],
+) -> Head
+    ensures { λ r. ⌜ r ≡ headWith n (now (sizes .entry)) (now (lists .entry)) (now (leaders .entry)) (now (stated .entry)) ⌝ }
+{
+    let own_sizes = *sizes;
+    let own_lists = *lists;
+    let own_leaders = *leaders;
+    let own_stated = *stated;
+    Head {
+        n,
+        sizes: own_sizes,
+        domains: own_lists,
+        leaders: own_leaders,
+        stated: own_stated,
+    }
+}
+
+// What a type says of every array of rows, which is not known of one behind a reference.
+pub(crate) fn whole(rows: Rows)
+    ensures { λ r. ⌜ RowsShaped rows ⌝ }
+{}
+
+pub(crate) fn zero_rows(rows: &mut Rows)
+    ensures { λ _. ⌜ now (rows .exit) ≡ zeroRows ⌝ }
+{
+    *rows = [0; 3840];
+}
+
+// Stores what a step or a reduction changes of a head.
+pub(crate) fn put_changed(
+    head: Head,
+    lists: &mut [u32; VARIABLES],
+    leaders: &mut [u8; VARIABLES],
+    stated: &mut [u32; VARIABLES],
+)
+    ensures { λ _. ⌜ (now (lists .exit) ≡ head .domains) × (now (leaders .exit) ≡ head .leaders) × (now (stated .exit) ≡ head .stated) ⌝ }
+{
+    let new_lists = head.domains;
+    let new_leaders = head.leaders;
+    let new_stated = head.stated;
+    *lists = new_lists;
+    *leaders = new_leaders;
+    *stated = new_stated;
+}
+
+// Stores a whole head.
+pub(crate) fn put_head(
+    head: Head,
+    n: &mut usize,
+    sizes: &mut [u8; VARIABLES],
+    lists: &mut [u32; VARIABLES],
+    leaders: &mut [u8; VARIABLES],
+    stated: &mut [u32; VARIABLES],
+)
+    ensures { λ _. ⌜ headWith (now (n .exit)) (now (sizes .exit)) (now (lists .exit)) (now (leaders .exit)) (now (stated .exit)) ≡ head ⌝ }
+{
+    *n = head.n;
+    let new_sizes = head.sizes;
+    *sizes = new_sizes;
+    put_changed(head, lists, leaders, stated);
+}

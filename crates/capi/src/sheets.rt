@@ -1,0 +1,115 @@
+// The calls on the bytes of a sheet. Those that give a state store one whatever they answer: the zero state where the sheet is refused.
+use crate::lent::put_head;
+use crate::lent::zero_rows;
+use answers::read_number;
+use answers::read_place;
+use answers::verdict_kind;
+use head::Rows;
+use head::VARIABLES;
+use state_cut::cut_parts;
+use state_read::read_parts;
+ghost use mathlib.Core.Path.{_≡_};
+ghost use Rattle.state.specs.Read.{readSheet};
+ghost use Rattle.state.specs.Cut.{cutSheet};
+ghost use Rattle.text_report.specs.Text.{textOf};
+ghost use Rattle.text_report.specs.Printed.{Printed};
+ghost use Rattle.capi.specs.Answers.{stateWith, readOut, cutOut};
+
+// Reading: the number that refuses, and its place.
+#[repr(C)]
+pub struct SheetRead {
+    pub number: u8,
+    pub place: usize,
+}
+
+// Reading, the full reduction and the verdict: the number that refuses the sheet, its place, the steps, the kind of the verdict and the build shown; zero
+// but for number and place where the sheet is refused.
+#[repr(C)]
+pub struct SheetCut {
+    pub number: u8,
+    pub place: usize,
+    pub steps: usize,
+    pub kind: u8,
+    pub solution: [u8; 16],
+}
+
+// What sheetcut prints: how many bytes, and those, zero past them.
+#[repr(C)]
+pub struct SheetText {
+    pub length: usize,
+    pub bytes: [u8; 512],
+}
+
+// Reads a sheet's bytes into a state, whatever that held.
+#[no_mangle]
+pub extern "C" fn sheet_read_parts(
+    bytes: &[u8],
+    n: &mut usize,
+    sizes: &mut [u8; VARIABLES],
+    lists: &mut [u32; VARIABLES],
+    leaders: &mut [u8; VARIABLES],
+    stated: &mut [u32; VARIABLES],
+    rows: &mut Rows,
+) -> SheetRead
+    ensures { λ r. ⌜
+        (r ≡ readOut (readSheet (now (bytes .entry))))
+        × (stateWith (now (n .exit)) (now (sizes .exit)) (now (lists .exit)) (now (leaders .exit)) (now (stated .exit)) (now (rows .exit))
+        ≡ readSheet (now (bytes .entry)) .state)
+        ⌝ }
+{
+    zero_rows(rows);
+    let read = read_parts(bytes, rows);
+    let head = read.head;
+    put_head(head, n, sizes, lists, leaders, stated);
+    let outcome = read.outcome;
+    SheetRead {
+        number: read_number(outcome),
+        place: read_place(outcome),
+    }
+}
+
+// Reads into a state, reduces it and gives the verdict.
+#[no_mangle]
+pub extern "C" fn sheet_cut_parts(
+    bytes: &[u8],
+    n: &mut usize,
+    sizes: &mut [u8; VARIABLES],
+    lists: &mut [u32; VARIABLES],
+    leaders: &mut [u8; VARIABLES],
+    stated: &mut [u32; VARIABLES],
+    rows: &mut Rows,
+) -> SheetCut
+    ensures { λ r. ⌜
+        (r ≡ cutOut (cutSheet (now (bytes .entry))))
+        × (stateWith (now (n .exit)) (now (sizes .exit)) (now (lists .exit)) (now (leaders .exit)) (now (stated .exit)) (now (rows .exit))
+        ≡ cutSheet (now (bytes .entry)) .state)
+        ⌝ }
+{
+    zero_rows(rows);
+    let cut = cut_parts(bytes, rows);
+    let head = cut.head;
+    put_head(head, n, sizes, lists, leaders, stated);
+    let outcome = cut.outcome;
+    let verdict = cut.verdict;
+    let solution = cut.solution;
+    SheetCut {
+        number: read_number(outcome),
+        place: read_place(outcome),
+        steps: cut.steps,
+        kind: verdict_kind(verdict),
+        solution,
+    }
+}
+
+// The text of sheetcut for a sheet's bytes.
+#[no_mangle]
+pub extern "C" fn sheet_text(bytes: &[u8]) -> SheetText
+    ensures { λ r. ⌜ Printed 512 (textOf (now (bytes .entry))) (r .bytes) (r .length) ⌝ }
+{
+    let text = text_report::report(bytes);
+    let printed = text.bytes;
+    SheetText {
+        length: text.length,
+        bytes: printed,
+    }
+}

@@ -1,0 +1,3 @@
+-- The rows of pairs, each pair held once, for any number w of values.
+pub mod Pairs
+pub mod Frames

@@ -1,0 +1,22 @@
+// The array of rows, each pair held once: `row` and `partners` read it, `put` and `clear` store, from either side of a pair.
+mod read;
+mod run;
+mod store;
+
+pub use read::partners;
+pub use read::partners_within;
+pub use read::row;
+pub use run::joined;
+pub use run::place;
+pub use store::clear;
+pub use store::put;
+pub use store::put_column;
+pub use store::put_row;
+
+// How many variables there are at most.
+pub const VARIABLES: usize = 16;
+
+// A row for each value that a word can tell, for each of the 120 pairs.
+pub const PLACES: usize = 3840;
+
+pub type Rows = [u32; PLACES];

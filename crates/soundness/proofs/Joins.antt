@@ -1,0 +1,48 @@
+-- Runs of rows, as the tests on their union see them, for any number w of values; and where the rows past n begin.
+use mathlib.Core.Bool.{true, false}
+use mathlib.Core.List.{List}
+use mathlib.Core.Path.{_≡_, refl, sym, _∙_}
+use Prim.Native.Nat.{ℕ, _+_, _-_, _*_, _≤_, _<_}
+use native.Mathlib.Omega.{arith}
+use lib.Dec.{eqb, leb}
+use lib.ListN.{getD}
+use borrow.Author.Tests.{eq-eqb, eqb-true, leb-true}
+use Rattle.bounded.specs.Bool.{and}
+use Rattle.bounded.specs.Fold.{every}
+use Rattle.bounded.proofs.Bool.{and-l, and-r, clash, not-true→false}
+use Rattle.bounded.proofs.Fold.{every-e, some-i, some-e, some-none}
+use Rattle.words.specs.Word.{has, word}
+use Rattle.words.proofs.Laws.{has-word, has-zero, word-lt, empty}
+use Rattle.pairs.specs.Pairs.{slot, joinOf}
+use Rattle.pairs.proofs.Runs.{join-has}
+
+module _ (w : ℕ) (rows : List ℕ) (at n : ℕ) where
+  -- What a row of the run has, the run has,
+  pub join-i : (k v : ℕ) → at ≤ k → k < at + n → v < w → has (getD rows k 0) v ≡ true → has (joinOf w rows at n) v ≡ true
+  join-i k v l m b h =
+      let e : at + (k - at) ≡ k = omega arith in
+      join-has w rows at n v b ∙ some-i n _ (k - at) (omega arith) (rw e h)
+
+  -- and nothing else.
+  pub join-e : {A : Type 0} (v : ℕ) → v < w → has (joinOf w rows at n) v ≡ true → ((k : ℕ) → k < n → has (getD rows (at + k) 0) v ≡ true → A) → A
+  join-e v b h = some-e n _ (sym (join-has w rows at n v b) ∙ h)
+
+  pub join-empty-e : eqb (joinOf w rows at n) 0 ≡ true → (k v : ℕ) → at ≤ k → k < at + n → v < w → has (getD rows k 0) v ≡ false
+  join-empty-e t k v l m b =
+      not-true→false _ (λ h. clash (join-i k v l m b h) (rw (eqb-true (joinOf w rows at n) 0 t) (has-zero v)))
+
+  pub join-empty-i : ((k v : ℕ) → k < n → v < w → has (getD rows (at + k) 0) v ≡ false) → eqb (joinOf w rows at n) 0 ≡ true
+  unfolding joinOf
+  join-empty-i h = eq-eqb _ _ (empty w _ (word-lt w _) (λ v b. has-word w _ v b ∙ some-none n _ (λ k l. h k v l b)))
+
+-- ---- the place of the pairs past n
+
+past-known : every 17 (λ (n : ℕ). and (leb (n * (n - 1)) 240) (leb (slot 0 n) 120)) ≡ true
+unfolding every slot and
+past-known = refl
+
+-- The product does not overflow, and the place lies within the array.
+pub past-le : (n : ℕ) → n ≤ 16 → (n * (n - 1) ≤ 240) × (slot 0 n ≤ 120)
+past-le n l =
+    let t = every-e 17 _ past-known n (omega arith) in
+    (leb-true _ _ (and-l _ _ t), leb-true _ _ (and-r _ _ t))

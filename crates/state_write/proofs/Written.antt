@@ -1,0 +1,71 @@
+-- The writer's tests and bytes, on the arrays of a sound state.
+use mathlib.Core.Bool.{true}
+use mathlib.Core.List.{List, _++_}
+use mathlib.Core.Path.{_≡_, sym, _∙_, ap}
+use Prim.Native.Nat.{ℕ, _^_, _≤_, _<_}
+use native.Mathlib.Omega.{arith}
+use lib.Dec.{eqb, ltb}
+use lib.ListN.{length, getD, drop}
+use borrow.Author.Tests.{eq-eqb, eqb-true, lt-ltb, ltb-true}
+use Rattle.bounded.specs.Bool.{and}
+use Rattle.bounded.specs.Fold.{every}
+use Rattle.bounded.proofs.Bool.{bool-ext}
+use Rattle.bounded.proofs.Fold.{every-i, every-e, every-cong}
+use Rattle.words.specs.Word.{width, has, word}
+use Rattle.words.proofs.Laws.{is-word, has-word}
+use Rattle.cause.specs.declared.Cause.{Cause}
+use Rattle.cause.specs.Number.{numberOf}
+use Rattle.cause.proofs.Laws.{number-positive}
+use Rattle.network.specs.Network.{free}
+use Rattle.network.specs.Sheet.{fresh}
+use Rattle.head.specs.Held.{HeadShaped, held}
+use Rattle.head.proofs.Held.{held-sound, held-size}
+use Rattle.write_sheet.specs.Writing.{bytesHeld}
+use Rattle.solutions.specs.Choices.{freshValue, freshParts}
+use Rattle.answers.specs.declared.WriteAnswer.the-variants as writeAnswer
+use Rattle.answers.specs.Answers.{writeTold}
+use Rattle.state.specs.declared.state.State.{State}
+use Rattle.state.specs.View.{headIn, view, soundState}
+use Rattle.state.specs.Write.{Wrote, sheetBytes, writeRefusal, writeSheet}
+use Rattle.state_read.proofs.RoundTrip.{write-accepted, wrote, wrote-nothing}
+
+-- A domain within a size has all values below it exactly when it is their word.
+full-domain : (domain size : ℕ) → domain < 2 ^ width → size ≤ width → ((a : ℕ) → has domain a ≡ true → a < size)
+    → every size (has domain) ≡ eqb domain (word width (λ (v : ℕ). ltb v size))
+full-domain domain size d w within =
+    bool-ext _ _
+    (λ t. eq-eqb _ _ (is-word width domain _ d (λ v _. bool-ext _ _ (λ m. lt-ltb v size (within v m)) (λ l. every-e size _ t v (ltb-true v size l)))))
+    (λ t. every-i size _ (λ v l. ap (λ (x : ℕ). has x v) (eqb-true domain _ t) ∙ has-word width _ v (omega arith) ∙ lt-ltb v size l))
+
+module _ (s : State) (h : HeadShaped (headIn s)) (t : soundState s ≡ true) where
+  -- A sound state is fresh exactly when its arrays are.
+  pub fresh-told : fresh (view s) ≡ freshParts (s .n) (s .sizes) (s .domains) (s .leaders)
+  unfolding fresh held free freshParts freshValue
+  fresh-told =
+      every-cong (s .n) _ _ (λ i _. ap (and (eqb (getD (s .leaders) i 0) 0))
+      (full-domain _ _ (h .domains-array .element-lt i) (let m = held-size _ (s .rows) h t i in omega arith) (held-sound _ _ h t .domain-in i)))
+
+  pub stated-below : (i j : ℕ) → has (getD (s .stated) i 0) j ≡ true → j < s .n
+  unfolding held
+  stated-below i j m = held-sound _ _ h t .stated-in i j m .1
+
+-- What a way through the call answers and leaves in the buffer.
+module _ (s : State) (buffer : List ℕ) where
+  -- A refusal answers its number and leaves the buffer.
+  pub refused-told : (c : Cause) → writeRefusal s (length buffer) ≡ numberOf c
+      → (writeTold (writeAnswer.Refused c) ≡ writeSheet s buffer .answer) × (buffer ≡ writeSheet s buffer .buffer)
+  unfolding writeTold
+  refused-told c e =
+      let w = wrote-nothing s buffer (numberOf c) e (number-positive c) in
+      (sym (ap (λ (r : Wrote). r .answer) w), sym (ap (λ (r : Wrote). r .buffer) w))
+
+  -- Otherwise the bytes are written, and their length is answered.
+  pub written-told : (k : ℕ) (after : List ℕ) → soundState s ≡ true → fresh (view s) ≡ true
+      → length (bytesHeld (headIn s) (s .rows)) ≤ length buffer
+      → k ≡ length (bytesHeld (headIn s) (s .rows))
+      → after ≡ bytesHeld (headIn s) (s .rows) ++ drop (length (bytesHeld (headIn s) (s .rows))) buffer
+      → (writeTold (writeAnswer.Length k) ≡ writeSheet s buffer .answer) × (after ≡ writeSheet s buffer .buffer)
+  unfolding writeTold bytesHeld sheetBytes
+  written-told k after t f l e a =
+      let w = wrote s buffer (write-accepted s (length buffer) t f l) in
+      (rw e (sym (ap (λ (r : Wrote). r .answer) w)), a ∙ sym (ap (λ (r : Wrote). r .buffer) w))
