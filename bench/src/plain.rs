@@ -293,24 +293,35 @@ fn refusal(s: &State, leader: usize, follower: usize) -> u8 {
     0
 }
 
-/// A legal step: the composed pair is made in the rows of the lower of `i` and `k`.
+/// Stores what value `a` of `i` goes with in `j`, whichever is lower.
+#[inline(always)]
+fn put(s: &mut State, i: usize, j: usize, a: usize, set: u32) {
+    if i < j {
+        pair_mut(s, i, j)[a & 31] = set;
+    } else {
+        for (b, row) in pair_mut(s, j, i).iter_mut().enumerate() {
+            *row = *row & !(1 << a) | (set >> b & 1) << a;
+        }
+    }
+}
+
+/// A legal step: the composed pair is made value by value of the third option, lowest first.
 fn step(s: &mut State, i: usize, j: usize) {
     let (i, j) = (i & 15, j & 15);
     s.lists[i] &= partners(s, j, i, s.lists[j]);
     for k in members(s.stated[j] & !(1 << i)) {
+        let k = k & 15;
         let was = s.stated[i] >> k & 1 == 1;
-        let (l, h) = if i < k { (i, k) } else { (k, i) };
-        let mut made = [0; PAIR_ROWS];
-        for x in members(s.lists[l]) {
-            made[x] = s.lists[h] & partners(s, j, h, s.lists[j] & row(s, l, j, x));
-        }
-        let rows = pair_mut(s, l, h);
-        if was {
-            for (made, before) in made.iter_mut().zip(rows.iter()) {
-                *made &= before;
+        for c in 0..PAIR_ROWS {
+            let mut made = 0;
+            if s.lists[k] >> c & 1 == 1 {
+                made = s.lists[i] & partners(s, j, i, s.lists[j] & row(s, k, j, c));
+                if was {
+                    made &= row(s, k, i, c);
+                }
             }
+            put(s, k, i, c, made);
         }
-        *rows = made;
         *pair_mut(s, j.min(k), j.max(k)) = [0; PAIR_ROWS];
         s.stated[k] = (s.stated[k] | 1 << i) & !(1 << j);
         s.stated[i] |= 1 << k;

@@ -1,22 +1,20 @@
 -- Rules 1 and 2 on what an array of rows allows, for any number w of values.
 use mathlib.Core.Bool.{Bool, true, false}
 use mathlib.Core.List.{List}
-use mathlib.Core.Path.{_≡_, sym, ap, ap₂, _∙_}
-use Prim.Native.Nat.{ℕ, _+_, _<_}
-use native.Mathlib.Numerals.{add-one}
+use mathlib.Core.Path.{_≡_, refl, sym, ap, ap₂, _∙_}
+use Prim.Native.Nat.{ℕ, suc, _<_}
 use native.Mathlib.Omega.{arith}
 use lib.Pow.{pow-pos}
 use Rattle.bounded.specs.Bool.{and, implies}
 use Rattle.bounded.specs.Fold.{some}
 use Rattle.bounded.proofs.Bool.{and-assoc, and-comm, and-fails, and-true}
-use Rattle.bounded.proofs.Fold.{some-cong}
+use Rattle.bounded.proofs.Fold.{below-suc, some-cong}
 use Rattle.words.specs.Word.{has, word}
 use Rattle.words.proofs.Laws.{has-word, has-zero, is-word, word-cong}
 use Rattle.pairs.specs.Pairs.{allowsOf, partnersOf}
 use Rattle.pairs.specs.Frames.{RowPut, Stored}
-use Rattle.pairs.proofs.Frames.{stored-cong, stored-more, stored-turned}
 use Rattle.pairs.proofs.Laws.{allows-alike, has-row}
-use Rattle.step_compose.specs.Compose.{supportedAt, composedAt, Composed}
+use Rattle.step_compose.specs.Compose.{supportedAt, composedAt, Unread, Composing}
 
 -- The members of a word that is given by a rule.
 pub has-ruled : (w : ℕ) {x : ℕ} (p : ℕ → Bool) → x ≡ word w p → (v : ℕ) → v < w → has x v ≡ p v
@@ -93,22 +91,51 @@ composed-alike w rows i j k ti dj dk was a c =
     (ap₂ and (some-cong w _ _ (λ b l. ap (and (has dj b)) (and-comm _ _ ∙ ap₂ and (allows-alike w rows j i b a) (allows-alike w rows k j c b))))
     (ap (implies was) (allows-alike w rows k i c a)))
 
--- One value more. What it is made of is as before: its own row is still to come, and the rows of the other pairs are never touched.
-pub compose-more : (w : ℕ) {before now after : List ℕ} {l j h : ℕ} (dl dj dh : ℕ) (was : Bool) {x row : ℕ} → (l ≡ j → ⊥) → (j ≡ h → ⊥)
-    → Stored w before now l h (composedAt w before l j h dl dj dh was) x
-    → row ≡ word w (composedAt w now l j h dl dj dh was x)
-    → RowPut w now after l h x row
-    → Stored w before after l h (composedAt w before l j h dl dj dh was) (x + 1)
-compose-more w {before} {now} {after} {l} {j} {h} dl dj dh was {x} {row} l≢j j≢h s e p =
-    rw (add-one x)
-    (stored-more w before now after l h _ x row s p (λ c k. has-ruled w _ e c k
-    ∙ composed-cong w now before l j h dl dj dh was x c
-    (λ b. s .rest l j x b (record { not-ij = λ _ q. j≢h q; not-ji = λ _ q. l≢j (sym q) }))
-    (λ b. s .rest j h b c (record { not-ij = λ q _. l≢j (sym q); not-ji = λ q _. j≢h q }))
-    (s .left x c (omega arith))))
+-- At the beginning of a step nothing has been touched.
+pub unread-all : (w : ℕ) (rows : List ℕ) (i j k : ℕ) → Unread w rows rows i j k
+unread-all w rows i j k = record { same-ij = λ a b. refl; same-jk = λ b c. refl; same-ik = λ a c. refl }
 
--- Seen from the other side.
-pub composed-turned : (w : ℕ) {before after : List ℕ} {i k : ℕ} (j ti dj dk : ℕ) (was : Bool) → Composed w before after k j i dk dj ti was
-    → Composed w before after i j k ti dj dk was
-composed-turned w {before} {after} {i} {k} j ti dj dk was s =
-    stored-cong w before after i k _ _ w (stored-turned w before after k i _ s) (λ a c _ _ _. composed-alike w before i j k ti dj dk was a c)
+-- The first value is still to come,
+pub composing-none : (w : ℕ) (given before : List ℕ) (i j k ti dj dk : ℕ) (was : Bool) → Unread w given before i j k
+    → Composing w given before before i j k ti dj dk was 0
+composing-none w given before i j k ti dj dk was u =
+    record {
+      done = λ a c l _ _. absurd (let x : ⊥ = omega arith in x);
+      left = λ a c _. u .same-ik a c;
+      alike = λ a c. allows-alike w before k i c a;
+      rest = λ x y a b o. refl;
+      size = refl;
+      words = λ g. g;
+    }
+
+-- and one more is done. What it is made of is as before the step: its own value is still to come, and the rows of the other pairs are never touched.
+module _ (w : ℕ) (given before now after : List ℕ) (i j k ti dj dk : ℕ) (was : Bool) (c members : ℕ)
+    (i≢j : i ≡ j → ⊥) (j≢k : j ≡ k → ⊥) (u : Unread w given before i j k)
+    (s : Composing w given before now i j k ti dj dk was c)
+    (e : members ≡ word w (composedAt w now k j i dk dj ti was c))
+    (p : RowPut w now after k i c members) where
+  value-made : (a : ℕ) → a < w → has members a ≡ composedAt w given i j k ti dj dk was a c
+  value-made a l =
+      has-ruled w _ e a l
+      ∙ composed-alike w now i j k ti dj dk was a c
+      ∙ composed-cong w now given i j k ti dj dk was a c
+      (λ b. s .rest i j a b (record { not-ij = λ _ q. j≢k q; not-ji = λ _ q. i≢j (sym q) }) ∙ u .same-ij a b)
+      (λ b. s .rest j k b c (record { not-ij = λ q _. i≢j (sym q); not-ji = λ q _. j≢k q }) ∙ u .same-jk b c)
+      (s .left a c (omega arith))
+
+  other-value : (a v : ℕ) → (v ≡ c → ⊥) → allowsOf w after i k a v ≡ allowsOf w now i k a v
+  other-value a v ne = allows-alike w after i k a v ∙ p .left v a ne ∙ allows-alike w now k i v a
+
+  pub composing-more : Composing w given before after i j k ti dj dk was (suc c)
+  composing-more =
+      record {
+        done =
+            λ a v l m h. below-suc c v l
+            (λ y. rw y (allows-alike w after i k a c ∙ p .put a m ∙ value-made a m))
+            (λ b. other-value a v (λ z. let x : ⊥ = omega arith in x) ∙ s .done a v b m h);
+        left = λ a v l. other-value a v (λ z. let x : ⊥ = omega arith in x) ∙ s .left a v (omega arith);
+        alike = λ a v. allows-alike w after k i v a;
+        rest = λ x y a b o. p .rest x y a b (record { not-ij = o .not-ji; not-ji = o .not-ij }) ∙ s .rest x y a b o;
+        size = p .size ∙ s .size;
+        words = λ g. p .words (s .words g);
+      }

@@ -3,11 +3,12 @@ use pairs::Rows;
 use words::WIDTH;
 use words::both;
 ghost use mathlib.Core.Path.{_≡_};
-ghost use Prim.Native.Nat.{_<_};
+ghost use mathlib.Core.List.{List};
+ghost use Prim.Native.Nat.{ℕ, suc, _<_};
 ghost use lib.ListN.{length};
 ghost use Rattle.words.specs.Word.{width, word};
 ghost use Rattle.pairs.specs.Pairs.{variables};
-ghost use Rattle.step_compose.specs.Compose.{supportedAt, composedAt, Composed};
+ghost use Rattle.step_compose.specs.Compose.{supportedAt, composedAt, Unread, Composing};
 
 // Rule 1: the values of `di` that have a partner in `dj`.
 pub fn supported(rows: &Rows, i: usize, j: usize, di: u32, dj: u32) -> u32
@@ -43,25 +44,36 @@ fn composed_row(
     both(joined, pairs::row(rows, l, h, x))
 }
 
-// Rule 2 in the orientation in which the pair is stored: `l` is lower than `h`, and each value of `l` has a row.
-fn compose_rows(rows: &mut Rows, l: usize, j: usize, h: usize, dl: u32, dj: u32, dh: u32, was: bool)
-    requires { ⌜ (l < h) × (h < variables) × (j < variables) × (l ≡ j → ⊥) × (j ≡ h → ⊥) × (length (now rows) ≡ 3840) ⌝ }
-    ensures { λ _. ⌜ Composed width (now (rows .entry)) (now (rows .exit)) l j h dl dj dh was ⌝ }
+// Rule 2 for value `c` of the third variable `k`: what it says is found and stored, and the pair reads alike from both sides, before the next value is
+// looked at.
+fn compose_value(
+    rows: &mut Rows,
+    i: usize,
+    j: usize,
+    k: usize,
+    ti: u32,
+    dj: u32,
+    dk: u32,
+    was: bool,
+    c: usize,
+)
+    requires { ⌜ (i < variables) × (j < variables) × (k < variables) × (i ≡ j → ⊥) × (j ≡ k → ⊥) × (k ≡ i → ⊥) × (c < width) × (length (now rows) ≡ 3840) ⌝ }
+    ensures { λ _. ⌜ ((given before : List ℕ) → Unread width given before i j k
+        → Composing width given before (now (rows .entry)) i j k ti dj dk was c
+        → Composing width given before (now (rows .exit)) i j k ti dj dk was (suc c)) ⌝ }
+    ensures { λ _. ⌜ length (now (rows .exit)) ≡ length (now (rows .entry)) ⌝ }
 {
-    for x in 0..WIDTH {
-        let members = composed_row(rows, l, j, h, dl, dj, dh, was, x);
-        pairs::put_row(rows, l, h, x, members);
-    }
+    let members = composed_row(rows, k, j, i, dk, dj, ti, was, c);
+    pairs::put(rows, k, i, c, members);
 }
 
-// Rule 2 for the third variable `k`. It says the same of the pair from both of its sides, so that the lower one is taken.
+// Rule 2 for the third variable `k`, value by value, the lowest first.
 pub fn compose(rows: &mut Rows, i: usize, j: usize, k: usize, ti: u32, dj: u32, dk: u32, was: bool)
     requires { ⌜ (i < variables) × (j < variables) × (k < variables) × (i ≡ j → ⊥) × (j ≡ k → ⊥) × (k ≡ i → ⊥) × (length (now rows) ≡ 3840) ⌝ }
-    ensures { λ _. ⌜ Composed width (now (rows .entry)) (now (rows .exit)) i j k ti dj dk was ⌝ }
+    ensures { λ _. ⌜ ((given : List ℕ) → Unread width given (now (rows .entry)) i j k
+        → Composing width given (now (rows .entry)) (now (rows .exit)) i j k ti dj dk was width) ⌝ }
 {
-    if i < k {
-        compose_rows(rows, i, j, k, ti, dj, dk, was);
-        return;
+    for c in 0..WIDTH {
+        compose_value(rows, i, j, k, ti, dj, dk, was, c);
     }
-    compose_rows(rows, k, j, i, dk, dj, ti, was);
 }

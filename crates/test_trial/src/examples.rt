@@ -124,6 +124,18 @@ fn apart_as_read(tally: &mut Counts) {
     tally::expect(tally, tally::EXAMPLES, judged.verdict == calls::OPEN);
 }
 
+// Sizes 2,2,2,1; (1,2) 0001 0002; (2,3) 0003 0003; (3,4) 0000 0001: 4 follows 3, whose list is then 0002, and 2 follows 1: (1,3) is 0002 0002.
+fn composed(tally: &mut Counts) {
+    let reading = calls::read(
+        b"\x01\x00\x18\x04\x02\x02\x02\x01\x03\x01\x02\x00\x01\x00\x02\x02\x03\x00\x03\x00\x03\x03\x04\x00\x00\x00\x01",
+    );
+    let led = calls::eliminate(reading.state, 3, 4);
+    let after = calls::eliminate(led.state, 1, 2);
+    let rows = after.state.rows;
+    let is_right = (after.number == 0) & (rows[32] == 2) & (rows[33] == 2);
+    tally::expect(tally, tally::EXAMPLES, is_right);
+}
+
 // Number 1 is tested first, then 2, and then the fields in file order: n, the sizes and the number of tables, each cut off, wrong, or left over.
 fn refused_heads(seed: &mut u64, tally: &mut Counts) {
     lists::run(
@@ -291,6 +303,7 @@ fn run_sheets(seed: &mut u64, tally: &mut Counts) {
     empty(seed, tally);
     apart(seed, tally);
     apart_as_read(tally);
+    composed(tally);
 }
 
 fn run_refused(seed: &mut u64, tally: &mut Counts) {

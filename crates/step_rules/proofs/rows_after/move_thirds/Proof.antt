@@ -6,6 +6,7 @@ use borrow.Author.Needs.{needs}
 use Rattle.bounded.specs.Fold.{count}
 use Rattle.words.specs.Word.{has}
 use Rattle.pairs.proofs.Runs.{rest-less}
+use Rattle.step_compose.proofs.Composition.{unread-all}
 use Rattle.step_rules.specs.StepParts.{madeAt, MovedRows}
 use Rattle.step_rules.proofs.Thirds.{Left, all-left, third-found, taken}
 use Rattle.step_rules.proofs.StepRows.{done, none-moved, all-moved, next-moved, third-apart}
@@ -40,7 +41,7 @@ clear-requires c κs =
     let l = c .before .before .before .before in
     let p = l .before .before .before .pre in
     let f = found l in
-    (p .1, f .0, (λ q. third-apart _ _ _ (f .1) (p .4) (sym q)), c .before .compose .ensures .size ∙ l .before .before .loop .inv .1 .same-length ∙ p .6)
+    (p .1, f .0, (λ q. third-apart _ _ _ (f .1) (p .4) (sym q)), c .before .compose .ensures _ (unread-all 32 _ _ _ _) .size ∙ l .before .before .loop .inv .1 .same-length ∙ p .6)
 
 loop-less : tie.Need-loop-less Inv-loop μ-loop
 loop-less c =
