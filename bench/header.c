@@ -25,7 +25,7 @@ static const uint8_t CASE_A[] = {0x01, 0x00, 0x13, 0x03, 0x02, 0x03, 0x02, 0x02,
 #define LENGTH_A sizeof CASE_A
 
 static const char TEXT_A[] =
-    "OPTIONS 3\nLIVE 1 LIST 0003\nFOLLOWS 2 OF 1\nFOLLOWS 3 OF 1\nSTEPS 2\nVERDICT BUILT\nBUILD 0 0 1\n";
+    "OPTIONS 3\nLIVE 1 LIST 00000003\nFOLLOWS 2 OF 1\nFOLLOWS 3 OF 1\nSTEPS 2\nVERDICT BUILT\nBUILD 0 0 1\n";
 
 /* Case A as read, after 2 follows 1, and reduced; and the zero state. */
 static struct sheet_state fresh, stepped, reduced, zero;
@@ -91,7 +91,7 @@ static void refused_bytes(const uint8_t *bytes, size_t length, int number, size_
 /* Each cause of reading: one byte of case A is wrong, or two for 20, its first pair in the place of its second. */
 static void check_bytes(void) {
     static const struct { size_t at; uint8_t byte; int number; size_t place; } wrongs[] = {
-        {1, 0xff, 1, 0}, {0, 2, 2, 0},  {3, 0, 3, 3}, {3, 17, 3, 3}, {4, 0, 4, 4},  {6, 17, 4, 6},   {7, 4, 5, 7},
+        {1, 0xff, 1, 0}, {0, 3, 2, 0},  {0, 2, 8, 10}, {3, 0, 3, 3}, {3, 17, 3, 3}, {4, 0, 4, 4},  {6, 17, 4, 6},   {7, 4, 5, 7},
         {7, 1, 6, 14},   {7, 3, 6, 22}, {8, 0, 7, 8}, {9, 0, 7, 8},  {9, 4, 7, 8},  {14, 4, 7, 14},  {14, 3, 19, 14},
         {15, 1, 19, 14}, {8, 2, 19, 8}, {9, 1, 19, 8}, {14, 1, 6, 20}, {11, 8, 8, 10},
     };
@@ -211,7 +211,7 @@ static void written(const struct sheet_state *state, size_t length, int number, 
     memset(buffer, 0xee, sizeof buffer);
     memset(left, 0xee, sizeof left);
     memcpy(left, CASE_A, answered);
-    struct sheet_write_answer answer = sheet_write(state, buffer, length);
+    struct sheet_write_answer answer = sheet_write(state, 1, buffer, length);
     CHECK(answer.number == number && answer.length == answered);
     CHECK(memcmp(buffer, left, sizeof left) == 0);
 }
@@ -222,8 +222,20 @@ static void check_writing(void) {
     written(&fresh, LENGTH_A - 1, SHEET_CAUSE_BUFFER_LENGTH, 0);
     written(&stepped, 0, SHEET_CAUSE_NOT_AS_READ, 0);
     written(&zero, LENGTH_A, SHEET_CAUSE_NOT_SOUND, 0);
-    struct sheet_write_answer answer = sheet_write(&fresh, NULL, 0);
+    struct sheet_write_answer answer = sheet_write(&fresh, 1, NULL, 0);
     CHECK(answer.number == SHEET_CAUSE_BUFFER_LENGTH && answer.length == 0);
+    /* no version is cut to a byte, and 24 precedes 17 and follows 18 */
+    static const size_t unknown[] = {0, 3, 255, 256, 257, 258, SIZE_MAX};
+    for (size_t k = 0; k < sizeof unknown / sizeof *unknown; k++) {
+        CHECK(sheet_write(&fresh, unknown[k], NULL, 0).number == SHEET_CAUSE_NOT_IN_VERSION);
+        CHECK(sheet_write(&stepped, unknown[k], NULL, 0).number == SHEET_CAUSE_NOT_AS_READ);
+    }
+    /* in version 2 the five rows have two bytes more each, and read back as the same state */
+    uint8_t wide[LENGTH_A + 10];
+    struct sheet_state again;
+    answer = sheet_write(&fresh, 2, wide, sizeof wide);
+    CHECK(answer.number == 0 && answer.length == sizeof wide && wide[0] == 2);
+    CHECK(sheet_read(wide, sizeof wide, &again).number == 0 && same(&again, &fresh));
 }
 
 /* The same from both sides, and no for what no state has. */
@@ -254,20 +266,25 @@ static void check_read_only(void) {
     CHECK(sheet_complete(&held->zero, held->bytes, 3) == SHEET_CAUSE_NOT_SOUND);
     CHECK(sheet_complete(&held->fresh, held->bytes, 4) == SHEET_CAUSE_BUILD_LENGTH);
     CHECK(sheet_complete(&held->fresh, held->bytes, 3) == SHEET_CAUSE_VALUES_FORBIDDEN);
-    CHECK(sheet_write(&held->zero, held->bytes, LENGTH_A).number == SHEET_CAUSE_NOT_SOUND);
-    CHECK(sheet_write(&held->stepped, held->bytes, LENGTH_A).number == SHEET_CAUSE_NOT_AS_READ);
-    CHECK(sheet_write(&held->fresh, held->bytes, LENGTH_A - 1).number == SHEET_CAUSE_BUFFER_LENGTH);
+    CHECK(sheet_write(&held->zero, 1, held->bytes, LENGTH_A).number == SHEET_CAUSE_NOT_SOUND);
+    CHECK(sheet_write(&held->stepped, 1, held->bytes, LENGTH_A).number == SHEET_CAUSE_NOT_AS_READ);
+    CHECK(sheet_write(&held->fresh, 1, held->bytes, LENGTH_A - 1).number == SHEET_CAUSE_BUFFER_LENGTH);
     munmap(page, sizeof(struct locked));
 }
 
-/* Each number has a text of its own. */
+/* Each number that a cause has, and 0, has a text of its own. */
 static void check_texts(void) {
-    CHECK(SHEET_GREATEST_CAUSE == 20);
+    CHECK(SHEET_GREATEST_CAUSE == 24);
+    const char *none = sheet_cause_text(255);
+    unsigned causes = 0;
     for (unsigned one = 0; one <= SHEET_GREATEST_CAUSE + 1; one++) {
+        if (strcmp(sheet_cause_text(one), none) == 0) continue;
+        causes++;
         for (unsigned other = 0; other < one; other++) {
             CHECK(strcmp(sheet_cause_text(one), sheet_cause_text(other)) != 0);
         }
     }
+    CHECK(causes == 22);
     CHECK(strcmp(sheet_cause_text(SHEET_CAUSE_NOT_SOUND), "the state is not sound") == 0);
     CHECK(strcmp(sheet_cause_text(255), sheet_cause_text(SHEET_GREATEST_CAUSE + 1)) == 0);
 }
@@ -279,7 +296,7 @@ static struct sheet_state held;
 static ucontext_t outer, inner;
 
 static void read_it(void) { sheet_read(CASE_A, LENGTH_A, &held); }
-static void write_it(void) { sheet_write(&fresh, bytes, LENGTH_A); }
+static void write_it(void) { sheet_write(&fresh, 1, bytes, LENGTH_A); }
 static void sound_it(void) { bytes[0] = sheet_is_sound(&reduced); }
 static void follow_it(void) { held = fresh, sheet_eliminate(&held, 1, 2); }
 static void reduce_it(void) { held = fresh, sheet_reduce(&held); }

@@ -35,7 +35,7 @@ int main(int argc, char **argv) {
     sheet_reduce(&state);
     for (size_t i = 0; i < state.n; i++) {
         if (state.leaders[i] == 0) {
-            printf("option %zu list %04X\n", i + 1, (unsigned)state.lists[i]);
+            printf("option %zu list %08X\n", i + 1, (unsigned)state.lists[i]);
         }
     }
     /* what is printed may still be on its way */

@@ -39,12 +39,12 @@
 
 /* The version of these declarations: MAJOR rises where a caller has to be changed or compiled anew, MINOR where something is
  * added. The version in byte 0 of a sheet is another number. */
-#define SHEET_VERSION_MAJOR 2
+#define SHEET_VERSION_MAJOR 3
 #define SHEET_VERSION_MINOR 0
 
-#define SHEET_LARGEST_BYTES 4101 /* "The largest sheet has 4,101 bytes" */
+#define SHEET_LARGEST_BYTES 15621 /* "The largest version 2 sheet has 15,621 bytes, which is the limit in number 1" */
 #define SHEET_MOST_OPTIONS 16    /* length of the arrays that hold something for each option */
-#define SHEET_MOST_VALUES 16     /* the largest size: bits of a list or row that may be set */
+#define SHEET_MOST_VALUES 32     /* the largest size: bits of a list or row that may be set */
 #define SHEET_PAIR_ROWS 32       /* rows that a state has room for in each pair */
 #define SHEET_ROWS 3840          /* 120 pairs of SHEET_PAIR_ROWS rows */
 #define SHEET_TEXT_BYTES 512     /* longer than any text that sheetcut prints */
@@ -57,10 +57,10 @@ extern "C" {
 /* The causes of a refusal by their numbers, each in the words of document 01, or of document 02 where that changed it. */
 enum sheet_cause {
     SHEET_NOT_REFUSED = 0,
-    SHEET_CAUSE_LENGTH = 1,             /* "under 3 bytes, over 4,101, or not 3 plus the count" */
-    SHEET_CAUSE_VERSION = 2,            /* "version not 1" */
+    SHEET_CAUSE_LENGTH = 1,             /* "under 3 bytes, over 4,101, or not 3 plus the count", with 15,621 for 4,101 */
+    SHEET_CAUSE_VERSION = 2,            /* "neither 1 nor 2" */
     SHEET_CAUSE_OPTION_COUNT = 3,       /* "n is 0 or above 16" */
-    SHEET_CAUSE_SIZE = 4,               /* "a size is 0 or above 16" */
+    SHEET_CAUSE_SIZE = 4,               /* "a size is 0 or above 16", or above 32 in version 2 */
     SHEET_CAUSE_TABLE_COUNT = 5,        /* "p above n(n-1)/2" */
     SHEET_CAUSE_CUT_OFF = 6,            /* "a field is cut off, or bytes are left over" */
     SHEET_CAUSE_PAIR = 7,               /* "a of 0, b of 0, or either above n" */
@@ -76,19 +76,20 @@ enum sheet_cause {
     SHEET_CAUSE_BUFFER_LENGTH = 17,     /* "written sheet longer than the buffer" */
     SHEET_CAUSE_NOT_AS_READ = 18,       /* "writer: a follower exists or a list is not full" */
     SHEET_CAUSE_PAIR_ORDER = 19,        /* "a is not below b" */
-    SHEET_CAUSE_PAIR_SEQUENCE = 20      /* "the pair is not after the one before" */
+    SHEET_CAUSE_PAIR_SEQUENCE = 20,     /* "the pair is not after the one before" */
+    SHEET_CAUSE_NOT_IN_VERSION = 24     /* writer: "an unknown version or a size above 16 in version 1" */
 };
 
-#define SHEET_GREATEST_CAUSE SHEET_CAUSE_PAIR_SEQUENCE
+#define SHEET_GREATEST_CAUSE SHEET_CAUSE_NOT_IN_VERSION
 
 /* The cause in English, for any number; never NULL. */
 static inline const char *sheet_cause_text(unsigned number) {
     switch (number) {
     case SHEET_NOT_REFUSED: return "not refused";
-    case SHEET_CAUSE_LENGTH: return "the sheet is under 3 bytes or over 4,101, or its count of bytes is wrong";
-    case SHEET_CAUSE_VERSION: return "the version is not 1";
+    case SHEET_CAUSE_LENGTH: return "the sheet is under 3 bytes or over 15,621, or its count of bytes is wrong";
+    case SHEET_CAUSE_VERSION: return "the version is neither 1 nor 2";
     case SHEET_CAUSE_OPTION_COUNT: return "the number of options is 0 or above 16";
-    case SHEET_CAUSE_SIZE: return "the size of an option is 0 or above 16";
+    case SHEET_CAUSE_SIZE: return "the size of an option is 0, above 32, or above 16 in version 1";
     case SHEET_CAUSE_TABLE_COUNT: return "there are more tables than pairs of options";
     case SHEET_CAUSE_CUT_OFF: return "a field is cut off, or bytes are left over";
     case SHEET_CAUSE_PAIR: return "a table names an option 0 or above the number of options";
@@ -105,6 +106,7 @@ static inline const char *sheet_cause_text(unsigned number) {
     case SHEET_CAUSE_NOT_AS_READ: return "an option follows another, or a list is not full";
     case SHEET_CAUSE_PAIR_ORDER: return "the first option of a table is not below its second";
     case SHEET_CAUSE_PAIR_SEQUENCE: return "a table's pair is not after the one before";
+    case SHEET_CAUSE_NOT_IN_VERSION: return "the version to write is unknown, or a size is above what it can hold";
     default: return "no cause has this number";
     }
 }
@@ -112,7 +114,7 @@ static inline const char *sheet_cause_text(unsigned number) {
 /* The state of a sheet. It may hold anything: a call that takes one tests first that it is sound. The zero state is not. */
 struct sheet_state {
     size_t n;                               /* how many options, 1 to 16 */
-    uint8_t sizes[SHEET_MOST_OPTIONS];      /* how many values each has, 1 to 16 */
+    uint8_t sizes[SHEET_MOST_OPTIONS];      /* how many values each has, 1 to 32 */
     uint32_t lists[SHEET_MOST_OPTIONS];     /* bit v: value v is still open */
     uint8_t leaders[SHEET_MOST_OPTIONS];    /* 0 for a live option, else the number of its leader */
     uint32_t stated[SHEET_MOST_OPTIONS];    /* bit j of stated[i]: options i and j have a table */
@@ -190,7 +192,7 @@ struct sheet_read_answer sheet_read_parts(const uint8_t *bytes, size_t length, s
 struct sheet_write_answer sheet_write_parts(size_t n, const uint8_t sizes[SHEET_MOST_OPTIONS],
                                             const uint32_t lists[SHEET_MOST_OPTIONS], const uint8_t leaders[SHEET_MOST_OPTIONS],
                                             const uint32_t stated[SHEET_MOST_OPTIONS], const uint32_t rows[SHEET_ROWS],
-                                            uint8_t *buffer, size_t length);
+                                            size_t version, uint8_t *buffer, size_t length);
 bool sheet_is_sound_parts(size_t n, const uint8_t sizes[SHEET_MOST_OPTIONS], const uint32_t lists[SHEET_MOST_OPTIONS],
                           const uint8_t leaders[SHEET_MOST_OPTIONS], const uint32_t stated[SHEET_MOST_OPTIONS],
                           const uint32_t rows[SHEET_ROWS]);
@@ -224,11 +226,15 @@ static inline struct sheet_read_answer sheet_read(const uint8_t *bytes, size_t l
     return sheet_read_parts(bytes, length, &state->n, state->sizes, state->lists, state->leaders, state->stated, state->rows);
 }
 
-/* Writes the sheet of a state that is as just read, and answers its length; bytes past its end are left as they were.
- * Numbers 9, 18, 17, tested in this order. A refusal leaves the buffer as it was.
- * Reading what was written gives the same state; writing what was read, into enough space, gives the same bytes. */
-static inline struct sheet_write_answer sheet_write(const struct sheet_state *state, uint8_t *buffer, size_t length) {
-    return sheet_write_parts(state->n, state->sizes, state->lists, state->leaders, state->stated, state->rows, buffer, length);
+/* Writes the sheet of a state that is as just read, in version 1 or 2, and answers its length; bytes past its end are left as
+ * they were.
+ * Numbers 9, 18, 24, 17, tested in this order. A refusal leaves the buffer as it was.
+ * Reading what was written gives the same state; writing what was read in its own version, into enough space, gives the same
+ * bytes. */
+static inline struct sheet_write_answer sheet_write(const struct sheet_state *state, size_t version, uint8_t *buffer,
+                                                    size_t length) {
+    return sheet_write_parts(state->n, state->sizes, state->lists, state->leaders, state->stated, state->rows, version, buffer,
+                             length);
 }
 
 /* Whether a state is sound. No numbers. */

@@ -86,17 +86,17 @@ fn kind(family: Family, a: usize, b: usize, random: &mut Random) -> Kind {
 }
 
 /// Rows of a table of `from` values against `to`; value `a` is to go with value `b`.
-fn rows(kind: Kind, from: usize, to: usize, a: usize, b: usize, random: &mut Random) -> Vec<u16> {
-    let all = ((1u32 << to) - 1) as u16;
+fn rows(kind: Kind, from: usize, to: usize, a: usize, b: usize, random: &mut Random) -> Vec<u32> {
+    let all = ((1u64 << to) - 1) as u32;
     let shift = random.below(to);
-    let mut rows: Vec<u16> = (0..from)
+    let mut rows: Vec<u32> = (0..from)
         .map(|v| match kind {
             Kind::Nothing => 0,
-            Kind::Few => random.next() as u16 & random.next() as u16 & all,
+            Kind::Few => random.next() as u32 & random.next() as u32 & all,
             Kind::Function => 1 << random.below(to),
             Kind::Permutation if v < to => 1 << ((v + shift) % to),
             Kind::Permutation => 0,
-            Kind::Half => random.next() as u16 & all,
+            Kind::Half => random.next() as u32 & all,
             Kind::Everything => all,
         })
         .collect();
@@ -112,8 +112,14 @@ fn rows(kind: Kind, from: usize, to: usize, a: usize, b: usize, random: &mut Ran
     rows
 }
 
-/// A sheet of a family over options of the given sizes.
+/// A sheet of a family over options of the given sizes, in version 1 where they allow it.
 pub fn sheet(family: Family, sizes: &[u8], random: &mut Random) -> Sheet {
+    let version = if sizes.iter().all(|&size| size <= 16) { 1 } else { 2 };
+    sheet_in(version, family, sizes, random)
+}
+
+/// A sheet in a version.
+pub fn sheet_in(version: u8, family: Family, sizes: &[u8], random: &mut Random) -> Sheet {
     let n = sizes.len();
     let build: Vec<u8> = sizes.iter().map(|&size| random.below(size as usize) as u8).collect();
     let mut tables = Vec::new();
@@ -134,11 +140,11 @@ pub fn sheet(family: Family, sizes: &[u8], random: &mut Random) -> Sheet {
                 build[b] as usize,
                 random,
             ) {
-                tables.extend(row.to_be_bytes());
+                tables.extend(&row.to_be_bytes()[if version == 1 { 2 } else { 0 }..]);
             }
         }
     }
-    let mut bytes = vec![1, 0, 0, n as u8];
+    let mut bytes = vec![version, 0, 0, n as u8];
     bytes.extend(sizes);
     bytes.push(count);
     bytes.extend(tables);
@@ -146,9 +152,9 @@ pub fn sheet(family: Family, sizes: &[u8], random: &mut Random) -> Sheet {
     Sheet { bytes, build }
 }
 
-/// Sizes for `n` options, each from 1 to 16.
+/// Sizes for some options, each from 1 to 32.
 pub fn any_sizes(random: &mut Random) -> Vec<u8> {
-    let most = [3, 5, 16][random.below(3)];
+    let most = [3, 5, 16, 32][random.below(4)];
     let longest = [4, 8, 16][random.below(3)];
     let n = 1 + random.below(longest);
     (0..n).map(|_| 1 + random.below(most) as u8).collect()
@@ -164,14 +170,14 @@ pub fn mend(bytes: &mut [u8]) {
 
 /// Bytes of any kind; half of them with a right version and count.
 pub fn random_bytes(random: &mut Random) -> Vec<u8> {
-    let longest = [8, 40, 600, 4200][random.below(4)];
+    let longest = [8, 40, 600, 4200, 15700][random.below(5)];
     let length = random.below(longest);
     let small = random.chance(2);
     let mut bytes: Vec<u8> = (0..length)
         .map(|_| if small { random.below(18) as u8 } else { random.next() as u8 })
         .collect();
     if random.chance(2) && length >= 3 {
-        bytes[0] = 1;
+        bytes[0] = 1 + random.below(2) as u8;
         mend(&mut bytes);
     }
     bytes
@@ -182,7 +188,7 @@ pub fn damaged_sheet(bytes: &[u8], at: usize, what: usize, random: &mut Random) 
     let mut changed = bytes.to_vec();
     match what {
         0 => changed[at] = random.next() as u8,
-        1 => changed[at] = [0, 1, 2, 15, 16, 17, 128, 255][random.below(8)],
+        1 => changed[at] = [0, 1, 2, 3, 15, 16, 17, 32, 33, 128, 255][random.below(11)],
         2 => changed[at] = changed[at].wrapping_add(1),
         3 => changed[at] = changed[at].wrapping_sub(1),
         4 => changed[at] ^= 1 << random.below(8),
@@ -241,14 +247,14 @@ fn row_of(i: usize, j: usize, a: usize) -> usize {
 pub fn damage_state(state: &mut State, random: &mut Random) {
     let n = state.n.clamp(1, 16);
     for _ in 0..1 + random.below(2) {
-        // half of the bits lie where no value can be
+        // any bit of a word
         let (i, j, a) = (random.below(16), random.below(16), random.below(32));
         let near = random.below(n);
         let other = random.below(n);
-        let size = state.sizes[near].clamp(1, 16) as usize;
+        let size = state.sizes[near].clamp(1, 32) as usize;
         match random.below(13) {
             0 => state.n = [0, n - 1, n + 1, 16, 17, usize::MAX][random.below(6)],
-            1 => state.sizes[i] = [0, 1, 16, 17, 32, 255, state.sizes[i].wrapping_add(1)][random.below(7)],
+            1 => state.sizes[i] = [0, 1, 16, 17, 32, 33, 255, state.sizes[i].wrapping_add(1)][random.below(8)],
             2 => state.lists[i] ^= 1 << a,
             3 => state.lists[near] &= random.next() as u32,
             4 => state.leaders[i] = random.below(18) as u8,

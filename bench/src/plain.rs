@@ -1,7 +1,16 @@
 //! Documents 01 and 02 in plain Rust, written for speed: bit-parallel, in place, early ways out, no copy of a state.
 use crate::proved::{State, Stepped, Tested, Verdict, Written, BUILT, NONE, NO_VERDICT, OPEN, PAIR_ROWS, ROWS};
 
-const LARGEST: usize = 4101;
+const LARGEST: usize = 15621;
+
+/// What a version fixes: the bytes of a row and the largest size; none where there is no such version.
+fn layout(version: usize) -> Option<(usize, u8)> {
+    match version {
+        1 => Some((2, 16)),
+        2 => Some((4, 32)),
+        _ => None,
+    }
+}
 
 /// The rows of a pair, from its lower option.
 type Pair = [u32; PAIR_ROWS];
@@ -80,7 +89,8 @@ fn members(mut x: u32) -> impl Iterator<Item = usize> {
 }
 
 /// Reads the fields of a sheet into a zero state; number and place of a refusal.
-fn fields(bytes: &[u8], state: &mut State) -> Result<(), (u8, usize)> {
+#[inline(always)]
+fn fields<const K: usize>(bytes: &[u8], most: u8, state: &mut State) -> Result<(), (u8, usize)> {
     let end = bytes.len();
     let byte = |at: usize| bytes.get(at).copied().ok_or((6, at));
     let n = byte(3)? as usize;
@@ -90,7 +100,7 @@ fn fields(bytes: &[u8], state: &mut State) -> Result<(), (u8, usize)> {
     state.n = n;
     for i in 0..n {
         let size = byte(4 + i)?;
-        if size == 0 || size > 16 {
+        if size == 0 || size > most {
             return Err((4, 4 + i));
         }
         state.sizes[i] = size;
@@ -117,7 +127,7 @@ fn fields(bytes: &[u8], state: &mut State) -> Result<(), (u8, usize)> {
             return Err((20, at));
         }
         previous = a * 256 + b;
-        at = table(bytes, at + 2, a - 1, b - 1, state)?;
+        at = table::<K>(bytes, at + 2, a - 1, b - 1, state)?;
     }
     if at < end {
         return Err((6, at));
@@ -125,22 +135,28 @@ fn fields(bytes: &[u8], state: &mut State) -> Result<(), (u8, usize)> {
     Ok(())
 }
 
+/// The number in K bytes.
+#[inline(always)]
+fn number<const K: usize>(bytes: &[u8]) -> u32 {
+    bytes[..K].iter().fold(0, |number, &byte| number << 8 | byte as u32)
+}
+
 /// The rows of one table; the place after them.
 #[inline(always)]
-fn table(bytes: &[u8], at: usize, i: usize, j: usize, state: &mut State) -> Result<usize, (u8, usize)> {
+fn table<const K: usize>(bytes: &[u8], at: usize, i: usize, j: usize, state: &mut State) -> Result<usize, (u8, usize)> {
     let (i, j) = (i & 15, j & 15);
-    let outside = !full(state.sizes[j] as usize & 31);
-    let next = at + 2 * state.sizes[i] as usize;
+    let outside = !full(state.sizes[j] as usize & 63);
+    let next = at + K * state.sizes[i] as usize;
     let Some(text) = bytes.get(at..next) else {
-        return Err(first_fault(&bytes[at..], at, outside));
+        return Err(first_fault::<K>(&bytes[at..], at, outside));
     };
     let mut all = 0;
-    for (row, two) in pair_mut(state, i, j).iter_mut().zip(text.chunks_exact(2)) {
-        *row = u16::from_be_bytes([two[0], two[1]]) as u32;
+    for (row, few) in pair_mut(state, i, j).iter_mut().zip(text.chunks_exact(K)) {
+        *row = number::<K>(few);
         all |= *row;
     }
     if all & outside != 0 {
-        return Err(first_fault(text, at, outside));
+        return Err(first_fault::<K>(text, at, outside));
     }
     state.stated[i] |= 1 << j;
     state.stated[j] |= 1 << i;
@@ -149,13 +165,13 @@ fn table(bytes: &[u8], at: usize, i: usize, j: usize, state: &mut State) -> Resu
 
 /// The first row that is out of range, or else where the rows are cut off.
 #[cold]
-fn first_fault(text: &[u8], at: usize, outside: u32) -> (u8, usize) {
+fn first_fault<const K: usize>(text: &[u8], at: usize, outside: u32) -> (u8, usize) {
     let mut place = at;
-    for two in text.chunks_exact(2) {
-        if u16::from_be_bytes([two[0], two[1]]) as u32 & outside != 0 {
+    for few in text.chunks_exact(K) {
+        if number::<K>(few) & outside != 0 {
             return (8, place);
         }
-        place += 2;
+        place += K;
     }
     (6, place)
 }
@@ -166,10 +182,11 @@ fn read_into_zero(bytes: &[u8], state: &mut State) -> Result<(), (u8, usize)> {
     if bytes.len() < 3 || bytes.len() > LARGEST || bytes.len() != 3 + (bytes[1] as usize * 256 + bytes[2] as usize) {
         return Err((1, 0));
     }
-    if bytes[0] != 1 {
-        return Err((2, 0));
+    match bytes[0] {
+        1 => fields::<2>(bytes, 16, state),
+        2 => fields::<4>(bytes, 32, state),
+        _ => Err((2, 0)),
     }
-    fields(bytes, state)
 }
 
 /// Reads a sheet into `state`; number and place of a refusal, which leaves the zero state.
@@ -189,7 +206,7 @@ fn small_arrays_sound(s: &State) -> bool {
     for i in 0..16 {
         let size = s.sizes[i];
         if i < s.n {
-            if size == 0 || size > 16 || s.lists[i] & !full(size as usize) != 0 {
+            if size == 0 || size > 32 || s.lists[i] & !full(size as usize) != 0 {
                 return false;
             }
         } else if size != 0 || s.lists[i] != 0 || s.leaders[i] != 0 {
@@ -228,7 +245,7 @@ fn rows_within(s: &State) -> bool {
                     return false;
                 }
             } else {
-                let (inside, past) = rows.split_at(s.sizes[i] as usize & 31);
+                let (inside, past) = rows.split_at(s.sizes[i] as usize & 63);
                 if together(inside) & outside | together(past) != 0 {
                     return false;
                 }
@@ -484,23 +501,24 @@ pub fn complete(s: &State, build: &mut [u8]) -> u8 {
 }
 
 /// The tables, each by its pair and its rows, from byte `at` on.
-fn write_tables(s: &State, buffer: &mut [u8], mut at: usize) {
+#[inline(always)]
+fn write_tables<const K: usize>(s: &State, buffer: &mut [u8], mut at: usize) {
     for i in 0..s.n {
-        let length = 2 + 2 * s.sizes[i] as usize;
+        let length = 2 + K * s.sizes[i] as usize;
         for j in members(s.stated[i] & !full(i + 1)) {
             let text = &mut buffer[at..at + length];
             text[0] = i as u8 + 1;
             text[1] = j as u8 + 1;
-            for (two, row) in text[2..].chunks_exact_mut(2).zip(pair(s, i, j)) {
-                two.copy_from_slice(&(*row as u16).to_be_bytes());
+            for (few, row) in text[2..].chunks_exact_mut(K).zip(pair(s, i, j)) {
+                few.copy_from_slice(&row.to_be_bytes()[4 - K..]);
             }
             at += length;
         }
     }
 }
 
-/// Writes the sheet of a state as just read.
-pub fn write(s: &State, buffer: &mut [u8]) -> Written {
+/// Writes the sheet of a state as just read, in a version.
+pub fn write(s: &State, version: usize, buffer: &mut [u8]) -> Written {
     let refused = |number| Written { number, length: 0 };
     if !is_sound(s) {
         return refused(9);
@@ -509,21 +527,31 @@ pub fn write(s: &State, buffer: &mut [u8]) -> Written {
     if (0..n).any(|i| s.leaders[i] != 0 || s.lists[i] != full(s.sizes[i] as usize)) {
         return refused(18);
     }
+    let Some((row, most)) = layout(version) else {
+        return refused(24);
+    };
+    if s.sizes[..n].iter().any(|&size| size > most) {
+        return refused(24);
+    }
     let (mut length, mut tables) = (5 + n, 0);
     for i in 0..n {
         let later = (s.stated[i] & !full(i + 1)).count_ones() as usize;
         tables += later;
-        length += later * (2 + 2 * s.sizes[i] as usize);
+        length += later * (2 + row * s.sizes[i] as usize);
     }
     let Some(buffer) = buffer.get_mut(..length) else {
         return refused(17);
     };
-    buffer[0] = 1;
+    buffer[0] = version as u8;
     buffer[1..3].copy_from_slice(&((length - 3) as u16).to_be_bytes());
     buffer[3] = n as u8;
     buffer[4..4 + n].copy_from_slice(&s.sizes[..n]);
     buffer[4 + n] = tables as u8;
-    write_tables(s, buffer, 5 + n);
+    if row == 2 {
+        write_tables::<2>(s, buffer, 5 + n);
+    } else {
+        write_tables::<4>(s, buffer, 5 + n);
+    }
     Written { number: 0, length }
 }
 
@@ -577,10 +605,14 @@ impl Line<'_> {
         }
     }
 
-    /// A number below 10000 in decimal.
+    /// A number below 100000 in decimal.
     #[inline(always)]
     fn place(&mut self, number: usize) {
-        if number >= 100 {
+        if number >= 10000 {
+            self.word(&[b'0' + (number / 10000) as u8]);
+            self.word(&[b'0' + (number / 1000 % 10) as u8, b'0' + (number / 100 % 10) as u8]);
+            self.word(&[b'0' + (number / 10 % 10) as u8, b'0' + (number % 10) as u8]);
+        } else if number >= 100 {
             self.small(number / 100);
             self.word(&[b'0' + (number / 10 % 10) as u8, b'0' + (number % 10) as u8]);
         } else {
@@ -588,11 +620,11 @@ impl Line<'_> {
         }
     }
 
-    /// Four upper-case hexadecimal digits.
+    /// Eight upper-case hexadecimal digits.
     #[inline(always)]
     fn list(&mut self, list: u32) {
-        let digit = |shift: u32| b"0123456789ABCDEF"[(list >> shift & 15) as usize];
-        self.word(&[digit(12), digit(8), digit(4), digit(0)]);
+        let digits: [u8; 8] = std::array::from_fn(|k| b"0123456789ABCDEF"[(list >> (28 - 4 * k) & 15) as usize]);
+        self.word(&digits);
     }
 }
 

@@ -77,11 +77,20 @@ fn cut(bytes: &[u8], before: &State, counts: &mut Counts) {
     counts.note(8, one.number, &(one, here), &(other, there));
 }
 
-fn write(state: &State, length: usize, random: &mut Random, counts: &mut Counts) {
+/// A version to write in: 1 or 2, and now and then one that there is not.
+fn any_version(random: &mut Random) -> usize {
+    if random.chance(8) {
+        [0, 3, 255, 257, usize::MAX][random.below(5)]
+    } else {
+        1 + random.below(2)
+    }
+}
+
+fn write(state: &State, version: usize, length: usize, random: &mut Random, counts: &mut Counts) {
     let before: Vec<u8> = (0..length).map(|_| random.next() as u8).collect();
     let (mut here, mut there) = (before.clone(), before);
-    let one = proved::write(state, &mut here);
-    let other = plain::write(state, &mut there);
+    let one = proved::write(state, version, &mut here);
+    let other = plain::write(state, version, &mut there);
     counts.note(1, one.number, &(one, here), &(other, there));
 }
 
@@ -136,7 +145,8 @@ fn calls(state: &State, build: &[u8], random: &mut Random, counts: &mut Counts) 
     test_and_complete(state, build, counts);
     write(
         state,
-        [random.below(21), random.below(600), 4101][random.below(3)],
+        any_version(random),
+        [random.below(21), random.below(600), 15621][random.below(3)],
         random,
         counts,
     );
@@ -151,9 +161,11 @@ fn from_sheet(sheet: &Sheet, random: &mut Random, counts: &mut Counts) {
         test_and_complete(&state, &buffer(&sheet.build, length, random), counts);
     }
     let whole = sheet.bytes.len();
+    let own = sheet.bytes[0] as usize;
     for length in [whole - 1, whole, whole + 1, random.below(whole)] {
-        write(&state, length, random, counts);
+        write(&state, own, length, random, counts);
     }
+    write(&state, 3 - own, 15621, random, counts);
     for _ in 0..1 + random.below(6) {
         let n = state.n;
         state = if random.chance(8) {
@@ -183,12 +195,18 @@ fn damaged(bytes: &[u8], random: &mut Random, counts: &mut Counts) {
 /// One sheet and what comes of it, with bytes and states beside it; `at` says which.
 fn round(at: usize, random: &mut Random, counts: &mut Counts) {
     let sizes = if at % 16 == 0 {
-        let size = [4, 8, 16][random.below(3)];
-        vec![size; size as usize]
+        let size = [4, 8, 16, 27, 32][random.below(5)];
+        vec![size; size.min(16) as usize]
     } else {
         any_sizes(random)
     };
-    let sheet = sheet(FAMILIES[at % FAMILIES.len()], &sizes, random);
+    let family = FAMILIES[at % FAMILIES.len()];
+    // small sizes in version 2 too
+    let sheet = if at % 3 == 0 {
+        sheet_in(2, family, &sizes, random)
+    } else {
+        sheet(family, &sizes, random)
+    };
     counts.input(SHEET);
     from_sheet(&sheet, random, counts);
     if at % 200 == 0 || sheet.bytes.len() < 60 && at % 20 == 1 {

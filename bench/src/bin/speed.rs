@@ -72,8 +72,8 @@ const CALLS: [(&str, Call, Call); 10] = [
     ),
     (
         "write",
-        |c, _, b| look(proved::write(&c.fresh, b)),
-        |c, _, b| look(plain::write(&c.fresh, b)),
+        |c, _, b| look(proved::write(&c.fresh, c.sheet.bytes[0] as usize, b)),
+        |c, _, b| look(plain::write(&c.fresh, c.sheet.bytes[0] as usize, b)),
     ),
     (
         "cut",
@@ -123,7 +123,7 @@ fn median(mut times: Vec<f64>) -> f64 {
 /// Both by turns; the medians.
 fn both(cases: &[Case], one: Call, other: Call) -> (f64, f64) {
     let mut scratch = vec![State::ZERO; cases.len()];
-    let mut buffer = vec![0u8; 4101];
+    let mut buffer = vec![0u8; 15621];
     let (mut ones, mut others) = (Vec::new(), Vec::new());
     for _ in 0..ROUNDS {
         ones.push(timed(cases, &mut scratch, &mut buffer, one));
@@ -132,7 +132,8 @@ fn both(cases: &[Case], one: Call, other: Call) -> (f64, f64) {
     (median(ones), median(others))
 }
 
-const SIZES: [u8; 3] = [4, 8, 16];
+/// Options and their values.
+const SIZES: [(usize, u8); 4] = [(4, 4), (8, 8), (16, 16), (16, 32)];
 
 /// A ratio, with the place of its call and of its size.
 struct Ratio {
@@ -148,11 +149,11 @@ fn main() {
         "call", "size", "family", "proved", "plain", "ratio"
     );
     let mut ratios = Vec::new();
-    for (size, options) in SIZES.into_iter().enumerate() {
+    for (size, (options, values)) in SIZES.into_iter().enumerate() {
         for family in FAMILIES {
-            let mut random = Random(options as u64);
+            let mut random = Random(values as u64);
             let cases: Vec<Case> = (0..SHEETS)
-                .map(|_| case(sheet(family, &vec![options; options as usize], &mut random)))
+                .map(|_| case(sheet(family, &vec![values; options], &mut random)))
                 .collect();
             for (call, &(name, one, other)) in CALLS.iter().enumerate() {
                 if only.as_deref().is_some_and(|word| word != name) {
@@ -160,7 +161,7 @@ fn main() {
                 }
                 let (proved, plain) = both(&cases, one, other);
                 let ratio = proved / plain;
-                let (across, family) = (format!("{options}x{options}"), format!("{family:?}"));
+                let (across, family) = (format!("{options}x{values}"), format!("{family:?}"));
                 println!("{name:9} {across:6} {family:9} {proved:9.0} {plain:9.0} {ratio:6.2}");
                 ratios.push(Ratio { call, size, ratio });
             }
@@ -171,7 +172,7 @@ fn main() {
 
 /// The lowest and the highest ratio over the families, for each call and size.
 fn summary(ratios: &[Ratio]) {
-    println!("\n| proved to plain | 4x4 | 8x8 | 16x16 |\n|---|---|---|---|");
+    println!("\n| proved to plain | 4x4 | 8x8 | 16x16 | 16x32 |\n|---|---|---|---|---|");
     for (call, (name, ..)) in CALLS.iter().enumerate() {
         if ratios.iter().all(|r| r.call != call) {
             continue;

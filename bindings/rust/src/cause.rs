@@ -6,13 +6,13 @@ use std::fmt;
 #[non_exhaustive]
 #[repr(u8)]
 pub enum Cause {
-    /// "under 3 bytes, over 4,101, or not 3 plus the count"
+    /// "under 3 bytes, over 4,101, or not 3 plus the count", with 15,621 for 4,101
     Length = 1,
-    /// "version not 1"
+    /// "neither 1 nor 2"
     Version = 2,
     /// "n is 0 or above 16"
     OptionCount = 3,
-    /// "a size is 0 or above 16"
+    /// "a size is 0 or above 16", or above 32 in version 2
     Size = 4,
     /// "p above n(n-1)/2"
     TableCount = 5,
@@ -46,13 +46,15 @@ pub enum Cause {
     PairOrder = 19,
     /// "the pair is not after the one before"
     PairSequence = 20,
+    /// writer: "an unknown version or a size above 16 in version 1"
+    NotInVersion = 24,
 }
 
 use Cause::*;
 
 impl Cause {
     /// All causes, in the order of their numbers.
-    pub const ALL: [Cause; 20] = [
+    pub const ALL: [Cause; 21] = [
         Length,
         Version,
         OptionCount,
@@ -73,14 +75,15 @@ impl Cause {
         NotAsRead,
         PairOrder,
         PairSequence,
+        NotInVersion,
     ];
 
     /// The greatest number that a call answers.
-    pub const GREATEST: u8 = Self::ALL.len() as u8;
+    pub const GREATEST: u8 = NotInVersion as u8;
 
-    /// The cause that has this number; none for 0, which stands for "not refused", and for what is above the greatest.
+    /// The cause that has this number; none for 0, which stands for "not refused", and for a number that no cause has.
     pub fn of(number: u8) -> Option<Cause> {
-        Self::ALL.get((number as usize).checked_sub(1)?).copied()
+        Self::ALL.into_iter().find(|cause| cause.number() == number)
     }
 
     pub fn number(self) -> u8 {
@@ -88,22 +91,14 @@ impl Cause {
     }
 }
 
-const _: () = {
-    let mut at = 0;
-    while at < Cause::ALL.len() {
-        assert!(Cause::ALL[at] as usize == at + 1);
-        at += 1;
-    }
-};
-
 /// The cause in English, as `sheet_cause_text` of `include/sheet.h` has it.
 impl fmt::Display for Cause {
     fn fmt(&self, f: &mut fmt::Formatter) -> fmt::Result {
         f.write_str(match self {
-            Length => "the sheet is under 3 bytes or over 4,101, or its count of bytes is wrong",
-            Version => "the version is not 1",
+            Length => "the sheet is under 3 bytes or over 15,621, or its count of bytes is wrong",
+            Version => "the version is neither 1 nor 2",
             OptionCount => "the number of options is 0 or above 16",
-            Size => "the size of an option is 0 or above 16",
+            Size => "the size of an option is 0, above 32, or above 16 in version 1",
             TableCount => "there are more tables than pairs of options",
             CutOff => "a field is cut off, or bytes are left over",
             Pair => "a table names an option 0 or above the number of options",
@@ -120,6 +115,7 @@ impl fmt::Display for Cause {
             NotAsRead => "an option follows another, or a list is not full",
             PairOrder => "the first option of a table is not below its second",
             PairSequence => "a table's pair is not after the one before",
+            NotInVersion => "the version to write is unknown, or a size is above what it can hold",
         })
     }
 }

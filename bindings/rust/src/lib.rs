@@ -43,6 +43,7 @@ extern "C" {
         leaders: &[u8; MOST_OPTIONS],
         stated: &[u32; MOST_OPTIONS],
         rows: &Rows,
+        version: usize,
         buffer: *mut u8,
         length: usize,
     ) -> Written;
@@ -137,12 +138,13 @@ pub fn read(bytes: &[u8], state: &mut State) -> Read {
     }
 }
 
-/// Writes the sheet of a state that is as just read, and answers its length; bytes past its end are left as they were.
+/// Writes the sheet of a state that is as just read, in version 1 or 2, and answers its length; bytes past its end are left as
+/// they were.
 ///
-/// Numbers 9, 18, 17, tested in this order. A refusal leaves the buffer as it was. Reading what was written gives the same state;
-/// writing what was read, into enough space, gives the same bytes.
+/// Numbers 9, 18, 24, 17, tested in this order. A refusal leaves the buffer as it was. Reading what was written gives the same
+/// state; writing what was read in its own version, into enough space, gives the same bytes.
 #[inline]
-pub fn write(state: &State, buffer: &mut [u8]) -> Written {
+pub fn write(state: &State, version: usize, buffer: &mut [u8]) -> Written {
     let s = state;
     unsafe {
         sheet_write_parts(
@@ -152,6 +154,7 @@ pub fn write(state: &State, buffer: &mut [u8]) -> Written {
             &s.leaders,
             &s.stated,
             &s.rows,
+            version,
             buffer.as_mut_ptr(),
             buffer.len(),
         )

@@ -2,11 +2,11 @@
 use std::mem::{offset_of, size_of};
 
 /// The largest sheet.
-pub const LARGEST_BYTES: usize = 4101;
+pub const LARGEST_BYTES: usize = 15621;
 /// How many options a state has room for.
 pub const MOST_OPTIONS: usize = 16;
 /// How many values an option can have.
-pub const MOST_VALUES: usize = 16;
+pub const MOST_VALUES: usize = 32;
 /// How many rows a state has room for in each pair.
 pub const PAIR_ROWS: usize = 32;
 /// The rows of the 120 pairs.
@@ -31,7 +31,7 @@ pub const fn row_place(i: usize, j: usize, a: usize) -> usize {
 pub struct State {
     /// How many options, 1 to 16.
     pub n: usize,
-    /// How many values each has, 1 to 16.
+    /// How many values each has, 1 to 32.
     pub sizes: [u8; MOST_OPTIONS],
     /// Bit `v`: value `v` is still open.
     pub lists: [u32; MOST_OPTIONS],

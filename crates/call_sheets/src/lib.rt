@@ -28,11 +28,13 @@ pub fn read(bytes: &[u8]) -> ReadAnswer
     ReadAnswer { outcome, state }
 }
 
-// Writes the sheet of a state as just read into a lent buffer: "the writer tests 9, 18, 17". A refusal writes nothing.
-pub fn write(state: State, buffer: &mut [u8]) -> WriteAnswer
-    ensures { λ r. ⌜ (writeTold r ≡ writeSheet state (now (buffer .entry)) .answer) × (now (buffer .exit) ≡ writeSheet state (now (buffer .entry)) .buffer) ⌝ }
+// Writes the sheet of a state as just read into a lent buffer, in the version that it is told: "the writer tests 9, 18, 17", and 24 "after 18 and before 17".
+// A refusal writes nothing.
+pub fn write(state: State, version: usize, buffer: &mut [u8]) -> WriteAnswer
+    ensures { λ r. ⌜ (writeTold r ≡ writeSheet version state (now (buffer .entry)) .answer)
+        × (now (buffer .exit) ≡ writeSheet version state (now (buffer .entry)) .buffer) ⌝ }
 {
-    write_parts(head_in(state), &state.rows, buffer)
+    write_parts(head_in(state), &state.rows, version, buffer)
 }
 
 // Reading, the full reduction and the verdict in one call: what the three give one after the other.

@@ -37,7 +37,7 @@ pub struct SheetVerdict {
     pub solution: [u8; 16],
 }
 
-// Writes the sheet of a state into the buffer.
+// Writes the sheet of a state in a version into the buffer.
 #[no_mangle]
 pub extern "C" fn sheet_write_parts<'a>(
     n: usize,
@@ -46,15 +46,16 @@ pub extern "C" fn sheet_write_parts<'a>(
     leaders: &'a [u8; VARIABLES],
     stated: &'a [u32; VARIABLES],
     rows: &'a Rows,
+    version: usize,
     buffer: &mut [u8],
 ) -> SheetWritten
     ensures { λ r. ⌜
-        (r ≡ writtenOut (writeSheet (stateWith n (now (sizes .entry)) (now (lists .entry)) (now (leaders .entry)) (now (stated .entry)) (now (rows .entry))) (now (buffer .entry)) .answer))
-        × (now (buffer .exit) ≡ writeSheet (stateWith n (now (sizes .entry)) (now (lists .entry)) (now (leaders .entry)) (now (stated .entry)) (now (rows .entry))) (now (buffer .entry)) .buffer)
+        (r ≡ writtenOut (writeSheet version (stateWith n (now (sizes .entry)) (now (lists .entry)) (now (leaders .entry)) (now (stated .entry)) (now (rows .entry))) (now (buffer .entry)) .answer))
+        × (now (buffer .exit) ≡ writeSheet version (stateWith n (now (sizes .entry)) (now (lists .entry)) (now (leaders .entry)) (now (stated .entry)) (now (rows .entry))) (now (buffer .entry)) .buffer)
         ⌝ }
 {
     let head = head_of(n, sizes, lists, leaders, stated);
-    let answer = state_write::write_parts(head, rows, buffer);
+    let answer = state_write::write_parts(head, rows, version, buffer);
     SheetWritten {
         number: write_number(answer),
         length: write_length(answer),

@@ -39,4 +39,4 @@ cutA = record { number = 0; place = 0; state = stateLast; steps = 2; verdict = r
 
 -- What "it prints" for these bytes.
 unfoldable pub textA : List ℕ
-textA = ascii "OPTIONS 3\nLIVE 1 LIST 0003\nFOLLOWS 2 OF 1\nFOLLOWS 3 OF 1\nSTEPS 2\nVERDICT BUILT\nBUILD 0 0 1\n"
+textA = ascii "OPTIONS 3\nLIVE 1 LIST 00000003\nFOLLOWS 2 OF 1\nFOLLOWS 3 OF 1\nSTEPS 2\nVERDICT BUILT\nBUILD 0 0 1\n"

@@ -1,13 +1,13 @@
--- Document 01, "Causes and their numbers"; 7, 19 and 20 are those of document 02, L1.
+-- Document 01, "Causes and their numbers"; 7, 19 and 20 are those of document 02, L1, and 24 is that of L6.
 use Prim.Native.Nat.{ℕ}
 use Rattle.cause.specs.declared.Cause.{Cause}
-use Rattle.cause.specs.declared.Cause.the-variants.{Length, Version, VariableCount, Size, ConstraintCount, Extent, PairRange, PairOrder, PairRepeated, RowRange, Unsound, VariableNumber, NotTwoFree, NotStated, NotFunctional, SolutionLength, ValueRange, ValuesForbidden, BufferLength, NotFresh}
+use Rattle.cause.specs.declared.Cause.the-variants.{Length, Version, VariableCount, Size, ConstraintCount, Extent, PairRange, PairOrder, PairRepeated, RowRange, Unsound, VariableNumber, NotTwoFree, NotStated, NotFunctional, SolutionLength, ValueRange, ValuesForbidden, BufferLength, NotFresh, NotInVersion}
 
 abbrev pub numberOf : Cause → ℕ
-numberOf Length = 1  -- under 3 bytes, over 4,101, or not 3 plus the count
-numberOf Version = 2  -- version not 1
+numberOf Length = 1  -- under 3 bytes, over 15,621, or not 3 plus the count
+numberOf Version = 2  -- neither 1 nor 2
 numberOf VariableCount = 3  -- n is 0 or above 16
-numberOf Size = 4  -- a size is 0 or above 16
+numberOf Size = 4  -- a size is 0 or above the version's limit
 numberOf ConstraintCount = 5  -- p above n(n-1)/2
 numberOf Extent = 6  -- a field is cut off, or bytes are left over
 numberOf PairRange = 7  -- option numbers out of range, that is a of 0, b of 0, or either above n
@@ -24,7 +24,8 @@ numberOf ValueRange = 15  -- completer: a live value not in its list; tester: a 
 numberOf ValuesForbidden = 16  -- completer: two live values that their stated pair does not allow
 numberOf BufferLength = 17  -- written sheet longer than the buffer
 numberOf NotFresh = 18  -- writer: a follower exists or a list is not full
+numberOf NotInVersion = 24  -- writer: an unknown version or a size above 16 in version 1
 
 -- The greatest of these numbers.
 abbrev pub greatest : ℕ
-greatest = 20
+greatest = 24

@@ -30,6 +30,8 @@ pub enum Cause {
     ValuesForbidden,
     BufferLength,
     NotFresh,
+    // The version to write is unknown, or a size is above its limit.
+    NotInVersion,
 }
 
 // The number of the table of causes.
@@ -57,5 +59,6 @@ pub fn number(cause: Cause) -> u8
         Cause::ValuesForbidden => 16,
         Cause::BufferLength => 17,
         Cause::NotFresh => 18,
+        Cause::NotInVersion => 24,
     }
 }

@@ -9,7 +9,7 @@ use lib.ListN.{length, getD, length-append, List·getD-eq-default}
 use borrow.Author.Tests.{ltb-true, ltb-false}
 use Rattle.bounded.proofs.Bool.{by-cases}
 use Rattle.network.specs.Sheet.{Table, Sheet}
-use Rattle.format.specs.Layout.{Layout, longest}
+use Rattle.format.specs.Layout.{Layout, longest, largestIn}
 use Rattle.format.specs.Parse.{sizeOf}
 use Rattle.format.specs.Print.{bytesOf, printAll, printTable, printBody, print}
 use Rattle.format.specs.WellFormed.{All, none, more, TableFits, WellFormed}
@@ -53,10 +53,10 @@ module _ (L : Layout) (s : Sheet) (W : WellFormed L s) where
         mul-le-mul-left (L .rowBytes) (let e : length (t .rows) ≤ L .mostValues = rw (F .row-count) (size-most (t .first - 1)) in e),
       )
 
-  -- "The largest sheet has 4,101 bytes: 3 and 1 + 16 + 1 + 120 × 34."
-  pub largest-sheet : Usable L → length (print L s) ≤ longest
-  unfolding print printBody bytesOf
-  largest-sheet U =
+  -- No sheet is larger than the largest of its layout.
+  pub within-largest : length (print L s) ≤ largestIn L
+  unfolding print printBody bytesOf largestIn
+  within-largest =
       let m = 2 + L .rowBytes * L .mostValues in
       omega (
         arith,
@@ -64,5 +64,7 @@ module _ (L : Layout) (s : Sheet) (W : WellFormed L s) where
         W .most-variables,
         length-printAll (printTable L) m (all-map table-most (W .tables-fit)),
         mul-le-mul-right m (few-tables (length (s .sizes)) (length (s .tables)) (W .most-variables) (W .table-count)),
-        U .room-for-sheet,
       )
+
+  pub largest-sheet : Usable L → length (print L s) ≤ longest
+  largest-sheet U = omega (arith, within-largest, U .room-for-sheet)

@@ -9,3 +9,6 @@ pub mod SheetOf
 pub mod Builds
 pub mod Places
 pub mod Largest
+pub mod Versions
+pub mod Writable
+pub mod Examples

@@ -8,11 +8,11 @@ use lib.Dec.{eqb, ltb}
 use lib.ListN.{length, getD}
 use borrow.Author.Tests.{lt-ltb, le-ltb, eq-eqb, ne-eqb, lt-leb, ltb-true, ltb-false, leb-false, eqb-true, eqb-false}
 use Rattle.bounded.specs.Bool.{or, if}
-use Rattle.bounded.proofs.Bool.{by-cases, or-false-l, or-false-r, or-false-i, not-false-e, not-false-i, if-true, if-false}
+use Rattle.bounded.proofs.Bool.{by-cases, or-l, or-r, or-false-l, or-false-r, or-false-i, not-false-e, not-false-i, if-true, if-false}
 use Rattle.cause.specs.declared.Cause.{Cause}
 use Rattle.cause.specs.declared.Cause.the-variants.{Length, Version, Extent}
 use Rattle.format.specs.Layout.{Layout, Test, fine, fault, countTest, sizeTest, constraintsTest, withinTest, longest, found, unknown, layoutOf}
-use Rattle.format.specs.Parse.{Parse, got, bad, bind, numberAt, judged, field, many, parseBody, wrongLength, parseIn, parse}
+use Rattle.format.specs.Parse.{Parse, got, bad, bind, numberAt, judged, field, many, parseBody, wrongUnder, parseIn, parseUnder, wrongLength, parse}
 
 -- P holds of the value and of the place after it, if the parser gets one.
 pub data Where {A : Type 0} (P : A → ℕ → Type 0) : Parse A → Type 0 where
@@ -140,7 +140,7 @@ pub record LengthFits (bytes : List ℕ) : Type 0 where
 
 module _ (bytes : List ℕ) where
   pub length-fits : wrongLength bytes ≡ false → LengthFits bytes
-  unfolding wrongLength
+  unfolding wrongLength wrongUnder
   length-fits h =
       record {
         at-least-three = ltb-false _ _ (or-false-l _ _ h);
@@ -149,19 +149,24 @@ module _ (bytes : List ℕ) where
       }
 
   pub right-length : LengthFits bytes → wrongLength bytes ≡ false
-  unfolding wrongLength
+  unfolding wrongLength wrongUnder
   right-length h =
       or-false-i _ _ (le-ltb _ _ (h .at-least-three))
       (or-false-i _ _ (le-ltb _ _ (h .not-too-long)) (not-false-i _ (eq-eqb _ _ (h .as-counted))))
 
   pub parse-wrong-length : wrongLength bytes ≡ true → parse bytes ≡ bad Length 0
-  unfolding parse
+  unfolding parse parseUnder wrongLength
   parse-wrong-length h = if-true _ _ _ h
 
+  -- Longer bytes are refused whatever their version.
+  pub parse-too-long : longest < length bytes → parse bytes ≡ bad Length 0
+  unfolding wrongLength wrongUnder
+  parse-too-long h = parse-wrong-length (or-r _ _ (or-l _ _ (lt-ltb _ _ h)))
+
   pub parse-wrong-version : wrongLength bytes ≡ false → layoutOf (getD bytes 0 0) ≡ unknown → parse bytes ≡ bad Version 0
-  unfolding parse parseIn
+  unfolding parse parseUnder wrongLength layoutOf parseIn
   parse-wrong-version h v = if-false _ _ _ h ∙ rw v
 
   pub parse-is-body : wrongLength bytes ≡ false → (L : Layout) → layoutOf (getD bytes 0 0) ≡ found L → parse bytes ≡ parseBody L bytes
-  unfolding parse parseIn
+  unfolding parse parseUnder wrongLength layoutOf parseIn
   parse-is-body h L v = if-false _ _ _ h ∙ rw v

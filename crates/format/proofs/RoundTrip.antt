@@ -1,11 +1,12 @@
 -- Parsing and printing undo one another: proved once for each combinator.
+use mathlib.Core.Bool.{false}
 use mathlib.Core.List.{List, [], _∷_, _++_}
 use mathlib.Core.Path.{_≡_, refl, _∙_, ap}
 use Prim.Native.Nat.{ℕ, zero, suc, _+_, _-_, _/_, _%_, _^_, _≤_, _<_}
 use native.Mathlib.Omega.{arith}
 use lib.Dec.{ltb}
-use lib.ListN.{length, getD}
-use borrow.Author.Tests.{le-ltb, ltb-false}
+use lib.ListN.{length, getD, length-append}
+use borrow.Author.Tests.{lt-ltb, le-ltb, ltb-false}
 use Rattle.bounded.proofs.Bool.{by-cases, if-true, if-false}
 use Rattle.cause.specs.declared.Cause.the-variants.{Extent}
 use Rattle.network.specs.Sheet.{Table, Sheet}
@@ -288,6 +289,10 @@ ended-got : (s : Sheet) (bytes : List ℕ) → ended s bytes (length bytes) ≡ 
 unfolding ended
 ended-got s bytes = if-false _ _ _ (le-ltb (length bytes) (length bytes) (omega arith))
 
+ended-left : (s : Sheet) (bytes : List ℕ) (at : ℕ) → at < length bytes → ended s bytes at ≡ bad Extent at
+unfolding ended
+ended-left s bytes at h = if-true _ _ _ (lt-ltb _ _ h)
+
 -- Where each part of a body stands.
 module _ (L : Layout) (bytes : List ℕ) (s : Sheet) (next : ℕ) (h : Stands bytes 3 (printBody L s) next) where
   pub sizes-on : Stands bytes 4 (s .sizes ++ (length (s .tables) ∷ printAll (printTable L) (s .tables))) next
@@ -342,12 +347,11 @@ module _ (L : Layout) (usable : Usable L) (bytes : List ℕ) where
         all-read = omega arith;
       }
 
-  body-accepts : (s : Sheet) → WellFormed L s → Stands bytes 3 (printBody L s) (length bytes) → parseBody L bytes ≡ got s (length bytes)
+  body-accepts : (s : Sheet) → WellFormed L s → (end : ℕ) → Stands bytes 3 (printBody L s) end → parseBody L bytes ≡ ended s bytes end
   unfolding parseBody
-  body-accepts s f h =
+  body-accepts s f end h =
       let n = length (s .sizes) in
       let p = length (s .tables) in
-      let end = length bytes in
       let room : p < 256 ^ 1 = omega (arith, few-tables n p (f .most-variables) (f .table-count)) in
       bind-got _ _
       (byte-inverse countTest .accepts bytes 3 n 4
@@ -364,7 +368,6 @@ module _ (L : Layout) (usable : Usable L) (bytes : List ℕ) where
         fits = record { so-many = refl; all-fit = f .tables-fit; ascending = f .ascending };
         stands = tables-stand L bytes s end h;
       }))
-      ∙ ended-got s bytes
 
 -- A sheet that was read: in the layout of byte 0 it is well formed and is printed as the bytes that it was read from.
 pub record SheetRead (bytes : List ℕ) (s : Sheet) (next : ℕ) : Type 0 where
@@ -407,18 +410,47 @@ module _ (bytes : List ℕ) (octets : Octets bytes) where
   pub parsed : (s : Sheet) (end : ℕ) → parse bytes ≡ got s end → SheetRead bytes s end
   parsed s end h = holds-of-got _ _ sheet-reads h
 
--- The parser accepts every well-formed sheet that was printed in a layout that there is, and gets that sheet.
-pub parse-of-print : (L : Layout) → layoutOf (L .version) ≡ found L → (s : Sheet) → WellFormed L s → parse (print L s) ≡ got s (length (print L s))
-unfolding print bytesOf
-parse-of-print L v s w =
-    let usable = found-usable _ L v in
-    let body = printBody L s in
-    let bytes = print L s in
-    let next = length bytes in
-    let n = length body in
-    let short : length bytes ≤ longest = largest-sheet L s w usable in
-    let room : n < 256 ^ 2 = omega (arith, longest-counted) in
-    let counted : Stands bytes 1 (bytesOf 2 n ++ body) next = stands-back bytes 0 next (L .version ∷ []) _ (stands-self bytes) in
-    let count : numberAt 2 bytes 1 ≡ n = number-of-bytes 2 n bytes 1 3 room (stands-front bytes 1 next (bytesOf 2 n) body counted) in
-    let fits : LengthFits bytes = record { at-least-three = omega arith; not-too-long = short; as-counted = omega arith } in
-    parse-is-body bytes (right-length bytes fits) L v ∙ body-accepts L usable bytes s w (stands-back bytes 1 next (bytesOf 2 n) body counted)
+-- A version and the count of a body before it: the body stands in its place, and the length is right.
+abbrev pub framed : ℕ → List ℕ → List ℕ
+framed version body = version ∷ (bytesOf 2 (length body) ++ body)
+
+module _ (version : ℕ) (body : List ℕ) where
+  counted : Stands (framed version body) 1 (bytesOf 2 (length body) ++ body) (length (framed version body))
+  counted = stands-back (framed version body) 0 _ (version ∷ []) _ (stands-self (framed version body))
+
+  framed-body : Stands (framed version body) 3 body (length (framed version body))
+  unfolding bytesOf
+  framed-body = stands-back (framed version body) 1 _ (bytesOf 2 (length body)) body counted
+
+  framed-length : 3 + length body ≤ longest → wrongLength (framed version body) ≡ false
+  unfolding bytesOf
+  framed-length short =
+      let bytes = framed version body in
+      let n = length body in
+      let room : n < 256 ^ 2 = omega (arith, longest-counted) in
+      let count : numberAt 2 bytes 1 ≡ n = number-of-bytes 2 n bytes 1 3 room (stands-front bytes 1 _ (bytesOf 2 n) body counted) in
+      right-length bytes (record { at-least-three = omega arith; not-too-long = omega arith; as-counted = omega arith })
+
+module _ (L : Layout) (v : layoutOf (L .version) ≡ found L) (s : Sheet) (w : WellFormed L s) where
+  -- The parser accepts every well-formed sheet that was printed in a layout that there is, and gets that sheet.
+  pub parse-of-print : parse (print L s) ≡ got s (length (print L s))
+  unfolding print bytesOf
+  parse-of-print =
+      let body = printBody L s in
+      let short = largest-sheet L s w (found-usable _ L v) in
+      parse-is-body (print L s) (framed-length (L .version) body (omega arith)) L v
+      ∙ body-accepts L (found-usable _ L v) (print L s) s w _ (framed-body (L .version) body)
+      ∙ ended-got s (print L s)
+
+  -- Where more bytes follow it, counted and within the limit, they are refused where they begin: 6 "bytes are left over".
+  pub left-over : (rest : List ℕ) → 1 ≤ length rest → length (print L s) + length rest ≤ longest
+      → parse (framed (L .version) (printBody L s ++ rest)) ≡ bad Extent (length (print L s))
+  unfolding print bytesOf
+  left-over rest some short =
+      let body = printBody L s in
+      let bytes = framed (L .version) (body ++ rest) in
+      let long = length-append body rest in
+      parse-is-body bytes (framed-length (L .version) (body ++ rest) (omega arith)) L v
+      ∙ body-accepts L (found-usable _ L v) bytes s w _ (stands-front bytes 3 _ body rest (framed-body (L .version) (body ++ rest)))
+      ∙ ended-left s bytes _ (omega arith)
+      ∙ ap (bad Extent) (let place : 3 + length body ≡ length (print L s) = omega arith in place)

@@ -23,12 +23,11 @@ use Rattle.network.proofs.Tables.{isFor-e, isFor-i, tabled-here, tabled-there, 
 use Rattle.network.proofs.SheetOf.{Same}
 use Rattle.network.proofs.SheetOf.{n-sheetOf, size-sheetOf, tabled-sheetOf, row-sheetOf, tabled-networkOf, row-networkOf}
 use Rattle.network.proofs.SheetOf.{Fits, networkOf-sound}
-use Rattle.format.specs.Layout.{Layout, fine, version1}
+use Rattle.format.specs.Layout.{Layout, fine, largestSize}
 use Rattle.format.specs.Parse.{pairOf, sizeOf}
 use Rattle.format.specs.WellFormed.{All, none, more, TableFits, Ascend, WellFormed}
 use Rattle.format.proofs.All.{all-getD, all-tabulate, all-collect}
-use Rattle.format.proofs.Layouts.{Usable}
-use Rattle.format.proofs.Parse.{fine-row}
+use Rattle.format.proofs.Layouts.{Usable, TakesAnyRow}
 use Rattle.format.proofs.Lengths.{size-most}
 
 -- ---- look-ups
@@ -87,7 +86,7 @@ sheet-fits L U s W =
 -- ---- the tables of a network
 
 -- The table of i and j.
-abbrev tableFor : Network → ℕ → ℕ → Table
+abbrev pub tableFor : Network → ℕ → ℕ → Table
 tableFor N i j =
     record { first = suc i; second = suc j; rows = tabulate (N .size i) (λ (a : ℕ). word (N .size j) (N .allows i j a)) }
 
@@ -98,7 +97,7 @@ unfolding tableOf if
 tableOf-case N i j P f g = by-cases (N .stated i j) (λ t. rw t (f t)) (λ t. rw t g)
 
 -- What holds of the table of each stated pair in order holds of all tables.
-tables-all : (N : Network) {P : Table → Type 0} → ((i j : ℕ) → i < j → j < N .n → N .stated i j ≡ true → P (tableFor N i j))
+pub tables-all : (N : Network) {P : Table → Type 0} → ((i j : ℕ) → i < j → j < N .n → N .stated i j ≡ true → P (tableFor N i j))
     → All P (sheetOf N .tables)
 unfolding sheetOf
 tables-all N {P} h =
@@ -189,10 +188,9 @@ pub record Takes (L : Layout) (N : Network) : Type 0 where
   pub rows-taken : (i j a : ℕ) → i < j → N .stated i j ≡ true → a < N .size i
       → L .rowTest (N .size j) (word (N .size j) (N .allows i j a)) ≡ fine
 
--- Version 1 takes any row: "An all-zero row is allowed."
-pub version1-takes : (N : Network) → ((i : ℕ) → N .size i ≤ 16) → Takes version1 N
-unfolding version1
-version1-takes N small = record { sizes-taken = small; rows-taken = λ i j a _ _ _. fine-row _ _ (word-lt _ _) }
+-- A layout that takes any row takes every network of its sizes.
+pub plain-takes : (L : Layout) → TakesAnyRow L → (N : Network) → ((i : ℕ) → N .size i ≤ L .mostValues) → Takes L N
+plain-takes L any N small = record { sizes-taken = small; rows-taken = λ i j a _ _ _. any _ _ (word-lt _ _) }
 
 module _ (L : Layout) (U : Usable L) (N : Network) (S : Sound N) (few : N .n ≤ 16) (T : Takes L N) where
   -- The size of the variable i, as the sheet has it for the option i + 1.
@@ -338,7 +336,7 @@ module _ (L : Layout) (U : Usable L) where
     unfolding networkOf
     wellformed-n = W .most-variables
 
-    pub wellformed-size : (i : ℕ) → networkOf s .size i ≤ 16
+    pub wellformed-size : (i : ℕ) → networkOf s .size i ≤ largestSize
     unfolding networkOf
     wellformed-size i = omega (arith, size-most L s W i, U .most-values)
 

@@ -1,7 +1,7 @@
 -- What a version of the format fixes, and the tests of the fields: each answers "fine", or which cause.
 use mathlib.Core.Bool.{Bool}
 use mathlib.Core.List.{List, [], _∷_}
-use Prim.Native.Nat.{ℕ, _-_, _*_, _/_, _%_, _^_}
+use Prim.Native.Nat.{ℕ, _+_, _-_, _*_, _/_, _%_, _^_}
 use lib.Dec.{eqb, ltb, leb}
 use Rattle.bounded.specs.Bool.{or, not, if}
 use Rattle.cause.specs.declared.Cause.{Cause}
@@ -12,9 +12,14 @@ pub data Test : Type 0 where
   fine : Test
   fault : Cause → Test
 
--- "The largest sheet has 4,101 bytes", whatever its version.
+-- "The largest version 2 sheet has 15,621 bytes, which is the limit in number 1 and in the program." Number 1 is tested before the version, so the limit is
+-- that of every version.
 unfoldable pub longest : ℕ
-longest = 4101
+longest = 15621
+
+-- "Sizes may go to 32, in a sound state too": in no version further.
+abbrev pub largestSize : ℕ
+largestSize = 32
 
 -- What a version fixes.
 pub record Layout : Type 0 where
@@ -23,11 +28,15 @@ pub record Layout : Type 0 where
   pub mostValues : ℕ  -- the largest size
   pub rowTest : ℕ → ℕ → Test  -- the test of a row, by the size of b
 
+-- The bytes of the largest sheet of a layout: "3 and 1 + 16 + 1 + 120 × 34", with 2 and a row for each of the most values in the place of 34.
+unfoldable pub largestIn : Layout → ℕ
+largestIn L = 3 + (1 + 16 + 1) + 120 * (2 + L .rowBytes * L .mostValues)
+
 -- n is "1 to 16": 3 "n is 0 or above 16"
 unfoldable pub countTest : ℕ → Test
 countTest n = if (or (eqb n 0) (ltb 16 n)) (fault VariableCount) fine
 
--- 4 "a size is 0 or above 16"
+-- 4 "a size is 0 or above 16": "number 4 goes by the version's limit"
 unfoldable pub sizeTest : ℕ → ℕ → Test
 sizeTest most size = if (or (eqb size 0) (ltb most size)) (fault Size) fine
 
@@ -53,13 +62,17 @@ pairTest n previous pair =
 unfoldable pub withinTest : ℕ → ℕ → Test
 withinTest size row = if (leb (2 ^ size) row) (fault RowRange) fine
 
--- Version 1: "one two-byte row for each value of a", sizes "1 to 16".
+-- "version 1 keeps two-byte rows and sizes to 16"
 unfoldable pub version1 : Layout
 version1 = record { version = 1; rowBytes = 2; mostValues = 16; rowTest = withinTest }
 
--- "Byte 0 is the version, 1." The layouts that there are, one for each version.
+-- "Version 2 of the sheet has four-byte rows"; "Sizes may go to 32".
+unfoldable pub version2 : Layout
+version2 = record { version = 2; rowBytes = 4; mostValues = 32; rowTest = withinTest }
+
+-- "Number 2 now means neither 1 nor 2": the layouts that there are, one for each version.
 unfoldable pub layouts : List Layout
-layouts = version1 ∷ []
+layouts = version1 ∷ version2 ∷ []
 
 -- The layout of a version, if there is one.
 pub data Lookup : Type 0 where

@@ -8,7 +8,7 @@ use Rattle.bounded.specs.Bool.{or, not, if}
 use Rattle.cause.specs.declared.Cause.{Cause}
 use Rattle.cause.specs.declared.Cause.the-variants.{Length, Version, Extent}
 use Rattle.network.specs.Sheet.{Table, Sheet}
-use Rattle.format.specs.Layout.{Test, fine, fault, Layout, countTest, sizeTest, constraintsTest, pairTest, longest, Lookup, found, unknown, layoutOf}
+use Rattle.format.specs.Layout.{Test, fine, fault, Layout, countTest, sizeTest, constraintsTest, pairTest, longest, Lookup, found, unknown, layouts, layoutAmong}
 
 -- Bytes: each is below 256.
 abbrev pub Octets : List ℕ → Type 0
@@ -55,7 +55,7 @@ pairOf t = t .first * 256 + t .second
 unfoldable pub sizeOf : List ℕ → ℕ → ℕ
 sizeOf sizes x = getD sizes (x - 1) 0
 
--- "A table is a pair a, b .. and one two-byte row for each value of a, value 0 first."
+-- "A table is a pair a, b .. and one two-byte row for each value of a, value 0 first", a row having the bytes that the layout gives it.
 unfoldable pub parseTable : Layout → List ℕ → ℕ → List ℕ → ℕ → Parse Table
 parseTable L sizes previous bytes at =
     bind (field 2 (pairTest (length sizes) previous) bytes at) (λ pair next.
@@ -78,15 +78,22 @@ parseBody L bytes =
     bind (parseTables L sizes p 0 bytes next) (λ tables next.
     ended (record { sizes = sizes; tables = tables }) bytes next))))
 
--- 1 "under 3 bytes, over 4,101, or not 3 plus the count". "Bytes 1 and 2 are the count of bytes that follow them."
-unfoldable pub wrongLength : List ℕ → Bool
-wrongLength bytes = or (ltb (length bytes) 3) (or (ltb longest (length bytes)) (not (eqb (length bytes) (3 + numberAt 2 bytes 1))))
+-- 1 "under 3 bytes, over 4,101, or not 3 plus the count", with a limit for 4,101. "Bytes 1 and 2 are the count of bytes that follow them."
+unfoldable pub wrongUnder : ℕ → List ℕ → Bool
+wrongUnder limit bytes = or (ltb (length bytes) 3) (or (ltb limit (length bytes)) (not (eqb (length bytes) (3 + numberAt 2 bytes 1))))
 
--- 2 "version not 1": it has no layout. Otherwise the body is read in its layout.
+-- 2 "version not 1": "Number 2 now means neither 1 nor 2", that is, it has no layout. Otherwise the body is read in its layout.
 unfoldable pub parseIn : Lookup → List ℕ → Parse Sheet
 parseIn unknown bytes = bad Version 0
 parseIn (found L) bytes = parseBody L bytes
 
--- "Number 1 is tested first, then 2, then fields in file order." "Byte 0 is the version."
+-- "Number 1 is tested first, then 2, then fields in file order." Byte 0 is the version. The limit and the layouts are all that a new version changes.
+unfoldable pub parseUnder : ℕ → List Layout → List ℕ → Parse Sheet
+parseUnder limit Ls bytes = if (wrongUnder limit bytes) (bad Length 0) (parseIn (layoutAmong Ls (getD bytes 0 0)) bytes)
+
+-- Today's limit, and today's layouts.
+unfoldable pub wrongLength : List ℕ → Bool
+wrongLength bytes = wrongUnder longest bytes
+
 unfoldable pub parse : List ℕ → Parse Sheet
-parse bytes = if (wrongLength bytes) (bad Length 0) (parseIn (layoutOf (getD bytes 0 0)) bytes)
+parse bytes = parseUnder longest layouts bytes

@@ -3,7 +3,7 @@ use mathlib.Core.List.{List, [], _∷_, _++_}
 use Prim.Native.Nat.{ℕ, zero, suc, _/_, _%_, _^_}
 use lib.ListN.{length}
 use Rattle.network.specs.Sheet.{Table, Sheet}
-use Rattle.format.specs.Layout.{Layout}
+use Rattle.format.specs.Layout.{Layout, Lookup, found, unknown}
 
 -- A number in k bytes, big-endian.
 unfoldable pub bytesOf : ℕ → ℕ → List ℕ
@@ -25,3 +25,8 @@ printBody L s = length (s .sizes) ∷ (s .sizes ++ (length (s .tables) ∷ print
 -- The version, and the count of the bytes that follow.
 unfoldable pub print : Layout → Sheet → List ℕ
 print L s = L .version ∷ (bytesOf 2 (length (printBody L s)) ++ printBody L s)
+
+-- "The writer is told the version": the bytes in its layout, and none where there is none.
+unfoldable pub printIn : Lookup → Sheet → List ℕ
+printIn unknown s = []
+printIn (found L) s = print L s

@@ -11,9 +11,9 @@ use Rattle.network.specs.Sound.{sound}
 use Rattle.pairs.specs.Pairs.{variables, pairCount, allowsOf, rowsOf}
 use Rattle.head.specs.declared.Head.{Head}
 
--- How large a size may be: "sizes are 1 to 16". The other two numbers of a state are `variables` and `width`.
+-- How large a size may be: "Sizes may go to 32, in a sound state too". The other two numbers of a state are `variables` and `width`.
 abbrev pub mostValues : ℕ
-mostValues = 16
+mostValues = 32
 
 -- What the types of its fields say of every head,
 pub record HeadShaped (h : Head) : Type 0 where

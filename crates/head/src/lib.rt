@@ -3,7 +3,7 @@ pub use pairs::Rows;
 pub use pairs::VARIABLES;
 
 // The largest size.
-pub const VALUES: usize = 16;
+pub const VALUES: usize = 32;
 
 // A state but for its rows: how many variables it has, and for each its size, its domain, its leader and the variables that it is stated with.
 pub struct Head {

@@ -33,7 +33,7 @@ pub record Bounded (m w : ℕ) (N : Network) : Type 0 where
   pub stated-bound : (i j : ℕ) → N .stated i j ≡ true → (i < m) × (j < w)
   pub allows-bound : (i j a b : ℕ) → N .allows i j a b ≡ true → (i < m) × (j < m) × (a < w) × (b < w)
 
--- The test: m is the number of variables that an array holds, w the bits of a word, k the largest size (16, 32 and 16 today). It looks at every bit of
+-- The test: m is the number of variables that an array holds, w the bits of a word, k the largest size (16, 32 and 32 today). It looks at every bit of
 -- every word, whatever the sizes. A definition for each sentence.
 module _ (m w k : ℕ) (N : Network) where
   -- "n is 1 to 16"

@@ -17,7 +17,7 @@ use Rattle.cause.specs.declared.Cause.the-variants.{VariableCount, Size, Constr
 use Rattle.read_field.specs.declared.field.Read.{Read}
 use Rattle.read_field.specs.declared.field.Read.the-variants.{Value, Refused}
 use Rattle.format.specs.Layout.{Test, fine, fault, countTest, sizeTest, constraintsTest, outOfRange, pairTest, withinTest, longest}
-use Rattle.format.specs.Parse.{Parse, got, bad, numberAt, judged, field, wrongLength}
+use Rattle.format.specs.Parse.{Parse, got, bad, numberAt, judged, field, wrongUnder, wrongLength}
 use Rattle.format.proofs.Parse.{fine-row}
 use Rattle.read_field.specs.Fields.{readAs, readOf, rangeTest}
 
@@ -152,16 +152,16 @@ machine-not false = refl
 
 module _ (bytes : List ℕ) where
   pub short-wrong : length bytes < 3 → true ≡ wrongLength bytes
-  unfolding wrongLength
+  unfolding wrongLength wrongUnder
   short-wrong h = sym (or-l _ _ (lt-ltb _ _ h))
 
-  pub long-wrong : 4101 < length bytes → true ≡ wrongLength bytes
-  unfolding wrongLength longest
+  pub long-wrong : 15621 < length bytes → true ≡ wrongLength bytes
+  unfolding wrongLength wrongUnder longest
   long-wrong h = sym (or-r _ _ (or-l _ _ (lt-ltb _ _ h)))
 
-  pub count-wrong : (count : ℕ) → 3 ≤ length bytes → length bytes ≤ 4101 → count ≡ numberAt 2 bytes 1
+  pub count-wrong : (count : ℕ) → 3 ≤ length bytes → length bytes ≤ 15621 → count ≡ numberAt 2 bytes 1
       → negated (eqb (length bytes) (3 + count)) ≡ wrongLength bytes
-  unfolding wrongLength longest or
+  unfolding wrongLength wrongUnder longest or
   count-wrong count h k e = rw (le-ltb _ _ h, le-ltb _ _ k, e) (machine-not _)
 
 -- ---- the tests of n, of a size and of p are of ranges

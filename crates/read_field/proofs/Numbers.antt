@@ -1,11 +1,10 @@
--- The number in k bytes, byte after byte.
+-- The number in one byte, in two and in four.
 use mathlib.Core.List.{List}
-use mathlib.Core.Path.{_≡_, sym}
-use Prim.Native.Nat.{ℕ, suc, _+_, _-_, _*_, _/_, _%_, _^_, _≤_, _<_}
-use native.Mathlib.Nat.{pow-suc, pow-le-pow-right, mul-assoc, mul-comm, add-mul}
+use mathlib.Core.Path.{_≡_}
+use Prim.Native.Nat.{ℕ, suc, _+_, _*_, _/_, _%_, _<_}
 use native.Mathlib.Numerals.{add-one}
 use native.Mathlib.Omega.{arith}
-use mir.Syntax.{w8, w16, w64}
+use mir.Syntax.{w8, w16, w32, w64}
 use mir.Val.{Fits}
 use lib.ListN.{getD}
 use Rattle.format.specs.Parse.{numberAt}
@@ -24,6 +23,22 @@ module _ (bytes : List ℕ) (known : (j : ℕ) → Fits w8 (getD bytes j 0)) whe
   pub two-fits : (at low : ℕ) → Fits w16 (getD bytes at 0 * 256 + getD bytes low 0)
   two-fits at low = omega (arith, known at, known low)
 
+  -- Four bytes, each of its own weight.
+  pub fourth-fits : (at : ℕ) → Fits w32 (getD bytes at 0)
+  fourth-fits at = omega (arith, known at)
+
+  pub third-fits : (at : ℕ) → Fits w32 (getD bytes at 0 * 256)
+  third-fits at = omega (arith, known at)
+
+  pub second-fits : (at : ℕ) → Fits w32 (getD bytes at 0 * 65536)
+  second-fits at = omega (arith, known at)
+
+  pub first-fits : (at : ℕ) → Fits w32 (getD bytes at 0 * 16777216)
+  first-fits at = omega (arith, known at)
+
+  pub four-fit : (a b c d : ℕ) → getD bytes a 0 * 16777216 + getD bytes b 0 * 65536 + getD bytes c 0 * 256 + getD bytes d 0 < 4294967296
+  four-fit a b c d = omega (arith, known a, known b, known c, known d)
+
 -- The number in one byte,
 pub number-one : (bytes : List ℕ) (at : ℕ) → getD bytes at 0 ≡ numberAt 1 bytes at
 unfolding numberAt
@@ -35,44 +50,26 @@ pub number-two : (bytes : List ℕ) (at : ℕ) → ((j : ℕ) → Fits w8 (getD 
 unfolding numberAt
 number-two bytes at known x e = rw (← add-one at) (omega (arith, known at, known (at + 1)))
 
--- ---- any number of bytes
+-- The same of four: each byte is a digit of x.
+low-digit : (q r y : ℕ) → r < 256 → y ≡ q * 256 + r → y % 256 ≡ r
+low-digit q r y h e = omega arith
 
--- The first b bytes are read: what they come to, with the weight of the bytes that are left, and the number in those make the whole.
-pub record NumberSoFar (bytes : List ℕ) (at k value b : ℕ) : Type 0 where
-  pub within : b ≤ k
-  pub small : value < 256 ^ b
-  pub left : numberAt k bytes at ≡ value * 256 ^ (k - b) + numberAt (k - b) bytes (at + b)
+digits : (a b c d x : ℕ) → Fits w8 a → Fits w8 b → Fits w8 c → Fits w8 d → x ≡ d * 16777216 + c * 65536 + b * 256 + a
+    → x % 256 * 16777216 + x / 256 % 256 * 65536 + x / 65536 % 256 * 256 + x / 16777216 ≡ a * 16777216 + b * 65536 + c * 256 + d
+digits a b c d x ha hb hc hd e =
+    let lowest : x % 256 ≡ a = omega arith in
+    let second : x / 256 % 256 ≡ b = low-digit (d * 256 + c) b (x / 256) (omega arith) (omega arith) in
+    let third : x / 65536 % 256 ≡ c = low-digit d c (x / 65536) (omega arith) (omega arith) in
+    let highest : x / 16777216 ≡ d = omega arith in
+    rw (lowest, second, third, highest)
 
-pub number-none : (bytes : List ℕ) (at k : ℕ) → NumberSoFar bytes at k 0 0
-number-none bytes at k =
-    let all : k - 0 ≡ k = omega arith in
-    let here : at + 0 ≡ at = omega arith in
-    record { within = omega arith; small = omega arith; left = rw (all, here) (omega arith) }
-
-carry : (k c : ℕ) → c * 256 ^ suc k ≡ c * 256 * 256 ^ k
-carry k c = rw (pow-suc 256 k, mul-comm (256 ^ k) 256) (sym (mul-assoc c 256 (256 ^ k)))
-
-module _ {bytes : List ℕ} {at k value b : ℕ} (so-far : NumberSoFar bytes at k value b) where
-  pub number-end : k ≤ b → value ≡ numberAt k bytes at
-  unfolding numberAt
-  number-end h = let none : k - b ≡ 0 = omega arith in omega (arith, rw none at (so-far .left))
-
-  module _ (one-left : b < k) where
-    -- With one byte more it still fits,
-    pub number-fits : k ≤ 4 → value * 256 + 255 < 2 ^ 32
-    number-fits few =
-        let h : suc b ≤ 4 = omega arith in
-        omega (arith, so-far .small, pow-suc 256 b, pow-le-pow-right {n = 256} (omega arith) h)
-
-    -- and that byte is no longer left.
-    pub number-more : ((j : ℕ) → Fits w8 (getD bytes j 0)) → NumberSoFar bytes at k (value * 256 + getD bytes (at + b) 0) (b + 1)
-    unfolding numberAt
-    number-more known =
-        let rest = k - (b + 1) in
-        let one : k - b ≡ suc rest = omega arith in
-        let next : suc (at + b) ≡ at + (b + 1) = omega arith in
-        record {
-          within = omega arith;
-          small = rw (add-one b) (omega (arith, so-far .small, pow-suc 256 b, known (at + b)));
-          left = omega (arith, rw (one, next) at (so-far .left), carry rest value, add-mul (value * 256) (getD bytes (at + b) 0) (256 ^ rest));
-        }
+pub number-four : (bytes : List ℕ) (at : ℕ) → ((j : ℕ) → Fits w8 (getD bytes j 0)) → (x : ℕ)
+    → x ≡ getD bytes (at + 3) 0 * 16777216 + getD bytes (at + 2) 0 * 65536 + getD bytes (at + 1) 0 * 256 + getD bytes at 0
+    → numberAt 4 bytes at ≡ x % 256 * 16777216 + x / 256 % 256 * 65536 + x / 65536 % 256 * 256 + x / 16777216
+unfolding numberAt
+number-four bytes at known x e =
+    let one : suc at ≡ at + 1 = omega arith in
+    let two : suc (at + 1) ≡ at + 2 = omega arith in
+    let three : suc (at + 2) ≡ at + 3 = omega arith in
+    rw (one, two, three)
+    (omega (arith, digits _ _ _ _ x (known at) (known (at + 1)) (known (at + 2)) (known (at + 3)) e))

@@ -1,5 +1,6 @@
 -- The answers of the functions that read, as parses.
-use Prim.Native.Nat.{ℕ}
+use mathlib.Core.Path.{_≡_}
+use Prim.Native.Nat.{ℕ, _%_, _≤_}
 use lib.Dec.{ltb}
 use Rattle.bounded.specs.Bool.{or, if}
 use Rattle.cause.specs.declared.Cause.{Cause}
@@ -21,3 +22,7 @@ readOf (Refused c at) = bad c at
 -- A number from least to most, and else the cause: the tests of n, of a size and of p.
 unfoldable pub rangeTest : ℕ → ℕ → Cause → ℕ → Test
 rangeTest least most c v = if (or (ltb v least) (ltb most v)) (fault c) fine
+
+-- The bytes that a row has in some layout: two or four.
+abbrev pub RowBytes : ℕ → Type 0
+RowBytes k = (2 ≤ k) × (k ≤ 4) × (k % 2 ≡ 0)

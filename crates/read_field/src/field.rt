@@ -5,7 +5,7 @@ ghost use lib.ListN.{length};
 ghost use Rattle.words.specs.Word.{width};
 ghost use Rattle.format.specs.Layout.{pairTest, withinTest};
 ghost use Rattle.format.specs.Parse.{numberAt, field};
-ghost use Rattle.read_field.specs.Fields.{readOf, rangeTest};
+ghost use Rattle.read_field.specs.Fields.{readOf, rangeTest, RowBytes};
 use cause::Cause;
 
 // What a field comes to.
@@ -38,20 +38,31 @@ fn two(bytes: &[u8], at: usize) -> u16
     bytes[at + 1] as u16 * 256 + bytes[at] as u16
 }
 
-// The number in `k` bytes, at most four. Two, as most have, go without a loop.
+// Four bytes as they stand.
+fn four(bytes: &[u8], at: usize) -> u32
+    requires { ⌜ at + 4 ≤ length (now bytes) ⌝ }
+    ensures { λ r. ⌜ numberAt 4 (now (bytes .entry)) at ≡ r % 256 * 16777216 + r / 256 % 256 * 65536 + r / 65536 % 256 * 256 + r / 16777216 ⌝ }
+{
+    bytes[at + 3] as u32 * 16777216
+        + bytes[at + 2] as u32 * 65536
+        + bytes[at + 1] as u32 * 256
+        + bytes[at] as u32
+}
+
+// The number in `k` bytes, two or four.
 pub fn number(bytes: &[u8], at: usize, k: usize) -> u32
-    requires { ⌜ (k ≤ 4) × (at + k ≤ length (now bytes)) ⌝ }
+    requires { ⌜ RowBytes k × (at + k ≤ length (now bytes)) ⌝ }
     ensures { λ r. ⌜ r ≡ numberAt k (now (bytes .entry)) at ⌝ }
 {
     if k == 2 {
         let low_first = two(bytes, at);
         return (low_first % 256 * 256 + low_first / 256) as u32;
     }
-    let mut value: u32 = 0;
-    for b in 0..k {
-        value = value * 256 + bytes[at + b] as u32;
-    }
-    value
+    let low_first = four(bytes, at);
+    low_first % 256 * 16777216
+        + low_first / 256 % 256 * 65536
+        + low_first / 65536 % 256 * 256
+        + low_first / 16777216
 }
 
 // The pair of a table: a at `first` and b after it. Tested for 6, then 7 "option numbers out of range", 19 "a is not below b", 20 "the pair is not after
@@ -81,7 +92,7 @@ pub fn pair_field(bytes: &[u8], first: usize, n: usize, previous: usize) -> Read
 
 // A row of `k` bytes, against a variable of `size` values.
 pub fn row_field(bytes: &[u8], at: usize, size: usize, k: usize) -> Read
-    requires { ⌜ (at ≤ length (now bytes)) × (size ≤ width) × (k ≤ 4) ⌝ }
+    requires { ⌜ (at ≤ length (now bytes)) × (size ≤ width) × RowBytes k ⌝ }
     ensures { λ r. ⌜ field k (withinTest size) (now (bytes .entry)) at ≡ readOf r ⌝ }
 {
     let next = at + k;

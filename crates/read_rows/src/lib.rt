@@ -5,12 +5,13 @@ ghost use Prim.Native.Nat.{_+_, _*_, _<_, _≤_};
 ghost use lib.ListN.{length};
 ghost use Rattle.words.specs.Word.{width};
 ghost use Rattle.pairs.specs.Pairs.{variables};
+ghost use Rattle.read_field.specs.Fields.{RowBytes};
 ghost use Rattle.read_rows.specs.Rows.{RowsJoined, RowsWalked, RowsRead};
 use pairs::Rows;
 use read_field::Read;
 
 // Stores all rows, whatever they are; what they have together.
-fn store_rows(
+fn store_each(
     bytes: &[u8],
     from: usize,
     k: usize,
@@ -19,7 +20,7 @@ fn store_rows(
     count: usize,
     rows: &mut Rows,
 ) -> u32
-    requires { ⌜ (from + k * count ≤ length (now bytes)) × (k ≤ 4) × (i < j) × (j < variables) × (count ≤ width) × (length (now rows) ≡ 3840) ⌝ }
+    requires { ⌜ (from + k * count ≤ length (now bytes)) × RowBytes k × (i < j) × (j < variables) × (count ≤ width) × (length (now rows) ≡ 3840) ⌝ }
     ensures { λ r. ⌜ RowsJoined k (now (bytes .entry)) from i j count (now (rows .entry)) (now (rows .exit)) r ⌝ }
 {
     let mut union: u32 = 0;
@@ -31,9 +32,28 @@ fn store_rows(
     union
 }
 
+// The same, with a loop of its own for two bytes and for four: in each the number of bytes is known.
+fn store_rows(
+    bytes: &[u8],
+    from: usize,
+    k: usize,
+    i: usize,
+    j: usize,
+    count: usize,
+    rows: &mut Rows,
+) -> u32
+    requires { ⌜ (from + k * count ≤ length (now bytes)) × RowBytes k × (i < j) × (j < variables) × (count ≤ width) × (length (now rows) ≡ 3840) ⌝ }
+    ensures { λ r. ⌜ RowsJoined k (now (bytes .entry)) from i j count (now (rows .entry)) (now (rows .exit)) r ⌝ }
+{
+    if k == 2 {
+        return store_each(bytes, from, 2, i, j, count, rows);
+    }
+    store_each(bytes, from, 4, i, j, count, rows)
+}
+
 // The rows one by one, up to the first that is refused.
 fn walk_rows(bytes: &[u8], from: usize, k: usize, count: usize, size: usize) -> Read
-    requires { ⌜ (from ≤ length (now bytes)) × (k ≤ 4) × (size ≤ width) ⌝ }
+    requires { ⌜ (from ≤ length (now bytes)) × RowBytes k × (size ≤ width) ⌝ }
     ensures { λ r. ⌜ RowsWalked k (now (bytes .entry)) from count size r ⌝ }
 {
     let mut at = from;
@@ -58,7 +78,7 @@ pub fn read_rows(
     size: usize,
     rows: &mut Rows,
 ) -> Read
-    requires { ⌜ (from ≤ length (now bytes)) × (k ≤ 4) × (i < j) × (j < variables) × (count ≤ width) × (size ≤ width) × (length (now rows) ≡ 3840) ⌝ }
+    requires { ⌜ (from ≤ length (now bytes)) × RowBytes k × (i < j) × (j < variables) × (count ≤ width) × (size ≤ width) × (length (now rows) ≡ 3840) ⌝ }
     ensures { λ r. ⌜ RowsRead k (now (bytes .entry)) from i j count size (now (rows .entry)) (now (rows .exit)) r ⌝ }
 {
     let end = from + k * count;

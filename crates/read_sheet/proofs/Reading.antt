@@ -22,9 +22,9 @@ use Rattle.pairs.specs.Pairs.{variables}
 use Rattle.pairs.proofs.Laws.{rows-rule}
 use Rattle.read_field.specs.declared.field.Read.{Read}
 use Rattle.read_field.specs.declared.field.Read.the-variants.{Value, Refused}
-use Rattle.format.specs.Layout.{Layout, sizeTest, constraintsTest, version1}
+use Rattle.format.specs.Layout.{Layout, sizeTest, constraintsTest, withinTest, found, layoutOf}
 use Rattle.format.specs.Parse.{Parse, got, bad, bind, field, fields, parseTables, ended, parseBody, wrongLength, parse}
-use Rattle.format.proofs.Layouts.{version1-found, other-unknown}
+use Rattle.format.proofs.Layouts.{other-unknown}
 use Rattle.format.proofs.Parse.{length-fits, parse-wrong-length, parse-wrong-version, parse-is-body}
 use Rattle.read_field.specs.Fields.{readAs, rangeTest}
 use Rattle.read_sheet.specs.Reading.{RowsIn, Sized, SizesRead, Held, TablesRead, Holds, SheetRead}
@@ -211,11 +211,10 @@ module _ (bytes : List ℕ) {sizes stated rows : List ℕ} where
 
   module _ (right : wrongLength bytes ≡ false) where
     -- Then 2.
-    pub into-wrong-version : (getD bytes 0 0 ≡ 1 → ⊥) → SheetRead (parse bytes) sizes stated rows (Refused Version 0)
-    into-wrong-version h = sheet-refused _ sizes stated rows Version 0 (parse-wrong-version bytes right (other-unknown _ h))
+    pub into-wrong-version : (getD bytes 0 0 ≡ 1 → ⊥) → (getD bytes 0 0 ≡ 2 → ⊥) → SheetRead (parse bytes) sizes stated rows (Refused Version 0)
+    into-wrong-version h k = sheet-refused _ sizes stated rows Version 0 (parse-wrong-version bytes right (other-unknown _ h k))
 
-    -- Then the fields.
-    pub into-body : getD bytes 0 0 ≡ 1 → {r : Read} → BodyRead bytes 2 16 sizes stated rows r → SheetRead (parse bytes) sizes stated rows r
-    unfolding version1
-    into-body version body =
-        rw (parse-is-body bytes right version1 (version1-found _ version)) (body version1 (record { row-bytes = refl; row-test = refl }) refl)
+    -- Then the fields, in the layout of the version.
+    pub into-body : (L : Layout) → layoutOf (getD bytes 0 0) ≡ found L → L .rowTest ≡ withinTest
+        → {r : Read} → BodyRead bytes (L .rowBytes) (L .mostValues) sizes stated rows r → SheetRead (parse bytes) sizes stated rows r
+    into-body L version test body = rw (parse-is-body bytes right L version) (body L (record { row-bytes = refl; row-test = test }) refl)

@@ -6,6 +6,7 @@ ghost use Rattle.words.specs.Word.{width};
 ghost use Rattle.pairs.specs.Pairs.{variables};
 ghost use Rattle.format.specs.Layout.{Layout};
 ghost use Rattle.format.specs.Parse.{parseBody, parse};
+ghost use Rattle.read_field.specs.Fields.{RowBytes};
 ghost use Rattle.read_sheet.specs.Reading.{RowsIn, SheetRead};
 use crate::sizes;
 use crate::tables;
@@ -24,7 +25,7 @@ fn read_body(
     stated: &mut [u32; VARIABLES],
     rows: &mut Rows,
 ) -> Read
-    requires { ⌜ (k ≤ 4) × (most ≤ width) × (now sizes ≡ replicate variables 0) × (now stated ≡ replicate variables 0) × (now rows ≡ replicate 3840 0) ⌝ }
+    requires { ⌜ RowBytes k × (most ≤ width) × (now sizes ≡ replicate variables 0) × (now stated ≡ replicate variables 0) × (now rows ≡ replicate 3840 0) ⌝ }
     ensures { λ r. ⌜ ((L : Layout) → RowsIn L k → L .mostValues ≡ most
         → SheetRead (parseBody L (now (bytes .entry))) (now (sizes .exit)) (now (stated .exit)) (now (rows .exit)) r) ⌝ }
 {
@@ -56,7 +57,8 @@ fn read_body(
     Read::Value(n, end)
 }
 
-// Reads a sheet; the value is n. After a refusal the arrays hold what had been read. A sheet of version 1 has rows of two bytes, and sizes to 16.
+// Reads a sheet; the value is n. After a refusal the arrays hold what had been read. A sheet of version 1 has rows of two bytes, and sizes to 16; one of
+// version 2 has rows of four bytes, and sizes to 32.
 pub fn read_into(
     bytes: &[u8],
     sizes: &mut [u8; VARIABLES],
@@ -69,8 +71,12 @@ pub fn read_into(
     if read_field::wrong_length(bytes) {
         return Read::Refused(Cause::Length, 0);
     }
-    if bytes[0] != 1 {
-        return Read::Refused(Cause::Version, 0);
+    let version = bytes[0];
+    if version == 1 {
+        return read_body(bytes, 2, 16, sizes, stated, rows);
     }
-    read_body(bytes, 2, 16, sizes, stated, rows)
+    if version == 2 {
+        return read_body(bytes, 4, 32, sizes, stated, rows);
+    }
+    Read::Refused(Cause::Version, 0)
 }

@@ -3,6 +3,7 @@ ghost use mathlib.Core.Path.{_≡_};
 ghost use Prim.Native.Nat.{_<_, _≤_};
 ghost use lib.ListN.{length, replicate};
 ghost use Rattle.pairs.specs.Pairs.{variables};
+ghost use Rattle.read_field.specs.Fields.{RowBytes};
 ghost use Rattle.read_sheet.specs.Reading.{Sized, marked, TableRead, TablesRead};
 use pairs::Rows;
 use pairs::VARIABLES;
@@ -27,7 +28,7 @@ fn read_table(
     stated: &mut [u32; VARIABLES],
     rows: &mut Rows,
 ) -> Read
-    requires { ⌜ (at ≤ length (now bytes)) × (k ≤ 4) × (n ≤ variables) × (length (now rows) ≡ 3840) × Sized n (now sizes) ⌝ }
+    requires { ⌜ (at ≤ length (now bytes)) × RowBytes k × (n ≤ variables) × (length (now rows) ≡ 3840) × Sized n (now sizes) ⌝ }
     ensures { λ r. ⌜ TableRead (now (bytes .entry)) at k n previous (now (sizes .entry))
         (now (stated .entry)) (now (rows .entry)) (now (stated .exit)) (now (rows .exit)) r ⌝ }
 {
@@ -66,7 +67,7 @@ pub fn read_tables(
     stated: &mut [u32; VARIABLES],
     rows: &mut Rows,
 ) -> Read
-    requires { ⌜ (from ≤ length (now bytes)) × (k ≤ 4) × (n ≤ variables) × (now stated ≡ replicate variables 0) × (now rows ≡ replicate 3840 0) × Sized n (now sizes) ⌝ }
+    requires { ⌜ (from ≤ length (now bytes)) × RowBytes k × (n ≤ variables) × (now stated ≡ replicate variables 0) × (now rows ≡ replicate 3840 0) × Sized n (now sizes) ⌝ }
     ensures { λ r. ⌜ TablesRead (now (bytes .entry)) from k n count (now (sizes .entry)) (now (stated .exit)) (now (rows .exit)) r ⌝ }
 {
     let mut at = from;

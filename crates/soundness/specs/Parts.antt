@@ -13,7 +13,7 @@ use Rattle.head.specs.Held.{mostValues}
 
 -- ---- the head
 
--- "sizes are 1 to 16 .. and all entries past n are zero"
+-- "sizes are 1 to 16 .. and all entries past n are zero", and document 02: "Sizes may go to 32, in a sound state too."
 unfoldable pub sizeFits : ℕ → ℕ → ℕ → Bool
 sizeFits n i size = if (ltb i n) (and (leb 1 size) (leb size mostValues)) (eqb size 0)
 

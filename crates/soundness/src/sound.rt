@@ -19,7 +19,7 @@ ghost use Rattle.pairs.specs.Pairs.{variables};
 ghost use Rattle.head.specs.Held.{mostValues, soundIn};
 ghost use Rattle.soundness.specs.Parts.{sizeFits, sizesFit, domainsFit, statedWith, variableFits, pairsFit, headFits, pastFits, constraintFits, pairRowsFit, lowerRowsFit, rowsFit, followerFits, freeOrFits, followersFit};
 
-// A size is 1 to 16, and 0 past `n`.
+// A size is 1 to 32, and 0 past `n`.
 fn size_sound(n: usize, i: usize, size: usize) -> bool
     ensures { λ r. ⌜ r ≡ sizeFits n i size ⌝ }
 {

@@ -111,7 +111,7 @@ module _ (bytes : List ℕ) (a : ReadParts) (rows : List ℕ) (e : readPartsTold
 
 -- How large the numbers of an answer are: a place is within the largest sheet, and there are at most 16 variables and so fewer steps.
 pub record Small (c : CutTold) : Type 0 where
-  pub place-small : c .place ≤ 4101
+  pub place-small : c .place ≤ 15621
   pub n-small : c .state .n ≤ variables
   pub steps-small : c .steps < variables
 

@@ -7,10 +7,10 @@ use Prim.Native.Nat.{ℕ, _≤_, _<_}
 use native.Mathlib.Numerals.{add-one}
 use native.Mathlib.Omega.{arith}
 use lib.Dec.{ltb}
-use lib.ListN.{length, take, drop}
+use lib.ListN.{length, getD, take, drop}
 use lib.Seq.{take-append-seam, drop-append-seam}
 use borrow.Author.Tests.{lt-ltb, le-ltb, ltb-true, ltb-false}
-use Rattle.bounded.specs.Bool.{or}
+use Rattle.bounded.specs.Bool.{or, if}
 use Rattle.bounded.proofs.Bool.{by-cases, and-holds, not-i, not-false-i, if-true, if-false}
 use Rattle.words.specs.Word.{has}
 use Rattle.cause.specs.declared.Cause.{Cause}
@@ -22,20 +22,23 @@ use Rattle.network.specs.Sheet.{Sheet, tabled, networkOf, sheetOf, fresh}
 use Rattle.network.proofs.SheetOf.{fresh-leader, fresh-domain, networkOf-fresh, networkOf-stated, networkOf-sheetOf, row-networkOf}
 use Rattle.pairs.specs.Pairs.{variables}
 use Rattle.head.specs.Held.{held}
-use Rattle.head.proofs.Held.{Packed, pack-sound, held-n, held-size}
-use Rattle.format.specs.Layout.{version1}
+use Rattle.head.proofs.Held.{Packed, pack-sound, held-n}
+use Rattle.format.specs.Layout.{layoutOf}
 use Rattle.format.specs.Parse.{Octets, Parse, got, bad, parse}
+use Rattle.format.specs.Print.{print, printIn}
+use Rattle.format.specs.Writable.{fitsVersion}
 use Rattle.format.specs.Builds.{isBuild}
-use Rattle.format.proofs.Layouts.{version1-usable, version1-found, found-version, found-version1}
+use Rattle.format.proofs.Layouts.{found-version, version2-found}
 use Rattle.format.proofs.RoundTrip.{SheetRead, parsed, parse-of-print}
-use Rattle.format.proofs.SheetOf.{wellformed-fits, wellformed-sound, wellformed-n, wellformed-size, wellformed-sheetOf, sheetOf-wellformed, version1-takes}
+use Rattle.format.proofs.SheetOf.{wellformed-fits, wellformed-sound, wellformed-n, wellformed-size}
+use Rattle.format.proofs.Writable.{fits-takes, parse-of-written, read-fits, written-of-parse, read-fits-version2}
 use Rattle.format.proofs.Builds.{builds-solve, options-are, option-sizes-are, tables-are, rows-are-read}
 use Rattle.state.specs.declared.state.State.{State}
 use Rattle.state.specs.View.{view, pack, zeroState, soundState}
 use Rattle.state.specs.Answers.{ReadTold}
 use Rattle.state.specs.Read.{readAs, readSheet}
 use Rattle.state.specs.Write.{Wrote, sheetBytes, writeRefusal, writeAs, writeSheet}
-use Rattle.state_read.specs.RoundTrip.{AcceptedExactly, ReadTables, ReadOfWrite, WriteOfRead}
+use Rattle.state_read.specs.RoundTrip.{AcceptedExactly, ReadTables, ReadOfWrite, WriteOfRead, ReadInVersion2}
 use Rattle.state.proofs.View.{Shaped, pack-view, state-sound, packed-view, packed-state, packed-shaped}
 
 -- Reading, case by case.
@@ -123,87 +126,119 @@ module _ (bytes : List ℕ) (octets : Octets bytes) where
         let (s, A) = accepted h in
         ap (λ (N : Network). solves N f) (A .view-is) ∙ sym (builds-solve bytes octets s (length bytes) (A .got-sheet) f)
 
--- The writer's refusal, case by case: "the writer tests 9, 18, 17".
-module _ (s : State) (space : ℕ) where
-  pub write-unsound : soundState s ≡ false → writeRefusal s space ≡ 9
+-- The writer's refusal, case by case: "the writer tests 9, 18, 17", and 24 "after 18 and before 17".
+module _ (version : ℕ) (s : State) (space : ℕ) where
+  pub write-unsound : soundState s ≡ false → writeRefusal version s space ≡ 9
   unfolding writeRefusal
   write-unsound h = if-true _ _ _ (not-i _ h)
 
-  pub write-not-fresh : soundState s ≡ true → fresh (view s) ≡ false → writeRefusal s space ≡ 18
-  unfolding writeRefusal
-  write-not-fresh h f = if-false _ _ _ (not-false-i _ h) ∙ if-true _ _ _ (not-i _ f)
+  module _ (h : soundState s ≡ true) where
+    pub write-not-fresh : fresh (view s) ≡ false → writeRefusal version s space ≡ 18
+    unfolding writeRefusal
+    write-not-fresh f = if-false _ _ _ (not-false-i _ h) ∙ if-true _ _ _ (not-i _ f)
 
-  pub write-no-room : soundState s ≡ true → fresh (view s) ≡ true → space < length (sheetBytes s) → writeRefusal s space ≡ 17
-  unfolding writeRefusal
-  write-no-room h f l = if-false _ _ _ (not-false-i _ h) ∙ if-false _ _ _ (not-false-i _ f) ∙ if-true _ _ _ (lt-ltb _ _ l)
+    module _ (f : fresh (view s) ≡ true) where
+      pub write-not-in-version : fitsVersion (layoutOf version) (view s) ≡ false → writeRefusal version s space ≡ 24
+      unfolding writeRefusal
+      write-not-in-version v = if-false _ _ _ (not-false-i _ h) ∙ if-false _ _ _ (not-false-i _ f) ∙ if-true _ _ _ (not-i _ v)
 
-  pub write-accepted : soundState s ≡ true → fresh (view s) ≡ true → length (sheetBytes s) ≤ space → writeRefusal s space ≡ 0
-  unfolding writeRefusal
-  write-accepted h f l = if-false _ _ _ (not-false-i _ h) ∙ if-false _ _ _ (not-false-i _ f) ∙ if-false _ _ _ (le-ltb _ _ l)
+      module _ (v : fitsVersion (layoutOf version) (view s) ≡ true) where
+        -- What is left to test is the room.
+        write-tested : writeRefusal version s space ≡ if (ltb space (length (sheetBytes version s))) 17 0
+        unfolding writeRefusal
+        write-tested = if-false _ _ _ (not-false-i _ h) ∙ if-false _ _ _ (not-false-i _ f) ∙ if-false _ _ _ (not-false-i _ v)
 
-  -- Only a sound and fresh state is written.
-  pub written-fresh : writeRefusal s space ≡ 0 → (soundState s ≡ true) × (fresh (view s) ≡ true)
+        pub write-no-room : space < length (sheetBytes version s) → writeRefusal version s space ≡ 17
+        write-no-room l = write-tested ∙ if-true _ _ _ (lt-ltb _ _ l)
+
+        pub write-accepted : length (sheetBytes version s) ≤ space → writeRefusal version s space ≡ 0
+        write-accepted l = write-tested ∙ if-false _ _ _ (le-ltb _ _ l)
+
+  -- Only a sound and fresh state that fits the version is written.
+  pub written-fresh : writeRefusal version s space ≡ 0
+      → (soundState s ≡ true) × (fresh (view s) ≡ true) × (fitsVersion (layoutOf version) (view s) ≡ true)
   written-fresh e =
       by-cases (soundState s)
-      (λ h. by-cases (fresh (view s)) (λ f. (h, f)) (λ f. absurd (let x : ⊥ = omega (arith, write-not-fresh h f) in x)))
+      (λ h. by-cases (fresh (view s))
+      (λ f. by-cases (fitsVersion (layoutOf version) (view s))
+      (λ v. (h, f, v))
+      (λ v. absurd (let x : ⊥ = omega (arith, write-not-in-version h f v) in x)))
+      (λ f. absurd (let x : ⊥ = omega (arith, write-not-fresh h f) in x)))
       (λ h. absurd (let x : ⊥ = omega (arith, write-unsound h) in x))
 
 -- What is written, and what is answered.
-module _ (s : State) (buffer : List ℕ) where
-  pub wrote : writeRefusal s (length buffer) ≡ 0
-      → writeSheet s buffer
-      ≡ record { answer = record { number = 0; length = length (sheetBytes s) }; buffer = sheetBytes s ++ drop (length (sheetBytes s)) buffer }
+module _ (version : ℕ) (s : State) (buffer : List ℕ) where
+  pub wrote : writeRefusal version s (length buffer) ≡ 0
+      → writeSheet version s buffer
+      ≡ record {
+        answer = record { number = 0; length = length (sheetBytes version s) };
+        buffer = sheetBytes version s ++ drop (length (sheetBytes version s)) buffer;
+      }
   unfolding writeSheet writeAs
   wrote e = rw e (if-false _ _ _ (le-ltb 0 0 (omega arith)))
 
-  pub wrote-nothing : (number : ℕ) → writeRefusal s (length buffer) ≡ number → 1 ≤ number
-      → writeSheet s buffer ≡ record { answer = record { number = number; length = 0 }; buffer = buffer }
+  pub wrote-nothing : (number : ℕ) → writeRefusal version s (length buffer) ≡ number → 1 ≤ number
+      → writeSheet version s buffer ≡ record { answer = record { number = number; length = 0 }; buffer = buffer }
   unfolding writeSheet writeAs
   wrote-nothing number e h = rw e (if-true _ _ _ (lt-ltb 0 number h))
 
--- The bytes of what is written read back as the state.
-read-sheetBytes : (s : State) → Shaped s → (space : ℕ) → writeRefusal s space ≡ 0
-    → readSheet (sheetBytes s) ≡ record { number = 0; place = 0; state = s }
-unfolding sheetBytes version1 held
-read-sheetBytes s h space e =
-    let (t, F) = written-fresh s space e in
-    let S = state-sound s h t in
-    let W = sheetOf-wellformed version1 version1-usable (view s) S (held-n _ (s .rows) t) (version1-takes (view s) (held-size _ _ (h .head-shaped) t)) in
-    read-got (sheetBytes s) (sheetOf (view s)) _ (parse-of-print version1 (version1-found _ refl) (sheetOf (view s)) W)
-    ∙ ap (λ (u : State). record { number = 0; place = 0; state = u }) (ap pack (networkOf-sheetOf (view s) S F) ∙ pack-view s h)
+  -- The number answered is the one that refuses.
+  not-refused : writeSheet version s buffer .answer .number ≡ 0 → writeRefusal version s (length buffer) ≡ 0
+  not-refused e =
+      by-cases (ltb 0 (writeRefusal version s (length buffer)))
+      (λ t. let p : 0 < writeRefusal version s (length buffer) = ltb-true _ _ t in
+      absurd (let x : ⊥ = omega (arith, ap (λ (w : Wrote). w .answer .number) (wrote-nothing _ refl p)) in x))
+      (λ t. omega (arith, ltb-false 0 (writeRefusal version s (length buffer)) t))
 
--- The number answered is the one that refuses.
-not-refused : (s : State) (buffer : List ℕ) → writeSheet s buffer .answer .number ≡ 0 → writeRefusal s (length buffer) ≡ 0
-not-refused s buffer e =
-    by-cases (ltb 0 (writeRefusal s (length buffer)))
-    (λ t. let p : 0 < writeRefusal s (length buffer) = ltb-true _ _ t in
-    absurd (let x : ⊥ = omega (arith, ap (λ (w : Wrote). w .answer .number) (wrote-nothing s buffer _ refl p)) in x))
-    (λ t. omega (arith, ltb-false 0 (writeRefusal s (length buffer)) t))
+-- Byte 0 of what is written is the version.
+sheet-version : (version : ℕ) (s : State) → Shaped s → soundState s ≡ true → fitsVersion (layoutOf version) (view s) ≡ true → (rest : List ℕ)
+    → getD (sheetBytes version s ++ rest) 0 0 ≡ version
+unfolding sheetBytes printIn print
+sheet-version version s h t v rest = let (L, e, _) = fits-takes (view s) (state-sound s h t) version v in rw e (sym (found-version version L e))
+
+-- The bytes of what is written read back as the state.
+read-sheetBytes : (version : ℕ) (s : State) → Shaped s → (space : ℕ) → writeRefusal version s space ≡ 0
+    → readSheet (sheetBytes version s) ≡ record { number = 0; place = 0; state = s }
+unfolding sheetBytes held
+read-sheetBytes version s h space e =
+    let (t, F, v) = written-fresh version s space e in
+    let S = state-sound s h t in
+    read-got (sheetBytes version s) (sheetOf (view s)) _ (parse-of-written (view s) S version v (held-n _ (s .rows) t))
+    ∙ ap (λ (u : State). record { number = 0; place = 0; state = u }) (ap pack (networkOf-sheetOf (view s) S F) ∙ pack-view s h)
 
 pub read-of-write : ReadOfWrite
 unfolding ReadOfWrite
-read-of-write s h buffer e =
-    let z = not-refused s buffer e in
-    let written : take (writeSheet s buffer .answer .length) (writeSheet s buffer .buffer) ≡ sheetBytes s =
-    rw (wrote s buffer z) (take-append-seam (sheetBytes s) (drop (length (sheetBytes s)) buffer)) in
-    ap readSheet written ∙ read-sheetBytes s h (length buffer) z
+read-of-write version s h buffer e =
+    let z = not-refused version s buffer e in
+    let bytes = sheetBytes version s in
+    let written : take (writeSheet version s buffer .answer .length) (writeSheet version s buffer .buffer) ≡ bytes =
+    rw (wrote version s buffer z) (take-append-seam bytes (drop (length bytes) buffer)) in
+    ap readSheet written ∙ read-sheetBytes version s h (length buffer) z
 
--- The bytes of a state just read are those that it was read from.
-sheetBytes-of-read : (bytes : List ℕ) → Octets bytes → readSheet bytes .number ≡ 0 → sheetBytes (readSheet bytes .state) ≡ bytes
-unfolding sheetBytes
-sheetBytes-of-read bytes octets h =
-    let (s, A) = accepted bytes octets h in
-    let R = A .read in
-    rw (A .view-is, wellformed-sheetOf (R .layout) (R .usable) s (R .body .well-formed), ← found-version1 _ (R .layout) (R .layout-found)) (R .printed)
+module _ (bytes : List ℕ) (octets : Octets bytes) (h : readSheet bytes .number ≡ 0) where
+  -- The bytes of a state just read, in their own version, are those that it was read from.
+  sheetBytes-of-read : sheetBytes (getD bytes 0 0) (readSheet bytes .state) ≡ bytes
+  unfolding sheetBytes
+  sheetBytes-of-read =
+      let (s, A) = accepted bytes octets h in
+      ap (λ (N : Network). printIn (layoutOf (getD bytes 0 0)) (sheetOf N)) (A .view-is) ∙ written-of-parse bytes octets s _ (A .got-sheet)
+
+  -- It is written in every version that it fits, given the room.
+  read-accepted : (version space : ℕ) → fitsVersion (layoutOf version) (view (readSheet bytes .state)) ≡ true
+      → length (sheetBytes version (readSheet bytes .state)) ≤ space
+      → writeRefusal version (readSheet bytes .state) space ≡ 0
+  read-accepted version space v l =
+      let r = read-sound bytes octets h in
+      write-accepted version (readSheet bytes .state) space (r .is-sound) (r .is-fresh) v l
 
 pub write-of-read : WriteOfRead
 unfolding WriteOfRead
 write-of-read bytes octets h buffer l =
-    let r = read-sound bytes octets h in
+    let (s, A) = accepted bytes octets h in
+    let v = getD bytes 0 0 in
     let same = sheetBytes-of-read bytes octets h in
-    let e = rw same at
-    (wrote (readSheet bytes .state) buffer
-    (write-accepted (readSheet bytes .state) (length buffer) (r .is-sound) (r .is-fresh) (rw same l))) in
+    let fits : fitsVersion (layoutOf v) (view (readSheet bytes .state)) ≡ true = rw (A .view-is) (read-fits bytes octets s _ (A .got-sheet)) in
+    let e = rw same at (wrote v (readSheet bytes .state) buffer (read-accepted bytes octets h v (length buffer) fits (rw same l))) in
     rw e
     (record {
       not-refused = refl;
@@ -211,6 +246,22 @@ write-of-read bytes octets h buffer l =
       same-bytes = take-append-seam bytes (drop (length bytes) buffer);
       rest-untouched = drop-append-seam bytes (drop (length bytes) buffer);
     })
+
+pub read-in-version2 : ReadInVersion2
+unfolding ReadInVersion2 ReadOfWrite
+read-in-version2 bytes octets h buffer l =
+    let (s, A) = accepted bytes octets h in
+    let t = readSheet bytes .state in
+    let r = read-sound bytes octets h in
+    let fits : fitsVersion (layoutOf 2) (view t) ≡ true =
+    rw (version2-found 2 refl, A .view-is) (read-fits-version2 bytes octets s _ (A .got-sheet)) in
+    let e = wrote 2 t buffer (read-accepted bytes octets h 2 (length buffer) fits l) in
+    let n : writeSheet 2 t buffer .answer .number ≡ 0 = ap (λ (w : Wrote). w .answer .number) e in
+    record {
+      not-refused = n;
+      its-version = ap (λ (w : Wrote). getD (w .buffer) 0 0) e ∙ sheet-version 2 t (r .read-shaped) (r .is-sound) fits (drop (length (sheetBytes 2 t)) buffer);
+      reads-back = read-of-write 2 t (r .read-shaped) buffer n;
+    }
 
 pub accepted-exactly : AcceptedExactly
 unfolding AcceptedExactly

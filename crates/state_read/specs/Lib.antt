@@ -1,3 +1,4 @@
 -- Reading on lent rows, and the round trips.
 pub mod Parts
+pub mod Before
 pub mod RoundTrip

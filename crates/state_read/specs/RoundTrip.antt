@@ -5,7 +5,7 @@ use mathlib.Core.Logic.{_↔_}
 use mathlib.Core.Path.{_≡_}
 use Prim.Native.Nat.{ℕ, suc, _≤_, _<_}
 use lib.Dec.{ltb}
-use lib.ListN.{length, take, drop}
+use lib.ListN.{length, getD, take, drop}
 use Rattle.bounded.specs.Bool.{or}
 use Rattle.words.specs.Word.{has}
 use Rattle.network.specs.Network.{Network}
@@ -18,7 +18,7 @@ use Rattle.format.specs.Builds.{options, optionSize, tableRow, tablePlace, hasT
 use Rattle.state.specs.declared.state.State.{State}
 use Rattle.state.specs.View.{Shaped, view}
 use Rattle.state.specs.Read.{readSheet}
-use Rattle.state.specs.Write.{Wrote, writeSheet}
+use Rattle.state.specs.Write.{Wrote, sheetBytes, writeSheet}
 
 -- A sheet is accepted exactly when its bytes are those of a well-formed sheet in a layout that there is.
 unfoldable pub AcceptedExactly : Type 0
@@ -44,11 +44,12 @@ pub record JustRead (bytes : List ℕ) (N : Network) : Type 0 where
 unfoldable pub ReadTables : Type 0
 ReadTables = (bytes : List ℕ) → Octets bytes → readSheet bytes .number ≡ 0 → JustRead bytes (view (readSheet bytes .state))
 
--- "Reading a written sheet returns the same state": of the first bytes of the buffer, as many as the writer says that it wrote.
+-- "Reading a written sheet returns the same state", and "both round trips hold for each version": of the first bytes of the buffer, as many as the writer
+-- says that it wrote.
 unfoldable pub ReadOfWrite : Type 0
 ReadOfWrite =
-    (s : State) → Shaped s → (buffer : List ℕ) → writeSheet s buffer .answer .number ≡ 0
-    → readSheet (take (writeSheet s buffer .answer .length) (writeSheet s buffer .buffer)) ≡ record { number = 0; place = 0; state = s }
+    (version : ℕ) (s : State) → Shaped s → (buffer : List ℕ) → writeSheet version s buffer .answer .number ≡ 0
+    → readSheet (take (writeSheet version s buffer .answer .length) (writeSheet version s buffer .buffer)) ≡ record { number = 0; place = 0; state = s }
 
 -- What is written back over a buffer.
 pub record WrittenBack (bytes buffer : List ℕ) (w : Wrote) : Type 0 where
@@ -57,8 +58,21 @@ pub record WrittenBack (bytes buffer : List ℕ) (w : Wrote) : Type 0 where
   pub same-bytes : take (length bytes) (w .buffer) ≡ bytes
   pub rest-untouched : drop (length bytes) (w .buffer) ≡ drop (length bytes) buffer
 
--- "writing a sheet just read, into enough space, returns the same bytes"
+-- "writing a sheet just read, into enough space, returns the same bytes": in its own version, byte 0.
 unfoldable pub WriteOfRead : Type 0
 WriteOfRead =
     (bytes : List ℕ) → Octets bytes → readSheet bytes .number ≡ 0 → (buffer : List ℕ) → length bytes ≤ length buffer
-    → WrittenBack bytes buffer (writeSheet (readSheet bytes .state) buffer)
+    → WrittenBack bytes buffer (writeSheet (getD bytes 0 0) (readSheet bytes .state) buffer)
+
+-- What is written in a version: not refused, byte 0 is the version, and the bytes read back as the state.
+pub record WrittenIn (version : ℕ) (s : State) (w : Wrote) : Type 0 where
+  pub not-refused : w .answer .number ≡ 0
+  pub its-version : getD (w .buffer) 0 0 ≡ version
+  pub reads-back : readSheet (take (w .answer .length) (w .buffer)) ≡ record { number = 0; place = 0; state = s }
+
+-- Every sheet just read, one of version 1 too, may be written in version 2, into enough space.
+unfoldable pub ReadInVersion2 : Type 0
+ReadInVersion2 =
+    (bytes : List ℕ) → Octets bytes → readSheet bytes .number ≡ 0 → (buffer : List ℕ)
+    → length (sheetBytes 2 (readSheet bytes .state)) ≤ length buffer
+    → WrittenIn 2 (readSheet bytes .state) (writeSheet 2 (readSheet bytes .state) buffer)

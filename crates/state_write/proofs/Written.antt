@@ -20,6 +20,8 @@ use Rattle.network.specs.Network.{free}
 use Rattle.network.specs.Sheet.{fresh}
 use Rattle.head.specs.Held.{HeadShaped, held}
 use Rattle.head.proofs.Held.{held-sound, held-size}
+use Rattle.format.specs.Layout.{layoutOf}
+use Rattle.format.specs.Writable.{fitsVersion}
 use Rattle.write_sheet.specs.Writing.{bytesHeld}
 use Rattle.solutions.specs.Choices.{freshValue, freshParts}
 use Rattle.answers.specs.declared.WriteAnswer.the-variants as writeAnswer
@@ -45,27 +47,23 @@ module _ (s : State) (h : HeadShaped (headIn s)) (t : soundState s ≡ true) whe
       every-cong (s .n) _ _ (λ i _. ap (and (eqb (getD (s .leaders) i 0) 0))
       (full-domain _ _ (h .domains-array .element-lt i) (let m = held-size _ (s .rows) h t i in omega arith) (held-sound _ _ h t .domain-in i)))
 
-  pub stated-below : (i j : ℕ) → has (getD (s .stated) i 0) j ≡ true → j < s .n
-  unfolding held
-  stated-below i j m = held-sound _ _ h t .stated-in i j m .1
-
 -- What a way through the call answers and leaves in the buffer.
-module _ (s : State) (buffer : List ℕ) where
+module _ (version : ℕ) (s : State) (buffer : List ℕ) where
   -- A refusal answers its number and leaves the buffer.
-  pub refused-told : (c : Cause) → writeRefusal s (length buffer) ≡ numberOf c
-      → (writeTold (writeAnswer.Refused c) ≡ writeSheet s buffer .answer) × (buffer ≡ writeSheet s buffer .buffer)
+  pub refused-told : (c : Cause) → writeRefusal version s (length buffer) ≡ numberOf c
+      → (writeTold (writeAnswer.Refused c) ≡ writeSheet version s buffer .answer) × (buffer ≡ writeSheet version s buffer .buffer)
   unfolding writeTold
   refused-told c e =
-      let w = wrote-nothing s buffer (numberOf c) e (number-positive c) in
+      let w = wrote-nothing version s buffer (numberOf c) e (number-positive c) in
       (sym (ap (λ (r : Wrote). r .answer) w), sym (ap (λ (r : Wrote). r .buffer) w))
 
   -- Otherwise the bytes are written, and their length is answered.
-  pub written-told : (k : ℕ) (after : List ℕ) → soundState s ≡ true → fresh (view s) ≡ true
-      → length (bytesHeld (headIn s) (s .rows)) ≤ length buffer
-      → k ≡ length (bytesHeld (headIn s) (s .rows))
-      → after ≡ bytesHeld (headIn s) (s .rows) ++ drop (length (bytesHeld (headIn s) (s .rows))) buffer
-      → (writeTold (writeAnswer.Length k) ≡ writeSheet s buffer .answer) × (after ≡ writeSheet s buffer .buffer)
+  pub written-told : (k : ℕ) (after : List ℕ) → soundState s ≡ true → fresh (view s) ≡ true → fitsVersion (layoutOf version) (view s) ≡ true
+      → length (bytesHeld version (headIn s) (s .rows)) ≤ length buffer
+      → k ≡ length (bytesHeld version (headIn s) (s .rows))
+      → after ≡ bytesHeld version (headIn s) (s .rows) ++ drop (length (bytesHeld version (headIn s) (s .rows))) buffer
+      → (writeTold (writeAnswer.Length k) ≡ writeSheet version s buffer .answer) × (after ≡ writeSheet version s buffer .buffer)
   unfolding writeTold bytesHeld sheetBytes
-  written-told k after t f l e a =
-      let w = wrote s buffer (write-accepted s (length buffer) t f l) in
+  written-told k after t f v l e a =
+      let w = wrote version s buffer (write-accepted version s (length buffer) t f v l) in
       (rw e (sym (ap (λ (r : Wrote). r .answer) w)), a ∙ sym (ap (λ (r : Wrote). r .buffer) w))

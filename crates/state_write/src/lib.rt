@@ -5,6 +5,8 @@ use head::Head;
 use head::Rows;
 use solutions::fresh_parts;
 use soundness::sound_parts;
+use write_sheet::fits_version;
+use write_sheet::fixed_by;
 use write_sheet::sheet_length;
 use write_sheet::write_into;
 ghost use mathlib.Core.Path.{_≡_};
@@ -12,21 +14,28 @@ ghost use Rattle.answers.specs.Answers.{writeTold};
 ghost use Rattle.state.specs.View.{stateOf};
 ghost use Rattle.state.specs.Write.{writeSheet};
 
-// Writes the sheet of a state as just read into a lent buffer: "the writer tests 9, 18, 17". A refusal writes nothing.
-pub fn write_parts(head: Head, rows: &Rows, buffer: &mut [u8]) -> WriteAnswer
-    ensures { λ r. ⌜ (writeTold r ≡ writeSheet (stateOf head (now (rows .entry))) (now (buffer .entry)) .answer)
-        × (now (buffer .exit) ≡ writeSheet (stateOf head (now (rows .entry))) (now (buffer .entry)) .buffer) ⌝ }
+// Writes the sheet of a state as just read into a lent buffer, in the version that it is told: "the writer tests 9, 18, 17", and 24 "after 18 and before 17".
+// A refusal writes nothing.
+pub fn write_parts(head: Head, rows: &Rows, version: usize, buffer: &mut [u8]) -> WriteAnswer
+    ensures { λ r. ⌜ (writeTold r ≡ writeSheet version (stateOf head (now (rows .entry))) (now (buffer .entry)) .answer)
+        × (now (buffer .exit) ≡ writeSheet version (stateOf head (now (rows .entry))) (now (buffer .entry)) .buffer) ⌝ }
 {
     if !sound_parts(head, rows) {
         return WriteAnswer::Refused(Cause::Unsound);
     }
-    if !fresh_parts(head) {
+    let n = head.n;
+    let fresh = fresh_parts(head);
+    let fits = fits_version(version, n, &head.sizes);
+    let bytes = fixed_by(version).bytes;
+    let length = sheet_length(bytes, n, &head.sizes, &head.stated);
+    if !fresh {
         return WriteAnswer::Refused(Cause::NotFresh);
     }
-    let n = head.n;
-    let length = sheet_length(n, &head.sizes, &head.stated);
+    if !fits {
+        return WriteAnswer::Refused(Cause::NotInVersion);
+    }
     if buffer.len() < length {
         return WriteAnswer::Refused(Cause::BufferLength);
     }
-    WriteAnswer::Length(write_into(head, rows, buffer))
+    WriteAnswer::Length(write_into(head, rows, version, buffer))
 }

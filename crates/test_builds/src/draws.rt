@@ -28,12 +28,20 @@ fn with_value(tuple: [u8; 16], i: usize, value: u8) -> [u8; 16] {
     values
 }
 
+// A value at or above the size, often just above.
+fn above(size: usize, seed: &mut u64) -> usize {
+    if random::once_in(seed, 8) {
+        return 255;
+    }
+    brute::past(size, random::index(seed, 3))
+}
+
 // A tuple with a value at or above its size.
 pub(crate) fn drawn_above(bytes: &[u8], n: usize, seed: &mut u64) -> [u8; 16] {
     let tuple = drawn(bytes, seed);
     let i = random::index(seed, n);
-    let above = brute::past(brute::size(bytes, i), random::index(seed, 3));
-    with_value(tuple, i, (above % 256) as u8)
+    let value = above(brute::size(bytes, i), seed);
+    with_value(tuple, i, (value % 256) as u8)
 }
 
 fn wide(x: u32) -> usize {
@@ -43,7 +51,7 @@ fn wide(x: u32) -> usize {
 // A tuple with a live value that no list has, at the lowest of the live options.
 pub(crate) fn drawn_unlisted(bytes: &[u8], free: u32, seed: &mut u64) -> [u8; 16] {
     let i = wide(u32::trailing_zeros(free));
-    with_value(drawn(bytes, seed), i, 16 + random::byte(seed) % 240)
+    with_value(drawn(bytes, seed), i, 32 + random::byte(seed) % 224)
 }
 
 fn chosen(is_first: bool, first: u8, second: u8) -> u8 {

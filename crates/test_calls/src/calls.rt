@@ -126,10 +126,10 @@ pub fn is_completed(state: State, before: [u8; 16], n: usize, number: u8, after:
     (done.number == number) & same_bytes(&done.buffer, &after)
 }
 
-// The writer, on the first `room` bytes.
-pub fn write(state: State, given: [u8; ROOM], room: usize) -> Writing {
+// The writer in a version, on the first `room` bytes.
+pub fn write(state: State, version: usize, given: [u8; ROOM], room: usize) -> Writing {
     let mut buffer = given;
-    let answer = sheet::write(state, first_room(&mut buffer, room));
+    let answer = sheet::write(state, version, first_room(&mut buffer, room));
     Writing {
         number: answers::write_number(answer),
         length: answers::write_length(answer),

@@ -30,56 +30,12 @@ fn drawn_bit(seed: &mut u64) -> u32 {
     1u32 << (random::byte(seed) % 32)
 }
 
-// A bit that no value has.
-fn high_bit(seed: &mut u64) -> u32 {
-    65536u32 << (random::byte(seed) % 16)
-}
-
-fn with_row(state: State, at: usize, bit: u32) -> State {
-    let mut other = state;
-    if at < 3840 {
-        other.rows[at] = other.rows[at] ^ bit;
+// The bit of a value; none at 32 or above.
+fn bit(value: usize) -> u32 {
+    if 31 < value {
+        return 0;
     }
-    other
-}
-
-// A row of any pair, stated or not, gets a value that no option has.
-fn with_row_bit(state: State, seed: &mut u64) -> State {
-    let at = random::index(seed, 3840);
-    with_row(state, at, high_bit(seed))
-}
-
-// A value that no option has gets a row.
-fn with_row_past(state: State, seed: &mut u64) -> State {
-    let pair = random::index(seed, 120);
-    let value = 16 + random::index(seed, 16) % 16;
-    with_row(
-        state,
-        std::num::wrapping_add_usize(pair % 120 * 32, value),
-        drawn_bit(seed),
-    )
-}
-
-// A pair that is not stated, or past n, allows its lowest values.
-fn with_unstated_row(state: State, i: usize, j: usize, seed: &mut u64) -> State {
-    if fields::has(fields::word_at(&state.stated, i), j) {
-        return with_row_past(state, seed);
-    }
-    if fields::place(i, j, 0) < 3840 {
-        return with_row(state, fields::place(i, j, 0), 1);
-    }
-    with_row_bit(state, seed)
-}
-
-// The list of an option gets a value that no option has.
-fn with_list_bit(state: State, seed: &mut u64) -> State {
-    let mut other = state;
-    let i = random::index(seed, 16);
-    let bit = high_bit(seed);
-    if i < 16 {
-        other.domains[i] = other.domains[i] ^ bit;
-    }
-    other
+    1u32 << value
 }
 
 // One bit of what an option is stated with is another. The other option does not change with it.
@@ -91,6 +47,71 @@ fn with_stated_bit(state: State, seed: &mut u64) -> State {
         other.stated[i] = other.stated[i] ^ bit;
     }
     other
+}
+
+// A value at or above the size of an option; 32 where there is none.
+fn value_past(sizes: &[u8; 16], i: usize, seed: &mut u64) -> usize {
+    if 15 < i {
+        return 32;
+    }
+    let size = sizes[i];
+    if 31 < size {
+        return 32;
+    }
+    random::from(seed, size as usize, (32 - size) as usize)
+}
+
+// A row gets a bit. Where there is no such row or bit, the fault is another.
+fn with_row(state: State, at: usize, bit: u32, seed: &mut u64) -> State {
+    let mut other = state;
+    if bit == 0 {
+        return with_stated_bit(state, seed);
+    }
+    if 3839 < at {
+        return with_stated_bit(state, seed);
+    }
+    other.rows[at] = other.rows[at] ^ bit;
+    other
+}
+
+// A row of the options `i` and `j`, stated or not, gets a value that `j` does not have.
+fn with_row_bit(state: State, i: usize, j: usize, seed: &mut u64) -> State {
+    let at = fields::place(i, j, random::index(seed, 32));
+    let value = value_past(&state.sizes, j, seed);
+    with_row(state, at, bit(value), seed)
+}
+
+// A value that `i` does not have gets a row.
+fn with_row_past(state: State, i: usize, j: usize, seed: &mut u64) -> State {
+    let at = fields::place(i, j, value_past(&state.sizes, i, seed));
+    with_row(state, at, drawn_bit(seed), seed)
+}
+
+// A pair that is not stated, or past n, allows its lowest values.
+fn with_unstated_row(state: State, i: usize, j: usize, seed: &mut u64) -> State {
+    if fields::has(fields::word_at(&state.stated, i), j) {
+        return with_row_past(state, i, j, seed);
+    }
+    with_row(state, fields::place(i, j, 0), 1, seed)
+}
+
+// The list of `i` gets a value.
+fn with_value(state: State, i: usize, value: usize, seed: &mut u64) -> State {
+    let mut other = state;
+    if 15 < i {
+        return with_stated_bit(state, seed);
+    }
+    if 31 < value {
+        return with_stated_bit(state, seed);
+    }
+    other.domains[i] = other.domains[i] | bit(value);
+    other
+}
+
+// The list of `i` gets a value that `i` does not have.
+fn with_list_bit(state: State, i: usize, seed: &mut u64) -> State {
+    let value = value_past(&state.sizes, i, seed);
+    with_value(state, i, value, seed)
 }
 
 // `i` is stated with the first option past n, on both sides.
@@ -110,23 +131,14 @@ fn with_stated_pair(state: State, i: usize, seed: &mut u64) -> State {
 
 // The list of `i` gets the value that its size is just too small for.
 fn with_value_past_size(state: State, i: usize, seed: &mut u64) -> State {
-    let mut other = state;
     if 15 < i {
-        return with_row_bit(state, seed);
+        return with_stated_bit(state, seed);
     }
-    let size = other.sizes[i];
-    if 15 < size {
-        return with_row_bit(state, seed);
-    }
-    other.domains[i] = other.domains[i] | (1u32 << size);
-    other
+    with_value(state, i, state.sizes[i] as usize, seed)
 }
 
 // `i` follows an option that it is not stated with.
 fn with_strange_leader(state: State, i: usize, j: usize, seed: &mut u64) -> State {
-    if 15 < i {
-        return with_row_bit(state, seed);
-    }
     if fields::has(fields::word_at(&state.stated, i), j) {
         return with_stated_bit(state, seed);
     }
@@ -155,24 +167,38 @@ fn other_n(kind: u64, n: usize, seed: &mut u64) -> usize {
 fn with_wrong_size(kind: u64, state: State, i: usize, any: usize, seed: &mut u64) -> State {
     match kind {
         5 => with_size(state, i, 0),
-        6 => with_size(state, any, 17 + random::byte(seed) % 200),
+        6 => with_size(state, any, 33 + random::byte(seed) % 200),
         _ => with_value_past_size(state, any, seed),
     }
 }
 
-// Options that a fault is put at, and a number above n.
+// Options that a fault is put at, `low` below `high` unless they are the same, and a number above n.
 struct Places {
     i: usize,
     j: usize,
     any: usize,
+    low: usize,
+    high: usize,
     above: usize,
 }
 
+fn lower(i: usize, j: usize) -> usize {
+    if i < j {
+        return i;
+    }
+    j
+}
+
 fn drawn_places(n: usize, seed: &mut u64) -> Places {
+    let j = random::index(seed, n);
+    let any = random::index(seed, 16);
+    let low = lower(j, any);
     Places {
         i: random::index(seed, n),
-        j: random::index(seed, n),
-        any: random::index(seed, 16),
+        j,
+        any,
+        low,
+        high: j ^ any ^ low,
         above: std::num::wrapping_add_usize(n, random::from(seed, 1, 200)),
     }
 }
@@ -186,10 +212,10 @@ fn with_wrong_leader(kind: u64, state: State, places: Places, seed: &mut u64) ->
         10 => with_strange_leader(state, i, places.j, seed),
         11 => with_stated_bit(state, seed),
         12 => with_stated_pair(state, i, seed),
-        13 => with_row_past(state, seed),
-        14 => with_unstated_row(state, places.j, places.any, seed),
-        15 => with_list_bit(state, seed),
-        _ => with_row_bit(state, seed),
+        13 => with_row_past(state, places.low, places.high, seed),
+        14 => with_unstated_row(state, places.low, places.high, seed),
+        15 => with_list_bit(state, places.any, seed),
+        _ => with_row_bit(state, places.low, places.high, seed),
     }
 }
 

@@ -1,7 +1,7 @@
 // How often each thing was tried, and how often it came out wrong.
 
 // One more than the greatest of the kinds that are counted.
-pub const KINDS: usize = 33;
+pub const KINDS: usize = 36;
 
 pub type Counts = [u64; KINDS];
 
@@ -9,51 +9,51 @@ pub const DIFFERENCES: usize = 0;
 // Inputs: families of sheets stand at their own numbers from here on.
 pub const FAMILIES: usize = 1;
 
-pub const DAMAGED: usize = 10;
+pub const DAMAGED: usize = 13;
 
-pub const RANDOM_BYTES: usize = 11;
+pub const RANDOM_BYTES: usize = 14;
 
-pub const EXAMPLES: usize = 12;
+pub const EXAMPLES: usize = 15;
 
-pub const TEXTS: usize = 13;
+pub const TEXTS: usize = 16;
 
-pub const DAMAGED_STATES: usize = 14;
+pub const DAMAGED_STATES: usize = 17;
 
-pub const COUNTED: usize = 15;
+pub const COUNTED: usize = 18;
 
-pub const BUILDS: usize = 16;
+pub const BUILDS: usize = 19;
 // Calls, by what they are to answer.
-pub const READS: usize = 17;
+pub const READS: usize = 20;
 
-pub const READS_REFUSED: usize = 18;
+pub const READS_REFUSED: usize = 21;
 
-pub const STEPS: usize = 19;
+pub const STEPS: usize = 22;
 
-pub const STEPS_REFUSED: usize = 20;
+pub const STEPS_REFUSED: usize = 23;
 
-pub const REDUCTIONS: usize = 21;
+pub const REDUCTIONS: usize = 24;
 
-pub const TESTS: usize = 22;
+pub const TESTS: usize = 25;
 
-pub const TESTS_REFUSED: usize = 23;
+pub const TESTS_REFUSED: usize = 26;
 
-pub const COMPLETIONS: usize = 24;
+pub const COMPLETIONS: usize = 27;
 
-pub const COMPLETIONS_REFUSED: usize = 25;
+pub const COMPLETIONS_REFUSED: usize = 28;
 
-pub const VERDICTS: usize = 26;
+pub const VERDICTS: usize = 29;
 
-pub const WRITES: usize = 27;
+pub const WRITES: usize = 30;
 
-pub const WRITES_REFUSED: usize = 28;
+pub const WRITES_REFUSED: usize = 31;
 
-pub const UNSOUND: usize = 29;
+pub const UNSOUND: usize = 32;
 
-pub const SOUND: usize = 30;
+pub const SOUND: usize = 33;
 
-pub const CUTS: usize = 31;
+pub const CUTS: usize = 34;
 // Verdicts that show a build with two or more live options.
-pub const APART: usize = 32;
+pub const APART: usize = 35;
 
 // One more of the kind `k`.
 pub fn count(tally: &mut Counts, k: usize) {

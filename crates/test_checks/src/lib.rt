@@ -12,3 +12,5 @@ pub mod rows;
 mod steps;
 // States with a fault: every call answers 9.
 pub mod unsound;
+// A sheet in another version, and numbers that are no version.
+pub mod versions;

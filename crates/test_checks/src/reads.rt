@@ -1,4 +1,5 @@
 // Reading against the judge of bytes, and writing back what was read.
+use crate::versions;
 use state::State;
 use test_calls::calls;
 use test_calls::calls::Reading;
@@ -13,7 +14,7 @@ use test_oracle::judge;
 
 // A size and a list as a sheet just read has them; zero past n.
 fn is_fresh_at(bytes: &[u8], size: u8, list: u32, leader: u8, i: usize) -> bool {
-    let is_full = list == families::within(size) as u32;
+    let is_full = list == families::within(size);
     (leader == 0) & (size as usize == brute::size(bytes, i)) & is_full
 }
 
@@ -67,30 +68,60 @@ pub fn check(bytes: &[u8], tally: &mut Counts) -> Reading {
 const UNTOUCHED: u8 = 165;
 
 // The writer, on a buffer of `room` bytes, answers the number and writes these bytes.
-fn is_answered(bytes: &[u8], state: State, room: usize, number: u8) -> bool {
-    let written = calls::write(state, [UNTOUCHED; ROOM], room);
+fn is_answered(bytes: &[u8], state: State, version: usize, room: usize, number: u8) -> bool {
+    let written = calls::write(state, version, [UNTOUCHED; ROOM], room);
     let is_same = fields::is_filled(&written.buffer, bytes, UNTOUCHED);
     (written.number == number) & (written.length == bytes.len()) & is_same
 }
 
-// Writes into a buffer of `room` bytes: the same bytes as were read.
-fn check_written(bytes: &[u8], state: State, room: usize, tally: &mut Counts) {
-    tally::expect(tally, tally::WRITES, is_answered(bytes, state, room, 0));
+// Writes into a buffer of `room` bytes in the version of these bytes, which are what is written.
+fn check_room(bytes: &[u8], state: State, room: usize, tally: &mut Counts) {
+    let version = brute::byte(bytes, 0) as usize;
+    let is_written = is_answered(bytes, state, version, room, 0);
+    tally::expect(tally, tally::WRITES, is_written);
 }
 
 // Writes into a buffer of `room` bytes: refused, and nothing is written.
-pub fn check_unwritten(state: State, room: usize, number: u8, tally: &mut Counts) {
-    let is_refused = is_answered(b"", state, room, number);
+pub fn check_unwritten(state: State, version: usize, room: usize, number: u8, tally: &mut Counts) {
+    let is_refused = is_answered(b"", state, version, room, number);
     tally::expect(tally, tally::WRITES_REFUSED, is_refused);
 }
 
-// A sheet that was read is written back byte for byte, and only where there is room.
-pub fn check_round_trip(bytes: &[u8], state: State, tally: &mut Counts) {
+// The same into all the room there is, and into none.
+pub fn check_refused(state: State, version: usize, number: u8, tally: &mut Counts) {
+    check_unwritten(state, version, ROOM, number, tally);
+    check_unwritten(state, version, 0, number, tally);
+}
+
+// The state is written in the version of these bytes, and only where there is room for them.
+pub fn check_written(bytes: &[u8], state: State, tally: &mut Counts) {
     let length = bytes.len();
-    check_written(bytes, state, ROOM, tally);
-    check_written(bytes, state, length, tally);
+    let version = brute::byte(bytes, 0) as usize;
+    check_room(bytes, state, ROOM, tally);
+    check_room(bytes, state, length, tally);
     if 0 < length {
-        check_unwritten(state, length - 1, 17, tally);
+        check_unwritten(state, version, length - 1, 17, tally);
     }
-    check_unwritten(state, 0, 17, tally);
+    check_unwritten(state, version, 0, 17, tally);
+}
+
+// In the other version, where every size fits it, the state has other bytes, which are read as the same state.
+fn check_other(bytes: &[u8], state: State, tally: &mut Counts) {
+    if versions::has_great_size(bytes) {
+        check_refused(state, 1, 24, tally);
+        return;
+    }
+    let other = versions::rewritten(bytes);
+    let made = other.bytes;
+    let written = families::first(&made, other.length);
+    check_written(written, state, tally);
+    let reading = check(written, tally);
+    tally::hold(tally, states::same(reading.state, state));
+}
+
+// A sheet that was read is written back byte for byte, and in the other version. In no other.
+pub fn check_round_trip(bytes: &[u8], state: State, seed: &mut u64, tally: &mut Counts) {
+    check_written(bytes, state, tally);
+    check_other(bytes, state, tally);
+    check_refused(state, versions::unknown(seed), 24, tally);
 }

@@ -1,5 +1,8 @@
 // The tester, the completer and the writer on a fixed state of three options.
 use crate::reads::check_unwritten;
+use crate::reads::check_written;
+use crate::rows::end_of;
+use crate::rows::part;
 use crate::steps::state_named;
 use state::State;
 use test_calls::calls;
@@ -52,10 +55,19 @@ pub(crate) fn length_at(list: &[u8], at: usize, tally: &mut Counts) -> usize {
     past(at, 2)
 }
 
-// The state's name, the room of a buffer in two bytes, and the number that the writer answers. Answers the place after them.
+// The state's name, a version and the room of a buffer in two bytes each, and the number that the writer answers. Answers the place after them.
 pub(crate) fn room_at(list: &[u8], at: usize, tally: &mut Counts) -> usize {
     let state = state_named(byte(list, at));
-    let room = brute::number(list, past(at, 1));
-    check_unwritten(state, room, byte(list, past(at, 3)), tally);
-    past(at, 4)
+    let version = brute::number(list, past(at, 1));
+    let room = brute::number(list, past(at, 3));
+    check_unwritten(state, version, room, byte(list, past(at, 5)), tally);
+    past(at, 6)
+}
+
+// The state's name, and a part that it is written as, in its version. Answers the place after them.
+pub(crate) fn written_at(list: &[u8], at: usize, tally: &mut Counts) -> usize {
+    let state = state_named(byte(list, at));
+    let begin = past(at, 1);
+    check_written(part(list, begin), state, tally);
+    end_of(list, begin)
 }

@@ -49,6 +49,7 @@ pub fn check_at(list: &[u8], at: usize, tally: &mut Counts) -> usize {
         b'C' => replies::completion_at(list, first, tally),
         b'L' => replies::length_at(list, first, tally),
         b'W' => replies::room_at(list, first, tally),
+        b'V' => replies::written_at(list, first, tally),
         _ => at,
     }
 }

@@ -1,5 +1,6 @@
 // States with a fault: every call answers 9 and leaves the state and the buffer as they were.
 use crate::reads;
+use crate::versions;
 use state::State;
 use test_calls::calls;
 use test_calls::faults;
@@ -47,9 +48,14 @@ fn check_reduction(state: State, tally: &mut Counts) {
     tally::expect(tally, tally::UNSOUND, is_refused);
 }
 
+fn check_write(state: State, seed: &mut u64, tally: &mut Counts) {
+    let room = random::index(seed, ROOM + 1);
+    reads::check_unwritten(state, versions::any(seed), room, 9, tally);
+}
+
 fn check_calls(state: State, seed: &mut u64, tally: &mut Counts) {
     check_solving(state, seed, tally);
-    reads::check_unwritten(state, random::index(seed, ROOM + 1), 9, tally);
+    check_write(state, seed, tally);
     check_step(state, seed, tally);
     check_reduction(state, tally);
 }

@@ -5,12 +5,12 @@ use crate::families::Sheet;
 use crate::random;
 
 // Kinds of inputs, past the families of sheets.
-pub const DAMAGED: u8 = 9;
+pub const DAMAGED: u8 = 12;
 
-pub const RANDOM_BYTES: u8 = 10;
+pub const RANDOM_BYTES: u8 = 13;
 
 // One more than the greatest of the kinds.
-pub const KINDS: u8 = 11;
+pub const KINDS: u8 = 14;
 
 // A place among the bytes, often one of the first.
 fn place(length: usize, seed: &mut u64) -> usize {
@@ -25,7 +25,7 @@ fn any_byte(seed: &mut u64) -> u8 {
     if random::once_in(seed, 3) {
         return random::byte(seed);
     }
-    random::byte(seed) % 18
+    random::byte(seed) % 35
 }
 
 fn with_byte(sheet: Sheet, at: usize, byte: u8) -> Sheet {
@@ -64,6 +64,14 @@ fn mended(sheet: Sheet) -> Sheet {
     Sheet { bytes, length }
 }
 
+// A length about that of the largest sheet of a version.
+fn great_length(seed: &mut u64) -> usize {
+    if random::once_in(seed, 2) {
+        return random::from(seed, 4100, 100);
+    }
+    random::from(seed, 15620, 100)
+}
+
 fn longer(sheet: Sheet, seed: &mut u64) -> Sheet {
     let length = sheet.length;
     let more = std::num::wrapping_add_usize(length, random::from(seed, 1, 3));
@@ -78,7 +86,7 @@ fn altered(kind: u64, sheet: Sheet, at: usize, seed: &mut u64) -> Sheet {
         2 => with_two_exchanged(sheet, at, place(length, seed)),
         3 | 4 => with_length(sheet, at),
         5 | 6 => longer(sheet, seed),
-        7 => with_length(sheet, random::from(seed, 4100, 100)),
+        7 => with_length(sheet, great_length(seed)),
         _ => with_byte(sheet, random::from(seed, 4, 20), any_byte(seed)),
     }
 }
@@ -115,14 +123,14 @@ fn random_bytes(seed: &mut u64) -> Sheet {
     if random::once_in(seed, 8) {
         return Sheet { bytes, length };
     }
-    families::put(&mut bytes, 0, 1);
+    families::put(&mut bytes, 0, random::from_one(seed, 2));
     families::mend(&mut bytes, length);
     Sheet { bytes, length }
 }
 
 // A sheet of a small family with one change.
 fn damaged(seed: &mut u64) -> Sheet {
-    let family = random::byte(seed) % 7;
+    let family = random::byte(seed) % 8;
     changed(families::make(family, seed), seed)
 }
 

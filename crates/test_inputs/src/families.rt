@@ -2,7 +2,7 @@
 use crate::random;
 
 // More bytes than the largest sheet has.
-pub const ROOM: usize = 4224;
+pub const ROOM: usize = 15744;
 
 // A sheet's bytes and how many there are.
 pub struct Sheet {
@@ -23,10 +23,16 @@ pub const DENSE: u8 = 4;
 pub const MIXED: u8 = 5;
 // Two options of up to 16 values.
 pub const WIDE: u8 = 6;
+// Two options of 17 to 32 values, or one of them with a smaller one. From here on the families have versions of their own.
+pub const WIDER: u8 = 7;
 // Up to 16 options of up to 16 values: too many builds to count.
-pub const LARGE: u8 = 7;
-// 16 options of 16 values and every table: 4,101 bytes.
-pub const LARGEST: u8 = 8;
+pub const LARGE: u8 = 8;
+// Up to 16 options of up to 32 values.
+pub const LARGER: u8 = 9;
+// 16 options of 16 values and every table, in version 1: 4,101 bytes.
+pub const FULL: u8 = 10;
+// 16 options of 32 values and every table, in version 2: 15,621 bytes.
+pub const LARGEST: u8 = 11;
 
 pub fn put(bytes: &mut [u8; ROOM], at: usize, byte: u8) -> usize {
     if ROOM <= at {
@@ -69,45 +75,64 @@ pub fn byte_at(bytes: &[u8; ROOM], at: usize) -> u8 {
     bytes[at]
 }
 
+// The version of a sheet of the family: 2 where a size may be above 16, 1 for the fullest of that version, else either.
+fn version(family: u8, seed: &mut u64) -> u8 {
+    match family {
+        WIDER | LARGER | LARGEST => 2,
+        FULL => 1,
+        _ => random::from_one(seed, 2),
+    }
+}
+
 fn most_options(family: u8) -> u8 {
-    if family == WIDE {
-        return 3;
+    match family {
+        WIDE => 3,
+        WIDER => 2,
+        LARGE | LARGER => 16,
+        _ => 5,
     }
-    if family == LARGE {
-        return 16;
-    }
-    5
 }
 
 fn options(family: u8, seed: &mut u64) -> u8 {
-    if family == LARGEST {
+    if (family == FULL) | (family == LARGEST) {
         return 16;
     }
     random::from_one(seed, most_options(family))
 }
 
 fn most_values(family: u8, i: usize) -> u8 {
-    if family == LARGE {
-        return 16;
+    match family {
+        LARGE => 16,
+        LARGER => 32,
+        WIDE => most_of_wide(i),
+        _ => 4,
     }
-    if family != WIDE {
-        return 4;
-    }
+}
+
+fn most_of_wide(i: usize) -> u8 {
     if i < 2 {
         return 16;
     }
     2
 }
 
+// 17 to 32 values, once in four fewer.
+fn wider(seed: &mut u64) -> u8 {
+    if random::once_in(seed, 4) {
+        return random::from_one(seed, 16);
+    }
+    17 + random::byte(seed) % 16
+}
+
 // The size of the option `i`. Bijections want one size for all.
 fn size(family: u8, i: usize, common: u8, seed: &mut u64) -> u8 {
-    if family == BIJECTIVE {
-        return common;
+    match family {
+        BIJECTIVE => common,
+        WIDER => wider(seed),
+        FULL => 16,
+        LARGEST => 32,
+        _ => random::from_one(seed, most_values(family, i)),
     }
-    if family == LARGEST {
-        return 16;
-    }
-    random::from_one(seed, most_values(family, i))
 }
 
 fn put_sizes(bytes: &mut [u8; ROOM], n: usize, family: u8, seed: &mut u64) {
@@ -133,8 +158,8 @@ fn is_stated(family: u8, a: usize, b: usize, seed: &mut u64) -> bool {
     match family {
         CHAINS => is_chained(a, b, seed),
         DENSE => !random::once_in(seed, 4),
-        LARGE => random::once_in(seed, 3),
-        LARGEST => true,
+        LARGE | LARGER => random::once_in(seed, 3),
+        FULL | LARGEST => true,
         _ => random::once_in(seed, 2),
     }
 }
@@ -148,27 +173,27 @@ fn kind_of(family: u8, seed: &mut u64) -> u8 {
 }
 
 // All values below `size`.
-pub fn within(size: u8) -> u16 {
+pub fn within(size: u8) -> u32 {
     if size == 0 {
         return 0;
     }
-    if 16 < size {
-        return 65535;
+    if 32 < size {
+        return u32::MAX;
     }
-    65535u16 >> (16 - size)
+    u32::MAX >> (32 - size)
 }
 
 // One value below `size`.
-fn one_value(drawn: usize, size: u8) -> u16 {
+fn one_value(drawn: usize, size: u8) -> u32 {
     if size == 0 {
         return 0;
     }
     let value = drawn % (size as usize);
-    1u16 << (value % 16)
+    1u32 << (value % 32)
 }
 
 // No value once in four rows, else one.
-fn one_or_none(r: u16, q: u16, size: u8) -> u16 {
+fn one_or_none(r: u32, q: u32, size: u8) -> u32 {
     if r % 4 == 0 {
         return 0;
     }
@@ -176,7 +201,7 @@ fn one_or_none(r: u16, q: u16, size: u8) -> u16 {
 }
 
 // The row of value `v`, from two words that are drawn for it.
-fn row(kind: u8, r: u16, q: u16, shift: u8, v: usize, size: u8) -> u16 {
+fn row(kind: u8, r: u32, q: u32, shift: u8, v: usize, size: u8) -> u32 {
     match kind {
         SPARSE => r & q & within(size),
         CHAINS => one_value(r as usize, size),
@@ -184,6 +209,16 @@ fn row(kind: u8, r: u16, q: u16, shift: u8, v: usize, size: u8) -> u16 {
         DENSE => (r | q) & within(size),
         _ => one_or_none(r, q, size),
     }
+}
+
+// A row, in as many bytes as the version at place 0 has for it.
+pub fn put_row(bytes: &mut [u8; ROOM], at: usize, row: u32) -> usize {
+    let number = row as usize;
+    if byte_at(bytes, 0) == 1 {
+        return put_number(bytes, at, number);
+    }
+    let low = put_number(bytes, at, number / 65536);
+    put_number(bytes, low, number)
 }
 
 fn put_rows(
@@ -199,7 +234,7 @@ fn put_rows(
     for v in 0..count {
         let r = random::word(seed);
         let q = random::word(seed);
-        at = put_number(bytes, at, row(kind, r, q, shift, v, size) as usize);
+        at = put_row(bytes, at, row(kind, r, q, shift, v, size));
     }
     at
 }
@@ -279,7 +314,7 @@ pub fn mend(bytes: &mut [u8; ROOM], length: usize) {
 pub fn make(family: u8, seed: &mut u64) -> Sheet {
     let mut bytes = [0u8; ROOM];
     let n = options(family, seed);
-    put(&mut bytes, 0, 1);
+    put(&mut bytes, 0, version(family, seed));
     put(&mut bytes, 3, n);
     put_sizes(&mut bytes, n as usize, family, seed);
     let length = put_tables(&mut bytes, n as usize, family, seed);

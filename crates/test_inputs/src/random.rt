@@ -53,8 +53,8 @@ pub fn byte(seed: &mut u64) -> u8 {
     (draw(seed) % 256) as u8
 }
 
-pub fn word(seed: &mut u64) -> u16 {
-    (draw(seed) % 65536) as u16
+pub fn word(seed: &mut u64) -> u32 {
+    (draw(seed) % 4294967296) as u32
 }
 
 // Once in `n` draws, on average.

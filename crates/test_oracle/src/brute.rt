@@ -37,9 +37,34 @@ pub fn size(bytes: &[u8], i: usize) -> usize {
     byte(bytes, past(4, i)) as usize
 }
 
+// Byte 0 is the version: a row has two bytes in version 1, else four.
+pub fn row_length(bytes: &[u8]) -> usize {
+    if byte(bytes, 0) == 1 {
+        return 2;
+    }
+    4
+}
+
+// The row at a place.
+pub fn row(bytes: &[u8], at: usize) -> usize {
+    let high = number(bytes, at);
+    if row_length(bytes) == 2 {
+        return high;
+    }
+    past(high % 65536 * 65536, number(bytes, past(at, 2)))
+}
+
+// The place of the row of value `v`, where the row of value 0 is at `at`.
+fn row_place(bytes: &[u8], at: usize, v: usize) -> usize {
+    if row_length(bytes) == 2 {
+        return past(at, v % 256 * 2);
+    }
+    past(at, v % 256 * 4)
+}
+
 // Bit `v` of a row.
 pub fn has(row: usize, v: usize) -> bool {
-    if 15 < v {
+    if 31 < v {
         return false;
     }
     (row >> v) % 2 == 1
@@ -65,7 +90,7 @@ pub fn index_of(number: usize) -> usize {
 }
 
 // The size of an option, from its number.
-pub(crate) fn size_of(bytes: &[u8], option: usize) -> usize {
+pub fn size_of(bytes: &[u8], option: usize) -> usize {
     size(bytes, index_of(option))
 }
 
@@ -73,19 +98,13 @@ pub(crate) fn size_of(bytes: &[u8], option: usize) -> usize {
 fn table_allows(bytes: &[u8], at: usize, tuple: &[u8; 16]) -> bool {
     let a = byte_at(tuple, index_of(byte(bytes, at) as usize));
     let b = byte_at(tuple, index_of(byte(bytes, past(at, 1)) as usize));
-    if 255 < a {
-        return false;
-    }
-    has(number(bytes, past(at, 2 + 2 * a)), b)
+    has(row(bytes, row_place(bytes, past(at, 2), a)), b)
 }
 
 // The place after the table at a place.
 fn table_end(bytes: &[u8], at: usize) -> usize {
     let rows = size_of(bytes, byte(bytes, at) as usize);
-    if 255 < rows {
-        return at;
-    }
-    past(at, 2 + 2 * rows)
+    row_place(bytes, past(at, 2), rows)
 }
 
 fn tables_allow(bytes: &[u8], tuple: &[u8; 16]) -> bool {

@@ -3,6 +3,8 @@ use crate::brute::byte;
 use crate::brute::number;
 use crate::brute::options;
 use crate::brute::past;
+use crate::brute::row;
+use crate::brute::row_length;
 use crate::brute::size_of;
 
 // The number of the cause, 0 where there is none, and its place; where there is none, the place after what was judged.
@@ -15,22 +17,35 @@ fn fault(number: u8, place: usize) -> Judged {
     Judged { number, place }
 }
 
-// "under 3 bytes, over 4,101, or not 3 plus the count"
+// "under 3 bytes", over 15,621 whatever the version, "or not 3 plus the count"
 fn is_length_wrong(bytes: &[u8]) -> bool {
     let length = bytes.len();
-    (length < 3) | (4101 < length) | (past(3, number(bytes, 1)) != length)
+    (length < 3) | (15621 < length) | (past(3, number(bytes, 1)) != length)
 }
 
-// "0 or above 16"
-fn is_wrong(number: u8) -> bool {
-    (number == 0) | (16 < number)
+// "neither 1 nor 2"
+fn is_version_wrong(version: u8) -> bool {
+    (version != 1) & (version != 2)
+}
+
+// "version 1 keeps two-byte rows and sizes to 16"
+fn most_values(bytes: &[u8]) -> u8 {
+    if byte(bytes, 0) == 1 {
+        return 16;
+    }
+    32
+}
+
+// "0 or above" the most.
+fn is_wrong(number: u8, most: u8) -> bool {
+    (number == 0) | (most < number)
 }
 
 fn judge_size(bytes: &[u8], at: usize) -> u8 {
     if bytes.len() <= at {
         return 6;
     }
-    if is_wrong(byte(bytes, at)) {
+    if is_wrong(byte(bytes, at), most_values(bytes)) {
         return 4;
     }
     0
@@ -82,17 +97,17 @@ fn is_after(bytes: &[u8], at: usize, before: usize) -> bool {
 
 // A bit of a row at or above the size.
 fn is_row_wide(row: usize, size: usize) -> bool {
-    if 15 < size {
+    if 31 < size {
         return false;
     }
     (row >> size) != 0
 }
 
 fn judge_row(bytes: &[u8], at: usize, size: usize) -> u8 {
-    if bytes.len() < past(at, 2) {
+    if bytes.len() < past(at, row_length(bytes)) {
         return 6;
     }
-    if is_row_wide(number(bytes, at), size) {
+    if is_row_wide(row(bytes, at), size) {
         return 8;
     }
     0
@@ -105,7 +120,7 @@ fn judge_rows(bytes: &[u8], from: usize, count: usize, size: usize) -> Judged {
         if number != 0 {
             return fault(number, at);
         }
-        at = past(at, 2);
+        at = past(at, row_length(bytes));
     }
     fault(0, at)
 }
@@ -157,13 +172,13 @@ pub fn judge(bytes: &[u8]) -> Judged {
     if is_length_wrong(bytes) {
         return fault(1, 0);
     }
-    if byte(bytes, 0) != 1 {
+    if is_version_wrong(byte(bytes, 0)) {
         return fault(2, 0);
     }
     if bytes.len() <= 3 {
         return fault(6, 3);
     }
-    if is_wrong(byte(bytes, 3)) {
+    if is_wrong(byte(bytes, 3), 16) {
         return fault(3, 3);
     }
     let n = options(bytes);

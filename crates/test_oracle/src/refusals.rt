@@ -10,7 +10,7 @@ fn is_option(n: usize, number: usize) -> bool {
 
 // No value in the list of `i` has more than one allowed partner in the list of `j`.
 fn is_functional<'a>(domains: &'a [u32; 16], rows: &'a [u32; 3840], i: usize, j: usize) -> bool {
-    for a in 0..16 {
+    for a in 0..32 {
         if has_two_partners(domains, rows, i, j, a) {
             return false;
         }

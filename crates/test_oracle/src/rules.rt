@@ -20,7 +20,7 @@ fn is_kept<'a>(
 // Rule 1: "The list of i loses each value that has no allowed partner in the list of j."
 pub fn trimmed<'a>(domains: &'a [u32; 16], rows: &'a [u32; 3840], i: usize, j: usize) -> u32 {
     let mut list: u32 = 0;
-    for a in 0..16 {
+    for a in 0..32 {
         list = list | bit_if(is_kept(domains, rows, i, j, a), a);
     }
     list
@@ -101,7 +101,7 @@ fn composed_row<'a>(
     a: usize,
 ) -> u32 {
     let mut row: u32 = 0;
-    for c in 0..16 {
+    for c in 0..32 {
         row = row | bit_if(is_composed_from(domains, stated, rows, i, j, p, q, a, c), c);
     }
     row
@@ -156,9 +156,9 @@ fn put_after<'a>(
     j: usize,
     k: usize,
 ) {
-    let p = k / 256;
-    let q = k / 16 % 16;
-    let a = k % 16;
+    let p = k / 512;
+    let q = k / 32 % 16;
+    let a = k % 32;
     if p < q {
         put_row(
             after,
@@ -179,7 +179,7 @@ pub fn rows_after<'a>(
     j: usize,
 ) -> [u32; 3840] {
     let mut after = [0u32; 3840];
-    for k in 0..4096 {
+    for k in 0..8192 {
         put_after(&mut after, domains, stated, rows, i, j, k);
     }
     after

@@ -1,10 +1,12 @@
 // Fixed examples, each with what it must come to: sheets, refused bytes, steps, and answers on sheet A.
 use crate::lists;
 use crate::lists::expect_text;
+use crate::sheets::check_sheet;
 use test_calls::calls;
 use test_calls::tally;
 use test_calls::tally::Counts;
 use test_checks::rows::expect_refused;
+use test_inputs::families;
 
 // Sheets A to F of document 01:
 // sizes 2,3,2; (1,2) 0001 0004; (2,3) 0002 0001 0001
@@ -16,17 +18,17 @@ use test_checks::rows::expect_refused;
 fn a_to_f(seed: &mut u64, tally: &mut Counts) {
     lists::run(
         b"S\x16\x01\x00\x13\x03\x02\x03\x02\x02\x01\x02\x00\x01\x00\x04\x02\x03\x00\x02\x00\x01\x00\x01\x0b2B030100101\
-        \x5bOPTIONS 3\nLIVE 1 LIST 0003\nFOLLOWS 2 OF 1\nFOLLOWS 3 OF 1\nSTEPS 2\nVERDICT BUILT\nBUILD 0 0 1\n\
+        \x5fOPTIONS 3\nLIVE 1 LIST 00000003\nFOLLOWS 2 OF 1\nFOLLOWS 3 OF 1\nSTEPS 2\nVERDICT BUILT\nBUILD 0 0 1\n\
         S\x16\x01\x00\x13\x03\x02\x03\x02\x02\x01\x02\x00\x01\x00\x06\x02\x03\x00\x01\x00\x02\x00\x02\x0b2B200070200\
-        \x5bOPTIONS 3\nFOLLOWS 1 OF 2\nLIVE 2 LIST 0007\nFOLLOWS 3 OF 2\nSTEPS 2\nVERDICT BUILT\nBUILD 0 0 0\n\
+        \x5fOPTIONS 3\nFOLLOWS 1 OF 2\nLIVE 2 LIST 00000007\nFOLLOWS 3 OF 2\nSTEPS 2\nVERDICT BUILT\nBUILD 0 0 0\n\
         S\x29\x01\x00\x26\x04\x03\x03\x03\x03\x04\x01\x02\x00\x01\x00\x02\x00\x04\x01\x03\x00\x01\x00\x02\x00\x04\x02\x04\x00\x01\x00\x04\x00\x02\x03\x04\x00\x01\x00\x04\x00\x02\x0e3B070100100100\
-        \x6cOPTIONS 4\nLIVE 1 LIST 0007\nFOLLOWS 2 OF 1\nFOLLOWS 3 OF 1\nFOLLOWS 4 OF 1\nSTEPS 3\nVERDICT BUILT\nBUILD 0 0 0 0\n\
+        \x70OPTIONS 4\nLIVE 1 LIST 00000007\nFOLLOWS 2 OF 1\nFOLLOWS 3 OF 1\nFOLLOWS 4 OF 1\nSTEPS 3\nVERDICT BUILT\nBUILD 0 0 0 0\n\
         S\x29\x01\x00\x26\x04\x03\x03\x03\x03\x04\x01\x02\x00\x01\x00\x02\x00\x04\x01\x03\x00\x01\x00\x02\x00\x04\x02\x04\x00\x01\x00\x02\x00\x04\x03\x04\x00\x01\x00\x04\x00\x02\x0e3B010100100100\
-        \x6cOPTIONS 4\nLIVE 1 LIST 0001\nFOLLOWS 2 OF 1\nFOLLOWS 3 OF 1\nFOLLOWS 4 OF 1\nSTEPS 3\nVERDICT BUILT\nBUILD 0 0 0 0\n\
+        \x70OPTIONS 4\nLIVE 1 LIST 00000001\nFOLLOWS 2 OF 1\nFOLLOWS 3 OF 1\nFOLLOWS 4 OF 1\nSTEPS 3\nVERDICT BUILT\nBUILD 0 0 0 0\n\
         S\x29\x01\x00\x26\x04\x03\x03\x03\x03\x04\x01\x02\x00\x01\x00\x02\x00\x04\x01\x03\x00\x01\x00\x02\x00\x04\x02\x04\x00\x02\x00\x04\x00\x01\x03\x04\x00\x01\x00\x04\x00\x02\x0e3B021101101102\
-        \x6cOPTIONS 4\nLIVE 1 LIST 0002\nFOLLOWS 2 OF 1\nFOLLOWS 3 OF 1\nFOLLOWS 4 OF 1\nSTEPS 3\nVERDICT BUILT\nBUILD 1 1 1 2\n\
+        \x70OPTIONS 4\nLIVE 1 LIST 00000002\nFOLLOWS 2 OF 1\nFOLLOWS 3 OF 1\nFOLLOWS 4 OF 1\nSTEPS 3\nVERDICT BUILT\nBUILD 1 1 1 2\n\
         S\x29\x01\x00\x26\x04\x03\x03\x03\x03\x04\x01\x02\x00\x01\x00\x02\x00\x04\x01\x03\x00\x01\x00\x02\x00\x04\x02\x04\x00\x02\x00\x01\x00\x04\x03\x04\x00\x01\x00\x04\x00\x02\x0e3N000100100100\
-        \x5dOPTIONS 4\nLIVE 1 LIST 0000\nFOLLOWS 2 OF 1\nFOLLOWS 3 OF 1\nFOLLOWS 4 OF 1\nSTEPS 3\nVERDICT NONE\n",
+        \x61OPTIONS 4\nLIVE 1 LIST 00000000\nFOLLOWS 2 OF 1\nFOLLOWS 3 OF 1\nFOLLOWS 4 OF 1\nSTEPS 3\nVERDICT NONE\n",
         seed,
         tally,
     );
@@ -42,17 +44,17 @@ fn a_to_f(seed: &mut u64, tally: &mut Counts) {
 fn g_to_l(seed: &mut u64, tally: &mut Counts) {
     lists::run(
         b"S\x0d\x01\x00\x0a\x02\x02\x02\x01\x01\x02\x00\x03\x00\x03\x080O030030\
-        \x41OPTIONS 2\nLIVE 1 LIST 0003\nLIVE 2 LIST 0003\nSTEPS 0\nVERDICT OPEN\n\
+        \x49OPTIONS 2\nLIVE 1 LIST 00000003\nLIVE 2 LIST 00000003\nSTEPS 0\nVERDICT OPEN\n\
         S\x07\x01\x00\x04\x02\x02\x02\x00\x080B030030\
-        \x4cOPTIONS 2\nLIVE 1 LIST 0003\nLIVE 2 LIST 0003\nSTEPS 0\nVERDICT BUILT\nBUILD 0 0\n\
+        \x54OPTIONS 2\nLIVE 1 LIST 00000003\nLIVE 2 LIST 00000003\nSTEPS 0\nVERDICT BUILT\nBUILD 0 0\n\
         S\x06\x01\x00\x03\x01\x01\x00\x050B010\
-        \x39OPTIONS 1\nLIVE 1 LIST 0001\nSTEPS 0\nVERDICT BUILT\nBUILD 0\n\
+        \x3dOPTIONS 1\nLIVE 1 LIST 00000001\nSTEPS 0\nVERDICT BUILT\nBUILD 0\n\
         S\x0d\x01\x00\x0a\x02\x02\x01\x01\x01\x02\x00\x01\x00\x00\x081B010100\
-        \x4aOPTIONS 2\nLIVE 1 LIST 0001\nFOLLOWS 2 OF 1\nSTEPS 1\nVERDICT BUILT\nBUILD 0 0\n\
+        \x4eOPTIONS 2\nLIVE 1 LIST 00000001\nFOLLOWS 2 OF 1\nSTEPS 1\nVERDICT BUILT\nBUILD 0 0\n\
         S\x14\x01\x00\x11\x03\x02\x02\x02\x02\x01\x03\x00\x01\x00\x02\x02\x03\x00\x01\x00\x02\x0b2B030100100\
-        \x5bOPTIONS 3\nLIVE 1 LIST 0003\nFOLLOWS 2 OF 1\nFOLLOWS 3 OF 1\nSTEPS 2\nVERDICT BUILT\nBUILD 0 0 0\n\
+        \x5fOPTIONS 3\nLIVE 1 LIST 00000003\nFOLLOWS 2 OF 1\nFOLLOWS 3 OF 1\nSTEPS 2\nVERDICT BUILT\nBUILD 0 0 0\n\
         S\x0d\x01\x00\x0a\x02\x02\x02\x01\x01\x02\x00\x01\x00\x01\x081B030100\
-        \x4aOPTIONS 2\nLIVE 1 LIST 0003\nFOLLOWS 2 OF 1\nSTEPS 1\nVERDICT BUILT\nBUILD 0 0\n",
+        \x4eOPTIONS 2\nLIVE 1 LIST 00000003\nFOLLOWS 2 OF 1\nSTEPS 1\nVERDICT BUILT\nBUILD 0 0\n",
         seed,
         tally,
     );
@@ -66,13 +68,13 @@ fn g_to_l(seed: &mut u64, tally: &mut Counts) {
 fn shrunk(seed: &mut u64, tally: &mut Counts) {
     lists::run(
         b"S\x14\x01\x00\x11\x03\x02\x02\x01\x02\x01\x02\x00\x03\x00\x03\x02\x03\x00\x01\x00\x00\x0b2B030100100\
-        \x5bOPTIONS 3\nLIVE 1 LIST 0003\nFOLLOWS 2 OF 1\nFOLLOWS 3 OF 1\nSTEPS 2\nVERDICT BUILT\nBUILD 0 0 0\n\
+        \x5fOPTIONS 3\nLIVE 1 LIST 00000003\nFOLLOWS 2 OF 1\nFOLLOWS 3 OF 1\nSTEPS 2\nVERDICT BUILT\nBUILD 0 0 0\n\
         S\x14\x01\x00\x11\x03\x02\x02\x02\x02\x01\x02\x00\x01\x00\x00\x01\x03\x00\x01\x00\x03\x0b2B010100100\
-        \x5bOPTIONS 3\nLIVE 1 LIST 0001\nFOLLOWS 2 OF 1\nFOLLOWS 3 OF 1\nSTEPS 2\nVERDICT BUILT\nBUILD 0 0 0\n\
+        \x5fOPTIONS 3\nLIVE 1 LIST 00000001\nFOLLOWS 2 OF 1\nFOLLOWS 3 OF 1\nSTEPS 2\nVERDICT BUILT\nBUILD 0 0 0\n\
         S\x12\x01\x00\x0f\x03\x01\x02\x01\x02\x01\x02\x00\x03\x02\x03\x00\x00\x00\x01\x0b2B200021200\
-        \x5bOPTIONS 3\nFOLLOWS 1 OF 2\nLIVE 2 LIST 0002\nFOLLOWS 3 OF 2\nSTEPS 2\nVERDICT BUILT\nBUILD 0 1 0\n\
+        \x5fOPTIONS 3\nFOLLOWS 1 OF 2\nLIVE 2 LIST 00000002\nFOLLOWS 3 OF 2\nSTEPS 2\nVERDICT BUILT\nBUILD 0 1 0\n\
         S\x1b\x01\x00\x18\x04\x02\x02\x03\x03\x03\x01\x02\x00\x03\x00\x01\x02\x03\x00\x06\x00\x01\x02\x04\x00\x00\x00\x04\x0e3B010101100102\
-        \x6cOPTIONS 4\nLIVE 1 LIST 0001\nFOLLOWS 2 OF 1\nFOLLOWS 3 OF 1\nFOLLOWS 4 OF 1\nSTEPS 3\nVERDICT BUILT\nBUILD 0 1 0 2\n",
+        \x70OPTIONS 4\nLIVE 1 LIST 00000001\nFOLLOWS 2 OF 1\nFOLLOWS 3 OF 1\nFOLLOWS 4 OF 1\nSTEPS 3\nVERDICT BUILT\nBUILD 0 1 0 2\n",
         seed,
         tally,
     );
@@ -106,7 +108,7 @@ fn empty(seed: &mut u64, tally: &mut Counts) {
 fn apart(seed: &mut u64, tally: &mut Counts) {
     lists::run(
         b"S\x17\x01\x00\x14\x04\x02\x03\x02\x04\x02\x01\x02\x00\x01\x00\x04\x02\x03\x00\x02\x00\x01\x00\x01\x0e2B0301001010?0\
-        \x6eOPTIONS 4\nLIVE 1 LIST 0003\nFOLLOWS 2 OF 1\nFOLLOWS 3 OF 1\nLIVE 4 LIST 000F\nSTEPS 2\nVERDICT BUILT\nBUILD 0 0 1 0\n\
+        \x76OPTIONS 4\nLIVE 1 LIST 00000003\nFOLLOWS 2 OF 1\nFOLLOWS 3 OF 1\nLIVE 4 LIST 0000000F\nSTEPS 2\nVERDICT BUILT\nBUILD 0 0 1 0\n\
         S\x15\x01\x00\x12\x04\x02\x01\x02\x01\x02\x01\x02\x00\x00\x00\x01\x03\x04\x00\x00\x00\x01\x0e2B021100021300\x00\
         S\x0c\x01\x00\x09\x03\x01\x01\x02\x01\x01\x02\x00\x00\x0b1N000100030\x00\
         S\x13\x01\x00\x10\x04\x02\x02\x01\x01\x02\x01\x02\x00\x03\x00\x03\x03\x04\x00\x00\x0e1N030030000300\x00",
@@ -142,11 +144,11 @@ fn refused_heads(seed: &mut u64, tally: &mut Counts) {
         b"R\x01\x00\x00\
         R\x01\x00\x02\x01\x00\
         R\x01\x00\x03\x01\x00\x01\
-        R\x01\x00\x03\x02\x00\x01\
+        R\x01\x00\x03\x03\x00\x01\
         R\x01\x00\x06\x01\x00\x02\x01\x01\x00\
-        R\x02\x00\x03\x02\x00\x00\
+        R\x02\x00\x03\x03\x00\x00\
         R\x02\x00\x06\x00\x00\x03\x01\x01\x00\
-        R\x02\x00\x04\x02\x00\x01\x00\
+        R\x02\x00\x04\x03\x00\x01\x00\
         R\x06\x03\x03\x01\x00\x00\
         R\x03\x03\x04\x01\x00\x01\x00\
         R\x03\x03\x04\x01\x00\x01\x11\
@@ -249,7 +251,7 @@ fn replies_as_read(seed: &mut u64, tally: &mut Counts) {
         CA\x00\x10\x01\x0f\x00\x10\x01\
         LA\x02\
         LA\x04\
-        WA\x00\x15\x11",
+        WA\x00\x01\x00\x15\x11",
         seed,
         tally,
     );
@@ -266,8 +268,8 @@ fn replies_reduced(seed: &mut u64, tally: &mut Counts) {
         Ca\x01\x00\xff\x00\x01\x02\x00\
         Ca\x02\x00\x00\x0f\x02\x00\x00\
         La\x10\
-        Wa\x10\x80\x12\
-        Wa\x00\x00\x12",
+        Wa\x00\x01\x10\x80\x12\
+        Wa\x00\x03\x00\x00\x12",
         seed,
         tally,
     );
@@ -277,7 +279,7 @@ fn replies_reduced(seed: &mut u64, tally: &mut Counts) {
 fn refused_texts(seed: &mut u64, tally: &mut Counts) {
     lists::run(
         b"P\x00\x0fREFUSED 1 AT 0\n\
-        P\x03\x02\x00\x00\x0fREFUSED 2 AT 0\n\
+        P\x03\x03\x00\x00\x0fREFUSED 2 AT 0\n\
         P\x03\x01\x00\x00\x0fREFUSED 6 AT 3\n\
         P\x10\x01\x00\x0d\x03\x01\x01\x01\x02\x01\x02\x00\x01\x01\x02\x00\x01\x11REFUSED 20 AT 12\n",
         seed,
@@ -287,13 +289,93 @@ fn refused_texts(seed: &mut u64, tally: &mut Counts) {
 
 // More bytes than the largest sheet has: zeros, and with the version and the count right.
 fn refused_long(tally: &mut Counts) {
-    let mut bytes = [0u8; 4102];
+    let mut bytes = [0u8; 15622];
     expect_text(&bytes, b"REFUSED 1 AT 0\n", tally);
-    bytes[0] = 1;
-    bytes[1] = 16;
+    bytes[0] = 2;
+    bytes[1] = 61;
     bytes[2] = 3;
     expect_text(&bytes, b"REFUSED 1 AT 0\n", tally);
     expect_refused(&bytes, 1, 0, tally);
+}
+
+// Sheets of version 2, with sizes above 16:
+// sizes 1,27; (1,2) 04000000
+// sizes 1,32; (1,2) 80000000
+// sizes 32; no table
+fn version_2(seed: &mut u64, tally: &mut Counts) {
+    lists::run(
+        b"S\x0d\x02\x00\x0a\x02\x01\x1b\x01\x01\x02\x04\x00\x00\x00\x081B01010J\
+        \x4fOPTIONS 2\nLIVE 1 LIST 00000001\nFOLLOWS 2 OF 1\nSTEPS 1\nVERDICT BUILT\nBUILD 0 26\n\
+        S\x0d\x02\x00\x0a\x02\x01\x20\x01\x01\x02\x80\x00\x00\x00\x081B01010O\
+        \x4fOPTIONS 2\nLIVE 1 LIST 00000001\nFOLLOWS 2 OF 1\nSTEPS 1\nVERDICT BUILT\nBUILD 0 31\n\
+        P\x06\x02\x00\x03\x01\x20\x00\
+        \x3dOPTIONS 1\nLIVE 1 LIST FFFFFFFF\nSTEPS 0\nVERDICT BUILT\nBUILD 0\n",
+        seed,
+        tally,
+    );
+}
+
+// A bit, a size and a size in version 1 too many, a row of three bytes, and a version too many.
+fn refused_versions(seed: &mut u64, tally: &mut Counts) {
+    lists::run(
+        b"R\x08\x09\x0d\x02\x00\x0a\x02\x01\x1b\x01\x01\x02\x08\x00\x00\x00\
+        R\x04\x05\x0d\x02\x00\x0a\x02\x01\x21\x01\x01\x02\x04\x00\x00\x00\
+        R\x04\x05\x0d\x01\x00\x0a\x02\x01\x1b\x01\x01\x02\x04\x00\x00\x00\
+        R\x06\x09\x0c\x02\x00\x09\x02\x01\x1b\x01\x01\x02\x04\x00\x00\
+        R\x02\x00\x06\x03\x00\x03\x01\x01\x00",
+        seed,
+        tally,
+    );
+}
+
+// Written in a version: sheet A in both; the sheet of 27 values in version 2 alone, in none that is unknown, and not into 12 bytes.
+fn written_versions(seed: &mut u64, tally: &mut Counts) {
+    lists::run(
+        b"VA\x16\x01\x00\x13\x03\x02\x03\x02\x02\x01\x02\x00\x01\x00\x04\x02\x03\x00\x02\x00\x01\x00\x01\
+        VA\x20\x02\x00\x1d\x03\x02\x03\x02\x02\x01\x02\x00\x00\x00\x01\x00\x00\x00\x04\x02\x03\x00\x00\x00\x02\x00\x00\x00\x01\x00\x00\x00\x01\
+        VV\x0d\x02\x00\x0a\x02\x01\x1b\x01\x01\x02\x04\x00\x00\x00\
+        WV\x00\x01\x3d\x80\x18\
+        WV\x00\x03\x3d\x80\x18\
+        WV\x01\x02\x3d\x80\x18\
+        WV\x00\x00\x00\x00\x18\
+        WV\x00\x02\x00\x0c\x11",
+        seed,
+        tally,
+    );
+}
+
+// One byte more than a sheet has, with the count right.
+fn with_byte(sheet: families::Sheet) -> families::Sheet {
+    let mut bytes = sheet.bytes;
+    let length = std::num::wrapping_add_usize(sheet.length, 1);
+    families::mend(&mut bytes, length);
+    families::Sheet { bytes, length }
+}
+
+// The largest sheet of a version is accepted, and refused with one byte more.
+fn largest(
+    family: u8,
+    length: usize,
+    number: u8,
+    place: usize,
+    seed: &mut u64,
+    tally: &mut Counts,
+) {
+    let sheet = families::make(family, seed);
+    let bytes = sheet.bytes;
+    tally::expect(tally, tally::EXAMPLES, sheet.length == length);
+    check_sheet(family, families::first(&bytes, sheet.length), seed, tally);
+    let longer = with_byte(sheet);
+    let more = longer.bytes;
+    expect_refused(families::first(&more, longer.length), number, place, tally);
+}
+
+fn run_versions(seed: &mut u64, tally: &mut Counts) {
+    version_2(seed, tally);
+    refused_versions(seed, tally);
+    written_versions(seed, tally);
+    largest(families::FULL, 4101, 6, 4101, seed, tally);
+    largest(families::LARGEST, 15621, 1, 0, seed, tally);
 }
 
 fn run_sheets(seed: &mut u64, tally: &mut Counts) {
@@ -322,4 +404,5 @@ pub(crate) fn run(seed: &mut u64, tally: &mut Counts) {
     second_steps(seed, tally);
     replies_as_read(seed, tally);
     replies_reduced(seed, tally);
+    run_versions(seed, tally);
 }

@@ -25,8 +25,8 @@ fn run_trials() {
     let mut seed: u64 = 12512540579826779257;
     trials::run(&mut seed, &mut counts);
     tally::print(
-        b"sparse\nchains\nbijective\nempty rows\ndense\nmixed\nwide\nlarge\nlargest\n\
-        damaged\nrandom bytes\n",
+        b"sparse\nchains\nbijective\nempty rows\ndense\nmixed\nwide\nwider\nlarge\n\
+        larger\nfull\nlargest\ndamaged\nrandom bytes\n",
         tally::FAMILIES,
         &counts,
     );

@@ -7,18 +7,17 @@ use test_calls::tally::Counts;
 use test_checks::lists;
 use test_checks::reads;
 use test_checks::unsound;
+use test_checks::versions;
 use test_inputs::families;
-use test_inputs::families::ROOM;
 use test_inputs::random;
 
 // The writer takes a state back exactly when no step was taken since it was read.
-fn check_writer(bytes: &[u8], state: State, steps: usize, tally: &mut Counts) {
+fn check_writer(bytes: &[u8], state: State, steps: usize, seed: &mut u64, tally: &mut Counts) {
     if steps == 0 {
-        reads::check_round_trip(bytes, state, tally);
+        reads::check_round_trip(bytes, state, seed, tally);
         return;
     }
-    reads::check_unwritten(state, ROOM, 18, tally);
-    reads::check_unwritten(state, 0, 18, tally);
+    reads::check_refused(state, versions::any(seed), 18, tally);
 }
 
 // All tuples of a sheet of a small family, some of another.
@@ -34,7 +33,7 @@ fn check_builds(family: u8, bytes: &[u8], state: State, seed: &mut u64, tally: &
 // What holds whatever the family: refused calls, writing back, and a state with a fault.
 fn check_last(bytes: &[u8], state: State, steps: usize, seed: &mut u64, tally: &mut Counts) {
     builds::check_refusals(bytes, state, seed, tally);
-    check_writer(bytes, state, steps, tally);
+    check_writer(bytes, state, steps, seed, tally);
     unsound::check(state, seed, tally);
 }
 
@@ -55,7 +54,7 @@ pub(crate) fn check_bytes(family: u8, bytes: &[u8], seed: &mut u64, tally: &mut 
         return false;
     }
     let state = reading.state;
-    reads::check_round_trip(bytes, state, tally);
+    reads::check_round_trip(bytes, state, seed, tally);
     check_run(family, bytes, state, seed, tally);
     true
 }

@@ -27,7 +27,8 @@ fn run_kind(kind: u8, times: usize, seed: &mut u64, tally: &mut Counts) {
 fn times(kind: u8) -> usize {
     match kind {
         families::DENSE | families::WIDE | families::LARGE => 1000,
-        families::LARGEST => 20,
+        families::WIDER | families::LARGER => 500,
+        families::FULL | families::LARGEST => 20,
         DAMAGED => 10000,
         RANDOM_BYTES => 20000,
         _ => 2000,

@@ -17,9 +17,9 @@ ascii (c before s) = code c ∷ ascii s
 unfoldable pub pairLine : List ℕ → ℕ → List ℕ → ℕ → List ℕ
 pairLine first one second two = first ++ (decimal one ++ (second ++ (decimal two ++ ascii "\n")))
 
--- "LIST is four upper-case hexadecimal digits; other numbers are decimal."
+-- Document 02, L6: "LIST prints eight digits." Upper-case hexadecimal ones, as before; "other numbers are decimal."
 unfoldable pub liveLine : ℕ → ℕ → List ℕ
-liveLine number list = ascii "LIVE " ++ (decimal number ++ (ascii " LIST " ++ (hexText 4 list ++ ascii "\n")))
+liveLine number list = ascii "LIVE " ++ (decimal number ++ (ascii " LIST " ++ (hexText 8 list ++ ascii "\n")))
 
 -- "LIVE with its number and list, or FOLLOWS with its number and its leader's": i counts from 0, the numbers printed from 1.
 unfoldable pub optionLine : ℕ → ℕ → ℕ → List ℕ

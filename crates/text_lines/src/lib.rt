@@ -31,7 +31,7 @@ fn put_live(buffer: &mut [u8], at: usize, number: usize, list: u32) -> usize
 {
     let named = put_titled(buffer, at, b"LIVE ", number);
     let titled = put_text(buffer, named, b" LIST ");
-    let listed = put_hex(buffer, titled, list, 4);
+    let listed = put_hex(buffer, titled, list, 8);
     put_text(buffer, listed, b"\n")
 }
 

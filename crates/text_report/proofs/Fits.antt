@@ -37,11 +37,11 @@ length-pair : (first : List ℕ) (one : ℕ) (second : List ℕ) (two : ℕ)
 unfolding pairLine ascii
 length-pair first one second two = simp length-append
 
-length-live : (number list : ℕ) → length (liveLine number list) ≡ length (decimal number) + 16
+length-live : (number list : ℕ) → length (liveLine number list) ≡ length (decimal number) + 20
 unfolding liveLine ascii
 length-live number list = simp (length-append, length-hex) (omega arith)
 
-option-le : (i leader list : ℕ) → i < 16 → leader < 256 → length (optionLine i leader list) ≤ 18
+option-le : (i leader list : ℕ) → i < 16 → leader < 256 → length (optionLine i leader list) ≤ 22
 unfolding ascii
 option-le i leader list h l =
     by-cases (eqb leader 0)
@@ -55,7 +55,7 @@ option-le i leader list h l =
       length-decimal-le 2 leader (omega arith),
     )))
 
-options-le : (leaders lists : List ℕ) → ((k : ℕ) → getD leaders k 0 < 256) → (n : ℕ) → n ≤ 16 → length (optionLines leaders lists n) ≤ 18 * n
+options-le : (leaders lists : List ℕ) → ((k : ℕ) → getD leaders k 0 < 256) → (n : ℕ) → n ≤ 16 → length (optionLines leaders lists n) ≤ 22 * n
 unfolding optionLines
 options-le leaders lists b zero h = omega arith
 options-le leaders lists b (suc n) h =
@@ -86,9 +86,9 @@ cut-le c p =
       length-decimal-le 1 (c .steps) (omega arith),
     ))
 
-refused-le : (number place : ℕ) → number < 100 → place ≤ 4101 → length (refusedText number place) ≤ 512
+refused-le : (number place : ℕ) → number < 100 → place ≤ 15621 → length (refusedText number place) ≤ 512
 unfolding refusedText pairLine ascii
-refused-le number place h k = simp length-append (omega (arith, length-decimal-le 1 number h, length-decimal-le 3 place (omega arith)))
+refused-le number place h k = simp length-append (omega (arith, length-decimal-le 1 number h, length-decimal-le 4 place (omega arith)))
 
 -- The text fits an array of 512 bytes.
 pub text-fits : (c : CutTold) → Printable c → length (textAs c) ≤ 512

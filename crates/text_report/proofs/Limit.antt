@@ -6,25 +6,20 @@ use native.Mathlib.Omega.{arith}
 use lib.Dec.{ltb}
 use lib.ListN.{length, take}
 use lib.Seq.{take-all, length-take-le}
-use borrow.Author.Tests.{lt-ltb, ltb-true, ltb-false}
-use Rattle.bounded.proofs.Bool.{by-cases, or-l, or-r}
-use Rattle.cause.specs.declared.Cause.the-variants.{Length}
+use borrow.Author.Tests.{ltb-true, ltb-false}
+use Rattle.bounded.proofs.Bool.{by-cases}
 use Rattle.network.specs.Sheet.{Sheet}
 use Rattle.format.specs.Layout.{longest}
-use Rattle.format.specs.Parse.{Parse, bad, wrongLength, parse}
-use Rattle.format.proofs.Parse.{parse-wrong-length}
+use Rattle.format.specs.Parse.{Parse, parse}
+use Rattle.format.proofs.Parse.{parse-too-long}
 use Rattle.state.specs.Read.{readAs, readSheet}
 use Rattle.state.specs.Steps.{reduced}
 use Rattle.state.specs.Cut.{cutAs, cutSheet}
 use Rattle.text_report.specs.Text.{limit, textAs, textOf}
 
-pub limit-is : limit ≡ 4102
+pub limit-is : limit ≡ 15622
 unfolding limit longest
 limit-is = refl
-
-too-long : (bytes : List ℕ) → longest < length bytes → parse bytes ≡ bad Length 0
-unfolding wrongLength
-too-long bytes h = parse-wrong-length bytes (or-r (ltb (length bytes) 3) _ (or-l _ _ (lt-ltb _ _ h)))
 
 same-text : (a b : List ℕ) → parse a ≡ parse b → textOf a ≡ textOf b
 unfolding textOf cutSheet readSheet
@@ -37,5 +32,5 @@ text-of-first bytes =
     by-cases (ltb longest (length bytes))
     (λ t. let long : longest < length bytes = ltb-true _ _ t in
     let shown = length-take-le limit bytes (omega arith) in
-    same-text (take limit bytes) bytes (too-long (take limit bytes) (omega arith) ∙ sym (too-long bytes long)))
+    same-text (take limit bytes) bytes (parse-too-long (take limit bytes) (omega arith) ∙ sym (parse-too-long bytes long)))
     (λ t. ap textOf (take-all limit bytes (let short = ltb-false longest (length bytes) t in omega arith)))

@@ -11,11 +11,11 @@ pub record Printed (size : ℕ) (text bytes : List ℕ) (n : ℕ) : Type 0 where
   pub ends : n ≡ length text
   pub holds : bytes ≡ text ++ replicate (size - length text) 0
 
--- The numbers that a text shows have as many digits at most as reading and reducing give them: a place is within the largest sheet, of 4,101 bytes;
+-- The numbers that a text shows have as many digits at most as reading and reducing give them: a place is within the largest sheet, of 15,621 bytes;
 -- there are at most 16 options, and so fewer steps; leaders and values are bytes.
 pub record Printable (c : CutTold) : Type 0 where
   pub number-lt : c .number < 100
-  pub place-le : c .place ≤ 4101
+  pub place-le : c .place ≤ 15621
   pub options-le : c .state .n ≤ 16
   pub steps-lt : c .steps < 16
   pub leaders-lt : (k : ℕ) → getD (c .state .leaders) k 0 < 256

@@ -25,7 +25,8 @@ textAs c =
     (cutText (c .state .n) (c .state .leaders) (c .state .domains) (c .steps) (c .verdict))
     (refusedText (c .number) (c .place))
 
--- "It reads standard input, reads the sheet, reduces it and prints. More than 4,101 bytes prints `REFUSED 1 AT 0`."
+-- "It reads standard input, reads the sheet, reduces it and prints." Document 02, L6: "The largest version 2 sheet has 15,621 bytes, which is the limit
+-- in number 1 and in the program": more bytes print `REFUSED 1 AT 0`.
 unfoldable pub textOf : List ℕ → List ℕ
 textOf bytes = textAs (cutSheet bytes)
 

@@ -7,7 +7,7 @@ use crate::text::Text;
 use crate::text::report;
 
 // One byte more than the largest sheet has: what an input has past these is not read.
-pub const INPUT: usize = 4102;
+pub const INPUT: usize = 15622;
 
 pub type Input = [u8; INPUT];
 

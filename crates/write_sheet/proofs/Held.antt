@@ -6,13 +6,14 @@ use Prim.Native.Nat.{ℕ, zero, suc, _+_, _-_, _*_, _/_, _%_, _^_, _≤_, _<_}
 use native.Mathlib.Nat.{add-zero, zero-add, mul-one, mul-zero, mul-le-mul}
 use native.Mathlib.Numerals.{add-one}
 use native.Mathlib.Omega.{arith}
-use lib.Dec.{eqb}
+use lib.Dec.{eqb, ltb}
 use lib.Pow.{shr-shr}
 use lib.ListN.{length, getD, length-append}
+use borrow.Author.Tests.{ltb-true, ltb-false}
 use Rattle.bounded.specs.Bool.{bit, if}
 use Rattle.bounded.specs.Fold.{sum, count}
 use Rattle.bounded.specs.Table.{tabulate}
-use Rattle.bounded.proofs.Bool.{by-cases, not-true→false, bit-true, bit-false}
+use Rattle.bounded.proofs.Bool.{by-cases, clash, not-true→false, bit-true, bit-false}
 use Rattle.bounded.proofs.Fold.{sum-cong, sum-mul, count-cong, count-le, count-widen}
 use Rattle.bounded.proofs.Table.{length-tabulate}
 use Rattle.words.specs.Word.{width, has, word}
@@ -25,13 +26,15 @@ use Rattle.pairs.specs.Pairs.{variables, allowsOf}
 use Rattle.head.specs.declared.Head.{Head}
 use Rattle.head.specs.Held.{HeadShaped, held, soundIn}
 use Rattle.head.proofs.Held.{held-sound, held-n, held-size}
-use Rattle.format.specs.Layout.{Layout, longest, version1}
-use Rattle.format.specs.Print.{bytesOf, printAll, printTable, printBody, print}
+use Rattle.format.specs.Layout.{Layout, longest, found, layoutOf}
+use Rattle.format.specs.Print.{bytesOf, printAll, printTable, printBody, print, printIn}
 use Rattle.format.specs.WellFormed.{WellFormed}
-use Rattle.format.proofs.Layouts.{version1-usable}
-use Rattle.format.proofs.Lengths.{length-rows, few-tables, largest-sheet}
-use Rattle.format.proofs.SheetOf.{sheetOf-wellformed, version1-takes}
-use Rattle.write_sheet.specs.Writing.{bytesHeld}
+use Rattle.format.specs.Writable.{fitsVersion}
+use Rattle.format.specs.Builds.{widthIn}
+use Rattle.format.proofs.Layouts.{found-version, other-unknown}
+use Rattle.format.proofs.Lengths.{length-rows, few-tables}
+use Rattle.format.proofs.Writable.{unknown-unfit, written-wellformed, written-most}
+use Rattle.write_sheet.specs.Writing.{bytesHeld, LengthIs}
 use Rattle.write_sheet.specs.Texts.{joined, sizesText, rowOf, rowsText, tableText, laterText, tablesText, bodyText, sheetText}
 use Rattle.write_sheet.specs.Texts.{later, tableCount, tablesLength, sheetLength}
 use Rattle.write_sheet.proofs.Texts.{collect-none, collect-snoc, table-stated, table-unstated}
@@ -233,11 +236,10 @@ module _ (k : ℕ) (row : ℕ → ℕ → ℕ → ℕ) where
         omega (arith, sheet-parts k row n sizes stated version, body-parts k row n sizes stated, length-sizes n sizes, tables)
 
 -- The bytes of a network that a head and rows hold are as many as the sizes and the stated pairs say, whatever the rows are.
-pub length-held : (h : Head) (rows : List ℕ) → h .n ≤ variables → ((i j : ℕ) → has (getD (h .stated) i 0) j ≡ true → j < h .n)
-    → length (bytesHeld h rows) ≡ sheetLength 2 (h .n) (h .sizes) (h .stated)
-unfolding bytesHeld version1
-length-held h rows few below =
-    ap length (held-text h rows few below version1) ∙ length-sheet 2 (heldRow h rows) (h .n) (h .sizes) (h .stated) few below 1
+pub length-held : (L : Layout) (h : Head) (rows : List ℕ) → h .n ≤ variables → ((i j : ℕ) → has (getD (h .stated) i 0) j ≡ true → j < h .n)
+    → length (print L (sheetOf (held h rows))) ≡ sheetLength (L .rowBytes) (h .n) (h .sizes) (h .stated)
+length-held L h rows few below =
+    ap length (held-text h rows few below L) ∙ length-sheet (L .rowBytes) (heldRow h rows) (h .n) (h .sizes) (h .stated) few below (L .version)
 
 -- ---- a sound state
 
@@ -254,29 +256,53 @@ module _ (h : Head) (rows : List ℕ) (shaped : HeadShaped h) (t : soundIn h row
   unfolding held
   stated-below i j u = held-sound h rows shaped t .stated-in i j u .1
 
-  sound-wellformed : WellFormed version1 (sheetOf (held h rows))
-  unfolding held
-  sound-wellformed =
-      sheetOf-wellformed version1 version1-usable (held h rows) (held-sound h rows shaped t) (held-n h rows t)
-      (version1-takes (held h rows) (held-size h rows shaped t))
+  -- in a version that it fits
+  module _ (version : ℕ) (fits : fitsVersion (layoutOf version) (held h rows) ≡ true) where
+    sound-layout : (L : Layout) × (layoutOf version ≡ found L) × WellFormed L (sheetOf (held h rows))
+    unfolding held
+    sound-layout = written-wellformed (held h rows) (held-sound h rows shaped t) version fits (held-n h rows t)
 
-  -- "The largest sheet has 4,101 bytes",
-  pub sound-most : length (bytesHeld h rows) ≤ 4101
-  unfolding bytesHeld longest
-  sound-most = largest-sheet version1 (sheetOf (held h rows)) sound-wellformed version1-usable
+    -- A version that there is is a byte.
+    pub version-byte : version < 256
+    version-byte =
+        by-cases (ltb version 256)
+        (λ l. ltb-true _ _ l)
+        (λ l. let m : 256 ≤ version = ltb-false version 256 l in
+        clash (rw (other-unknown version (λ e. omega arith) (λ e. omega arith)) at fits) (unknown-unfit (held h rows)))
 
-  -- with 120 tables.
-  pub sound-count : tableCount (h .n) (h .stated) ≤ 120
-  sound-count =
-      rw (held-count h rows (held-n h rows t) stated-below)
-      at (few-tables _ _ (sound-wellformed .most-variables) (sound-wellformed .table-count))
+    pub bytes-printed : (L : Layout) × (layoutOf version ≡ found L) × (bytesHeld version h rows ≡ print L (sheetOf (held h rows)))
+    unfolding bytesHeld printIn
+    bytes-printed = let (L, e, _) = sound-layout in (L, e, rw e)
 
-  -- What the code writes is the sheet of the network.
-  pub sound-text : bytesHeld h rows ≡ sheetText 2 (rowOf rows) 1 (h .n) (h .sizes) (h .stated)
-  unfolding bytesHeld version1
-  sound-text =
-      held-text h rows (held-n h rows t) stated-below version1
-      ∙ ap (λ (row : ℕ → ℕ → ℕ → ℕ). sheetText 2 row 1 (h .n) (h .sizes) (h .stated)) row-same
+    -- What `sheet_length` counts, with the bytes of a row in this version, is how many bytes it has.
+    pub length-told : (k total : ℕ) → k ≡ widthIn (layoutOf version) → LengthIs k (h .n) (h .sizes) (h .stated) total
+        → total ≡ length (bytesHeld version h rows)
+    unfolding widthIn
+    length-told k total e l =
+        let (L, f, p) = bytes-printed in
+        l L h rows (sym (e ∙ ap widthIn f)) refl refl refl ∙ sym (ap length p)
+
+    -- No sheet is longer than the limit, so that two bytes have room for the count,
+    pub sound-most : length (bytesHeld version h rows) ≤ 15621
+    unfolding bytesHeld longest held
+    sound-most = written-most (held h rows) (held-sound h rows shaped t) version fits (held-n h rows t)
+
+    -- and none has more than 120 tables.
+    pub sound-count : tableCount (h .n) (h .stated) ≤ 120
+    sound-count =
+        let (_, _, W) = sound-layout in
+        rw (held-count h rows (held-n h rows t) stated-below) at (few-tables _ _ (W .most-variables) (W .table-count))
+
+    -- What the code writes is the sheet of the network.
+    pub sound-text : (k : ℕ) → k ≡ widthIn (layoutOf version)
+        → bytesHeld version h rows ≡ sheetText k (rowOf rows) version (h .n) (h .sizes) (h .stated)
+    unfolding widthIn
+    sound-text k same =
+        let (L, e, p) = bytes-printed in
+        p ∙ held-text h rows (held-n h rows t) stated-below L
+        ∙ ap (λ (row : ℕ → ℕ → ℕ → ℕ). sheetText (L .rowBytes) row (L .version) (h .n) (h .sizes) (h .stated)) row-same
+        ∙ ap (λ (v : ℕ). sheetText (L .rowBytes) (rowOf rows) v (h .n) (h .sizes) (h .stated)) (sym (found-version version L e))
+        ∙ ap (λ (b : ℕ). sheetText b (rowOf rows) version (h .n) (h .sizes) (h .stated)) (sym (same ∙ ap widthIn e))
 
 -- ---- the members above i, by a shift
 

@@ -98,3 +98,12 @@ module _ (k : ℕ) (row : ℕ → ℕ → ℕ → ℕ) (size stated i j : ℕ) w
       → Wrote a b (p ∷ []) at second → Wrote b c (q ∷ []) second third → Wrote c d (rowsText k row size i j) third r
       → Wrote a d (tableText k row size stated i j) at r
   wrote-table h e f x y z = rw (table-stated h, ← e, ← f) (wrote-then x (wrote-then y z))
+
+-- ---- rows, with the bytes of a row as another expression says them
+
+module _ {k l : ℕ} (e : k ≡ l) (row : ℕ → ℕ → ℕ → ℕ) (size i j : ℕ) where
+  pub same-length : length (rowsText k row size i j) ≡ length (rowsText l row size i j)
+  same-length = rw e
+
+  pub wrote-same : {a b : List ℕ} {at r : ℕ} → Wrote a b (rowsText l row size i j) at r → Wrote a b (rowsText k row size i j) at r
+  wrote-same w = rw e w

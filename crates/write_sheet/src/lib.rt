@@ -1,5 +1,9 @@
 // Writing a sheet's bytes from arrays.
+mod layout;
 mod writing;
 
+pub use layout::Fixed;
+pub use layout::fits_version;
+pub use layout::fixed_by;
 pub use writing::sheet_length;
 pub use writing::write_into;

@@ -7,19 +7,17 @@ ghost use lib.ListN.{length, getD, drop};
 ghost use Rattle.buffers.specs.Wrote.{Wrote};
 ghost use Rattle.words.specs.Word.{width, has};
 ghost use Rattle.pairs.specs.Pairs.{variables};
-ghost use Rattle.head.specs.Held.{soundIn};
+ghost use Rattle.head.specs.Held.{held, soundIn};
+ghost use Rattle.format.specs.Layout.{layoutOf};
 ghost use Rattle.format.specs.Print.{bytesOf};
+ghost use Rattle.format.specs.Writable.{fitsVersion};
 ghost use Rattle.write_sheet.specs.Writing.{bytesHeld, LengthIs};
 ghost use Rattle.write_sheet.specs.Texts.{sizesText, rowOf, rowsText, tableText, laterText, tablesText, later, tableCount};
+use crate::layout::fixed_by;
 use buffers::put_byte;
 use head::Head;
 use pairs::Rows;
 use pairs::VARIABLES;
-
-// What version 1 of the format fixes: its number, and the bytes of a row.
-const VERSION: u8 = 1;
-
-const ROW_BYTES: usize = 2;
 
 // The byte of `number` of weight 256 to the `k`.
 fn byte_of(number: u32, k: usize) -> u8
@@ -54,7 +52,7 @@ fn write_sizes(n: usize, sizes: &[u8; VARIABLES], buffer: &mut [u8], at: usize) 
 }
 
 // The rows of the table of `i` and the later `j`, one for each of the `size` values of `i`, in `bytes` bytes each.
-fn write_rows(
+fn put_rows(
     bytes: usize,
     size: usize,
     i: usize,
@@ -72,6 +70,29 @@ fn write_rows(
         next = put_number(buffer, next, pairs::row(rows, i, j, a), bytes);
     }
     next
+}
+
+// The same. Where the bytes of a row are a constant, as the two and the four of today's versions are here, the compiler writes several rows at once.
+fn write_rows(
+    bytes: usize,
+    size: usize,
+    i: usize,
+    j: usize,
+    rows: &Rows,
+    buffer: &mut [u8],
+    at: usize,
+) -> usize
+    requires { ⌜ (bytes ≤ 4) × (size ≤ width) × (i < j) × (j < variables) ⌝ }
+    requires { ⌜ at + length (rowsText bytes (rowOf (now rows)) size i j) ≤ length (now buffer) ⌝ }
+    ensures { λ r. ⌜ Wrote (now (buffer .entry)) (now (buffer .exit)) (rowsText bytes (rowOf (now (rows .entry))) size i j) at r ⌝ }
+{
+    if bytes == 2 {
+        return put_rows(2, size, i, j, rows, buffer, at);
+    }
+    if bytes == 4 {
+        return put_rows(4, size, i, j, rows, buffer, at);
+    }
+    put_rows(bytes, size, i, j, rows, buffer, at)
 }
 
 // The table of `i` and the later `j`, where they are stated together: the pair, counted from 1, and the rows.
@@ -170,16 +191,21 @@ fn tables_length(bytes: usize, size: u8, tables: usize) -> usize
     (2 + bytes * size as usize) * tables
 }
 
-// How many bytes the sheet has: 5, a size each, and for each table its pair and its rows. No variable is stated with one at `n` or above.
-pub fn sheet_length<'a>(n: usize, sizes: &'a [u8; VARIABLES], stated: &'a [u32; VARIABLES]) -> usize
-    requires { ⌜ (n ≤ variables) × ((i j : ℕ) → has (getD (now stated) i 0) j ≡ true → j < n) ⌝ }
-    ensures { λ r. ⌜ LengthIs n (now (sizes .entry)) (now (stated .entry)) r ⌝ }
+// How many bytes the sheet has with `bytes` to a row: 5, a size each, and for each table its pair and its rows. No variable is stated with one at `n` or above.
+pub fn sheet_length<'a>(
+    bytes: usize,
+    n: usize,
+    sizes: &'a [u8; VARIABLES],
+    stated: &'a [u32; VARIABLES],
+) -> usize
+    requires { ⌜ (bytes ≤ 4) × (n ≤ variables) × ((i j : ℕ) → has (getD (now stated) i 0) j ≡ true → j < n) ⌝ }
+    ensures { λ r. ⌜ LengthIs bytes n (now (sizes .entry)) (now (stated .entry)) r ⌝ }
 {
-    let mut bytes = 5 + n;
+    let mut total = 5 + n;
     for i in 0..n {
-        bytes += tables_length(ROW_BYTES, sizes[i], later(stated[i], i));
+        total += tables_length(bytes, sizes[i], later(stated[i], i));
     }
-    bytes
+    total
 }
 
 // The version, the count of the bytes that follow it, and the number of variables.
@@ -192,22 +218,23 @@ fn write_header(version: u8, n: u8, follow: u32, buffer: &mut [u8]) -> usize
     put_byte(buffer, variables, n)
 }
 
-// The sheet of the network that a head and rows hold, at the start of the buffer; how many bytes it has.
-pub fn write_into(head: Head, rows: &Rows, buffer: &mut [u8]) -> usize
-    requires { ⌜ soundIn head (now rows) ≡ true ⌝ }
-    requires { ⌜ length (bytesHeld head (now rows)) ≤ length (now buffer) ⌝ }
-    ensures { λ r. ⌜ r ≡ length (bytesHeld head (now (rows .entry))) ⌝ }
-    ensures { λ r. ⌜ now (buffer .exit) ≡ bytesHeld head (now (rows .entry))
-        ++ drop (length (bytesHeld head (now (rows .entry)))) (now (buffer .entry)) ⌝ }
+// The sheet of the network that a head and rows hold, in a version that it fits, at the start of the buffer; how many bytes it has.
+pub fn write_into(head: Head, rows: &Rows, version: usize, buffer: &mut [u8]) -> usize
+    requires { ⌜ (soundIn head (now rows) ≡ true) × (fitsVersion (layoutOf version) (held head (now rows)) ≡ true) ⌝ }
+    requires { ⌜ length (bytesHeld version head (now rows)) ≤ length (now buffer) ⌝ }
+    ensures { λ r. ⌜ r ≡ length (bytesHeld version head (now (rows .entry))) ⌝ }
+    ensures { λ r. ⌜ now (buffer .exit) ≡ bytesHeld version head (now (rows .entry))
+        ++ drop (length (bytesHeld version head (now (rows .entry)))) (now (buffer .entry)) ⌝ }
 {
     let n = head.n;
-    let bytes = sheet_length(n, &head.sizes, &head.stated);
-    let first_size = write_header(VERSION, n as u8, (bytes - 3) as u32, buffer);
+    let bytes = fixed_by(version).bytes;
+    let total = sheet_length(bytes, n, &head.sizes, &head.stated);
+    let first_size = write_header(version as u8, n as u8, (total - 3) as u32, buffer);
     let past_sizes = write_sizes(n, &head.sizes, buffer, first_size);
     let tables = table_count(n, &head.stated) as u8;
     let first_table = put_byte(buffer, past_sizes, tables);
     write_tables(
-        ROW_BYTES,
+        bytes,
         n,
         &head.sizes,
         &head.stated,

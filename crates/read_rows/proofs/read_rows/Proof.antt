@@ -7,10 +7,10 @@ use Rattle.read_rows.proofs.read_rows.Statement.{statement}
 use Rattle.read_rows.proofs.read_rows.Tie as tie
 
 mul-end : tie.Need-mul-end
-mul-end c = omega (arith, rows-few (c .before .pre .1) (c .before .pre .4))
+mul-end c = omega (arith, rows-few (c .before .pre .1 .1) (c .before .pre .4))
 
 add-end : tie.Need-add-end
-add-end c = omega (arith, rows-few (c .before .pre .1) (c .before .pre .4))
+add-end c = omega (arith, rows-few (c .before .pre .1 .1) (c .before .pre .4))
 
 returns : tie.Need-returns
 returns c = rows-cut (c .walk-rows .ensures) (c .before .if1 .taken)

@@ -6,73 +6,111 @@ use native.Mathlib.Omega.{arith}
 use lib.ListN.{length}
 use borrow.Author.Needs.{needs}
 use borrow.Author.Tests.{not-true, not-false}
+use Rattle.network.specs.Network.{Network}
 use Rattle.network.specs.Sheet.{fresh}
 use Rattle.head.specs.Held.{held, soundIn}
 use Rattle.head.proofs.Held.{HeadShaped, shape, held-n, held-size}
+use Rattle.format.specs.Layout.{layoutOf}
+use Rattle.format.specs.Writable.{fitsVersion}
 use Rattle.write_sheet.specs.Writing.{bytesHeld}
+use Rattle.write_sheet.proofs.Held.{stated-below, length-told}
 use Rattle.state.specs.Write.{sheetBytes}
-use Rattle.state_read.proofs.RoundTrip.{write-unsound, write-not-fresh, write-no-room}
-use Rattle.state_write.proofs.Written.{fresh-told, stated-below, refused-told, written-told}
+use Rattle.state_read.proofs.RoundTrip.{write-unsound, write-not-fresh, write-not-in-version, write-no-room}
+use Rattle.state_write.proofs.Written.{fresh-told, refused-told, written-told}
 use Rattle.state_write.proofs.write_parts.Statement.{statement}
 use Rattle.state_write.proofs.write_parts.Tie as tie
 
 shaped : (c : tie.Start) → HeadShaped (c .args .t1)
 shaped c = search shape
 
--- Past the first test the state is sound, past the second it is fresh, past the third the sheet fits.
 abbrev start : tie.Else1 → tie.Start
 start c = c .before .before .before
-
-abbrev first : tie.Else2 → tie.Else1
-first c = c .before .before
-
-abbrev second : tie.Else3 → tie.Else2
-second c = c .before .before .before .before .before
 
 is-sound : (c : tie.Else1) → soundIn (start c .args .t1) (start c .args .rows .now) ≡ true
 is-sound c = sym (c .before .sound-parts .ensures) ∙ not-false _ (c .if1 .left)
 
-is-fresh : (c : tie.Else2) → fresh (held (start (first c) .args .t1) (start (first c) .args .rows .now)) ≡ true
-is-fresh c = fresh-told _ (shaped (start (first c))) (is-sound (first c)) ∙ sym (c .before .fresh-parts .ensures) ∙ not-false _ (c .if2 .left)
+-- What is measured of a sound state: whether it is fresh, whether it fits the version, and, where it does, how many bytes its sheet has.
+abbrev fixed : tie.After-sheet-length → tie.After-fixed-by
+fixed c = c .before .before .before .before
 
-fits : (c : tie.Else3) → let a = start (first (second c)) .args in length (bytesHeld (a .t1) (a .rows .now)) ≤ length (a .buffer .now)
-fits c =
-    let a = start (first (second c)) .args in
-    omega (arith, c .if3 .left, c .before .sheet-length .ensures (a .t1) (a .rows .now) refl refl refl)
+abbrev tested : tie.After-sheet-length → tie.After-fits-version
+tested c = fixed c .before
+
+abbrev past : tie.After-sheet-length → tie.After-fresh-parts
+past c = tested c .before .before .before
+
+abbrev sound : tie.After-sheet-length → tie.Else1
+sound c = past c .before
+
+abbrev told : tie.After-sheet-length → Network
+told c = let a = start (sound c) .args in held (a .t1) (a .rows .now)
+
+fresh-measured : (c : tie.After-sheet-length) → fresh (told c) ≡ past c .fresh-parts .result
+fresh-measured c = let e = sound c in fresh-told _ (shaped (start e)) (is-sound e) ∙ sym (past c .fresh-parts .ensures)
+
+fits-measured : (c : tie.After-sheet-length) → fitsVersion (layoutOf (start (sound c) .args .version)) (told c) ≡ tested c .fits-version .result
+fits-measured c = let a = start (sound c) .args in sym (tested c .fits-version .ensures (a .t1) (a .rows .now) refl refl)
+
+length-measured : (c : tie.After-sheet-length) → fitsVersion (layoutOf (start (sound c) .args .version)) (told c) ≡ true
+    → let a = start (sound c) .args in c .sheet-length .result ≡ length (bytesHeld (a .version) (a .t1) (a .rows .now))
+length-measured c v =
+    let e = sound c in
+    length-told _ _ (shaped (start e)) (is-sound e) _ v _ _ (fixed c .fixed-by .ensures .bytes-are) (c .sheet-length .ensures)
+
+-- Past the second test it is fresh, past the third it fits, and past the fourth there is room.
+is-fresh : (c : tie.Else2) → fresh (told (c .before)) ≡ true
+is-fresh c = fresh-measured (c .before) ∙ not-false _ (c .if2 .left)
+
+fits : (c : tie.Else3) → let m = c .before .before in fitsVersion (layoutOf (start (sound m) .args .version)) (told m) ≡ true
+fits c = fits-measured (c .before .before) ∙ not-false _ (c .if3 .left)
+
+room : (c : tie.Else4)
+    → let a = start (sound (c .before .before .before)) .args in length (bytesHeld (a .version) (a .t1) (a .rows .now)) ≤ length (a .buffer .now)
+room c = omega (arith, c .if4 .left, length-measured (c .before .before .before) (fits (c .before)))
 
 returns : tie.Need-returns
-returns c = refused-told _ _ _ (write-unsound _ _ (sym (c .before .sound-parts .ensures) ∙ not-true _ (c .if1 .taken)))
+returns c = refused-told _ _ _ _ (write-unsound _ _ _ (sym (c .before .sound-parts .ensures) ∙ not-true _ (c .if1 .taken)))
 
 fresh-parts-requires : tie.Need-fresh-parts-requires
 fresh-parts-requires c κs = (held-n _ _ (is-sound c), λ i. omega (arith, held-size _ _ (shaped (start c)) (is-sound c) i))
 
-returns-2 : tie.Need-returns-2
-returns-2 c =
-    let e = c .before .before in
-    refused-told _ _ _ (write-not-fresh _ _ (is-sound e)
-    (fresh-told _ (shaped (start e)) (is-sound e) ∙ sym (c .before .fresh-parts .ensures) ∙ not-true _ (c .if2 .taken)))
+fits-version-requires : tie.Need-fits-version-requires
+fits-version-requires c κs = held-n _ _ (is-sound (c .before .before .before))
 
 sheet-length-requires : tie.Need-sheet-length-requires
 sheet-length-requires c κs =
-    let e = first (c .before .before .before) in
-    (held-n _ _ (is-sound e), stated-below _ (shaped (start e)) (is-sound e))
+    let f = c .before .before .before in
+    let e = f .before .before .before .before .before in
+    (f .fixed-by .ensures .bytes-most, held-n _ _ (is-sound e), stated-below _ _ (shaped (start e)) (is-sound e))
+
+returns-2 : tie.Need-returns-2
+returns-2 c =
+    let m = c .before in refused-told _ _ _ _ (write-not-fresh _ _ _ (is-sound (sound m)) (fresh-measured m ∙ not-true _ (c .if2 .taken)))
 
 returns-3 : tie.Need-returns-3
-unfolding bytesHeld sheetBytes
 returns-3 c =
-    let e = c .before .before .before .before .before in
-    let a = start (first e) .args in
-    refused-told _ _ _ (write-no-room _ _ (is-sound (first e)) (is-fresh e)
-    (omega (arith, c .if3 .taken, c .before .sheet-length .ensures (a .t1) (a .rows .now) refl refl refl)))
-
-write-into-requires : tie.Need-write-into-requires
-write-into-requires c κs = (is-sound (first (second (c .before))), fits (c .before))
+    let m = c .before .before in
+    refused-told _ _ _ _ (write-not-in-version _ _ _ (is-sound (sound m)) (is-fresh (c .before)) (fits-measured m ∙ not-true _ (c .if3 .taken)))
 
 returns-4 : tie.Need-returns-4
+unfolding bytesHeld sheetBytes
 returns-4 c =
+    let t = c .before in
+    let m = t .before .before in
+    refused-told _ _ _ _ (write-no-room _ _ _ (is-sound (sound m)) (is-fresh (t .before)) (fits t)
+    (omega (arith, c .if4 .taken, length-measured m (fits t))))
+
+write-into-requires : tie.Need-write-into-requires
+write-into-requires c κs =
+    let t = c .before .before in ((is-sound (sound (t .before .before)), fits t), room (c .before))
+
+returns-5 : tie.Need-returns-5
+returns-5 c =
     let w = c .before .before in
-    let f = w .before .before in
-    written-told _ _ _ _ (is-sound (first (second f))) (is-fresh (second f)) (fits f) (w .write-into .ensures .0) (w .write-into .ensures .1)
+    let r = w .before .before in
+    let t = r .before in
+    written-told _ _ _ _ _ (is-sound (sound (t .before .before))) (is-fresh (t .before)) (fits t) (room r) (w .write-into .ensures .0)
+    (w .write-into .ensures .1)
 
 pub write-parts-spec : {M : Type 1} → statement M
 write-parts-spec =
@@ -81,9 +119,12 @@ write-parts-spec =
     (λ c κs. search needs)
     returns
     fresh-parts-requires
-    returns-2
+    fits-version-requires
+    (λ c κs. search needs)
     sheet-length-requires
+    returns-2
     returns-3
+    returns-4
     write-into-requires
     (λ c. search needs)
-    returns-4)
+    returns-5)

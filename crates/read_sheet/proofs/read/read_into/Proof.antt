@@ -1,8 +1,10 @@
--- The length first, then the version, then the body.
+-- The length first, then the version, then the body in the layout of the version.
 use mathlib.Core.Bool.{false}
-use mathlib.Core.Path.{_≡_, sym, _∙_}
+use mathlib.Core.Path.{_≡_, refl, sym, _∙_}
 use denote.Ref.{now}
+use Rattle.format.specs.Layout.{version1, version2}
 use Rattle.format.specs.Parse.{wrongLength}
+use Rattle.format.proofs.Layouts.{version1-found, version2-found}
 use Rattle.read_sheet.proofs.Reading.{into-wrong-length, some-byte, into-wrong-version, into-body}
 use borrow.Author.Needs.{needs}
 use Rattle.read_sheet.proofs.read.read_into.Statement.{statement}
@@ -15,18 +17,33 @@ right-length c = sym (c .before .wrong-length .ensures) ∙ c .if1 .left
 returns : tie.Need-returns
 returns c = into-wrong-length _ (sym (c .before .wrong-length .ensures) ∙ c .if1 .taken)
 
-shared-slice-read-if2 : tie.Need-shared-slice-read-if2
-shared-slice-read-if2 c = some-byte _ (right-length (c .before))
+shared-slice-read-version : tie.Need-shared-slice-read-version
+shared-slice-read-version c = some-byte _ (right-length (c .before))
 
 returns-2 : tie.Need-returns-2
-returns-2 c = into-wrong-version _ (right-length (c .before .before)) (c .if2 .taken)
+unfolding version1
+returns-2 c =
+    let version = c .before .before .before .before in
+    into-body _ (right-length (version .before .before)) version1 (version1-found _ (version .if2 .taken)) refl (c .read-body .ensures)
 
 returns-3 : tie.Need-returns-3
+unfolding version2
 returns-3 c =
     let version = c .before .before .before .before in
-    into-body _ (right-length (version .before .before)) (version .if2 .left) (c .read-body .ensures)
+    into-body _ (right-length (version .before .before .before)) version2 (version2-found _ (version .if3 .taken)) refl (c .read-body2 .ensures)
+
+returns-4 : tie.Need-returns-4
+returns-4 c = into-wrong-version _ (right-length (c .before .before .before)) (c .before .if2 .left) (c .if3 .left)
 
 pub read-into-spec : {M : Type 1} → statement M
 read-into-spec =
     tie.close
-    (tie.spec (λ c κs. search needs) returns shared-slice-read-if2 returns-2 (λ c κs. search needs) returns-3)
+    (tie.spec
+    (λ c κs. search needs)
+    returns
+    shared-slice-read-version
+    (λ c κs. search needs)
+    returns-2
+    (λ c κs. search needs)
+    returns-3
+    returns-4)

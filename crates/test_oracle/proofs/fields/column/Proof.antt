@@ -8,7 +8,7 @@ abbrev Inv-loop : tie.InvT-loop
 Inv-loop rows i j b word₀ a₀ word a = Unit
 
 abbrev μ-loop : tie.MeasureT-loop
-μ-loop rows i j b word₀ a₀ word a = 16 - a
+μ-loop rows i j b word₀ a₀ word a = 32 - a
 
 pub column-spec : {M : Type 1} → statement M
 column-spec =

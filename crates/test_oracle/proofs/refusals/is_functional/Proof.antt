@@ -8,7 +8,7 @@ abbrev Inv-loop : tie.InvT-loop
 Inv-loop domains rows i j a₀ a = Unit
 
 abbrev μ-loop : tie.MeasureT-loop
-μ-loop domains rows i j a₀ a = 16 - a
+μ-loop domains rows i j a₀ a = 32 - a
 
 pub is-functional-spec : {M : Type 1} → statement M
 is-functional-spec =

@@ -8,7 +8,7 @@ abbrev Inv-loop : tie.InvT-loop
 Inv-loop domains stated rows i j p q a row₀ c₀ row c = Unit
 
 abbrev μ-loop : tie.MeasureT-loop
-μ-loop domains stated rows i j p q a row₀ c₀ row c = 16 - c
+μ-loop domains stated rows i j p q a row₀ c₀ row c = 32 - c
 
 pub composed-row-spec : {M : Type 1} → statement M
 composed-row-spec =

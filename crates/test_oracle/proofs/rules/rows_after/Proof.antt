@@ -8,7 +8,7 @@ abbrev Inv-loop : tie.InvT-loop
 Inv-loop domains stated rows i j after₀ k₀ after k = Unit
 
 abbrev μ-loop : tie.MeasureT-loop
-μ-loop domains stated rows i j after₀ k₀ after k = 4096 - k
+μ-loop domains stated rows i j after₀ k₀ after k = 8192 - k
 
 pub rows-after-spec : {M : Type 1} → statement M
 rows-after-spec =

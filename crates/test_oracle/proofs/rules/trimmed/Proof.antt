@@ -8,7 +8,7 @@ abbrev Inv-loop : tie.InvT-loop
 Inv-loop domains rows i j list₀ a₀ list a = Unit
 
 abbrev μ-loop : tie.MeasureT-loop
-μ-loop domains rows i j list₀ a₀ list a = 16 - a
+μ-loop domains rows i j list₀ a₀ list a = 32 - a
 
 pub trimmed-spec : {M : Type 1} → statement M
 trimmed-spec =

@@ -8,7 +8,7 @@ abbrev Inv-loop : tie.InvT-loop
 Inv-loop seed₀ tally₀ kind₀ seed tally kind = Unit
 
 abbrev μ-loop : tie.MeasureT-loop
-μ-loop seed₀ tally₀ kind₀ seed tally kind = 11 - kind
+μ-loop seed₀ tally₀ kind₀ seed tally kind = 14 - kind
 
 pub run-spec : {M : Type 1} → statement M
 run-spec =

@@ -1,0 +1,32 @@
+-- Short sheets of each version, and what they are parsed to.
+use mathlib.Core.List.{List, [], _∷_}
+use Prim.Native.Nat.{ℕ}
+use Rattle.cause.specs.declared.Cause.the-variants.{Version, Size, Extent, RowRange}
+use Rattle.network.specs.Sheet.{Sheet}
+use Rattle.format.specs.Parse.{Parse, got, bad}
+
+-- Bytes, and what they are parsed to.
+pub record Example : Type 0 where
+  pub bytes : List ℕ
+  pub answer : Parse Sheet
+
+-- A sheet of two options with one table.
+unfoldable pub two : ℕ → ℕ → List ℕ → Sheet
+two first second rows = record { sizes = first ∷ second ∷ []; tables = record { first = 1; second = 2; rows = rows } ∷ [] }
+
+unfoldable pub examples : List Example
+examples =
+    -- 27 values, and bit 26 of a row; 32 values, and bit 31
+    record { bytes = 2 ∷ 0 ∷ 10 ∷ 2 ∷ 1 ∷ 27 ∷ 1 ∷ 1 ∷ 2 ∷ 4 ∷ 0 ∷ 0 ∷ 0 ∷ []; answer = got (two 1 27 (67108864 ∷ [])) 13 }
+    ∷ record { bytes = 2 ∷ 0 ∷ 10 ∷ 2 ∷ 1 ∷ 32 ∷ 1 ∷ 1 ∷ 2 ∷ 128 ∷ 0 ∷ 0 ∷ 0 ∷ []; answer = got (two 1 32 (2147483648 ∷ [])) 13 }
+    -- bit 27 of 27 values
+    ∷ record { bytes = 2 ∷ 0 ∷ 10 ∷ 2 ∷ 1 ∷ 27 ∷ 1 ∷ 1 ∷ 2 ∷ 8 ∷ 0 ∷ 0 ∷ 0 ∷ []; answer = bad RowRange 9 }
+    -- 33 values, and 27 in version 1
+    ∷ record { bytes = 2 ∷ 0 ∷ 10 ∷ 2 ∷ 1 ∷ 33 ∷ 1 ∷ 1 ∷ 2 ∷ 4 ∷ 0 ∷ 0 ∷ 0 ∷ []; answer = bad Size 5 }
+    ∷ record { bytes = 1 ∷ 0 ∷ 8 ∷ 2 ∷ 1 ∷ 27 ∷ 1 ∷ 1 ∷ 2 ∷ 4 ∷ 0 ∷ []; answer = bad Size 5 }
+    -- a row of three bytes
+    ∷ record { bytes = 2 ∷ 0 ∷ 9 ∷ 2 ∷ 1 ∷ 27 ∷ 1 ∷ 1 ∷ 2 ∷ 4 ∷ 0 ∷ 0 ∷ []; answer = bad Extent 9 }
+    -- no such version
+    ∷ record { bytes = 3 ∷ 0 ∷ 3 ∷ 1 ∷ 1 ∷ 0 ∷ []; answer = bad Version 0 }
+    ∷ record { bytes = 2 ∷ 0 ∷ 3 ∷ 1 ∷ 32 ∷ 0 ∷ []; answer = got (record { sizes = 32 ∷ []; tables = [] }) 6 }
+    ∷ []

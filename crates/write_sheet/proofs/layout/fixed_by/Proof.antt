@@ -1,0 +1,17 @@
+-- Each arm is a case of the look-up.
+use native.Mathlib.Omega.{arith}
+use Rattle.write_sheet.proofs.Version.{fixed-first, fixed-second, fixed-other}
+use Rattle.write_sheet.proofs.layout.fixed_by.Statement.{statement}
+use Rattle.write_sheet.proofs.layout.fixed_by.Tie as tie
+
+returns : tie.Need-returns
+returns c = fixed-first _ (omega arith)
+
+returns-2 : tie.Need-returns-2
+returns-2 c = fixed-second _ (omega arith)
+
+returns-3 : tie.Need-returns-3
+returns-3 c = fixed-other _ (λ e. omega arith) (λ e. omega arith)
+
+pub fixed-by-spec : {M : Type 1} → statement M
+fixed-by-spec = tie.close (tie.spec returns returns-2 returns-3)
