@@ -30,6 +30,9 @@ pub enum Cause {
     ValuesForbidden,
     BufferLength,
     NotFresh,
+    // A table to be added: of one variable, or rows that do not fit the two.
+    SameVariables,
+    TableRows,
     // The version to write is unknown, or a size is above its limit.
     NotInVersion,
 }
@@ -59,6 +62,8 @@ pub fn number(cause: Cause) -> u8
         Cause::ValuesForbidden => 16,
         Cause::BufferLength => 17,
         Cause::NotFresh => 18,
+        Cause::SameVariables => 21,
+        Cause::TableRows => 22,
         Cause::NotInVersion => 24,
     }
 }

@@ -63,7 +63,7 @@ pub fn values_kept<'a>(
 }
 
 // The free variables, as a word.
-fn free_variables(n: usize, leaders: &[u8; VARIABLES]) -> u32
+pub fn free_variables(n: usize, leaders: &[u8; VARIABLES]) -> u32
     requires { ⌜ n ≤ variables ⌝ }
     ensures { λ r. ⌜ r ≡ freeWord n (now (leaders .entry)) ⌝ }
 {

@@ -1,0 +1,5 @@
+pub mod Factors
+mod Narrowing
+mod Choosing
+mod Completing
+pub mod Settling

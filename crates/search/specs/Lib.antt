@@ -1,0 +1,4 @@
+-- The search over a head and lent rows.
+pub mod Choices
+pub mod Turns
+pub mod Found

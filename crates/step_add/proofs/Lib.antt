@@ -1,0 +1,5 @@
+pub mod Cut
+pub mod Judging
+pub mod Meaning
+pub mod Stored
+pub mod Added

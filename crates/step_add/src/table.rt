@@ -1,0 +1,96 @@
+// What a table for two variables makes of a head and rows. It is told through the leaders of the two.
+use crate::sides::Side;
+use crate::sides::reach;
+use crate::sides::side_of;
+use head::Head;
+use pairs::Rows;
+use words::WIDTH;
+use words::both;
+use words::either;
+use words::member;
+use words::single;
+ghost use mathlib.Core.Bool.{true};
+ghost use mathlib.Core.Path.{_≡_};
+ghost use Prim.Native.Nat.{suc, _<_};
+ghost use lib.ListN.{length};
+ghost use Rattle.words.specs.Word.{width, word};
+ghost use Rattle.network.specs.Added.{addRefusal};
+ghost use Rattle.pairs.specs.Frames.{Stored};
+ghost use Rattle.head.specs.Held.{RowsShaped, held, soundIn};
+ghost use Rattle.step_add.specs.Sides.{Placed, Apart, PartnersIn, keptAt, cutAt};
+ghost use Rattle.step_add.specs.Added.{AddedTo};
+
+// The leaders differ: the values of the second leader that go with value `a` of the first. A value outside its domain has none, and a pair that was stated
+// bars what it barred.
+fn cut_row(rows: &Rows, table: &[u32], first: Side, second: Side, was: bool, a: usize) -> u32
+    requires { ⌜ Placed first × Placed second × Apart first second × (a < width) × PartnersIn width (now rows) (now table) first ⌝ }
+    ensures { λ r. ⌜ r ≡ word width (cutAt width (now (rows .entry)) (now (table .entry)) first second was a) ⌝ }
+{
+    let p = first.leader;
+    let q = second.leader;
+    if !member(first.values, a) {
+        return 0;
+    }
+    let row = both(second.values, reach(rows, table, first, second, a));
+    if !was {
+        return row;
+    }
+    both(row, pairs::row(rows, p, q, a))
+}
+
+// The same for all values, each stored where it is, whichever leader is lower.
+fn cut_pair(rows: &mut Rows, table: &[u32], first: Side, second: Side, was: bool)
+    requires { ⌜ Placed first × Placed second × Apart first second × PartnersIn width (now rows) (now table) first × (length (now rows) ≡ 3840) ⌝ }
+    ensures { λ _. ⌜ Stored width (now (rows .entry)) (now (rows .exit)) (first .leader) (second .leader) (cutAt width (now (rows .entry)) (now (table .entry)) first second was) width ⌝ }
+{
+    let p = first.leader;
+    let q = second.leader;
+    for a in 0..WIDTH {
+        let row = cut_row(rows, table, first, second, was, a);
+        pairs::put(rows, p, q, a, row);
+    }
+}
+
+// One leader: its value `a` stays where the table allows its partners.
+fn keeps(rows: &Rows, table: &[u32], first: Side, second: Side, a: usize) -> bool
+    requires { ⌜ Placed first × Placed second × (a < width) × PartnersIn width (now rows) (now table) first ⌝ }
+    ensures { λ r. ⌜ r ≡ keptAt width (now (rows .entry)) (now (table .entry)) first second a ⌝ }
+{
+    if !member(first.values, a) {
+        return false;
+    }
+    member(reach(rows, table, first, second, a), a)
+}
+
+// The values that stay.
+fn kept(rows: &Rows, table: &[u32], first: Side, second: Side) -> u32
+    requires { ⌜ Placed first × Placed second × PartnersIn width (now rows) (now table) first ⌝ }
+    ensures { λ r. ⌜ r ≡ word width (keptAt width (now (rows .entry)) (now (table .entry)) first second) ⌝ }
+{
+    let mut members: u32 = 0;
+    for a in 0..WIDTH {
+        members |= (keeps(rows, table, first, second, a) as u32) << a;
+    }
+    members
+}
+
+// Adds the table of `x` and `y`, counted from 0. With one leader its list is trimmed; else the pair of the two is stated and cut, where its rows are.
+pub fn add(mut head: Head, rows: &mut Rows, x: usize, y: usize, table: &[u32]) -> Head
+    requires { ⌜ (soundIn head (now rows) ≡ true) × RowsShaped (now rows) × (addRefusal (held head (now rows)) (suc x) (suc y) (now table) ≡ 0) ⌝ }
+    ensures { λ r. ⌜ AddedTo head (now (rows .entry)) x y (now (table .entry)) r (now (rows .exit)) ⌝ }
+{
+    let first = side_of(head, x);
+    let second = side_of(head, y);
+    let p = first.leader;
+    let q = second.leader;
+    if p == q {
+        head.domains[p] = kept(rows, table, first, second);
+        return head;
+    }
+    let mut stated = head.stated;
+    cut_pair(rows, table, first, second, member(stated[p], q));
+    stated[p] = either(stated[p], single(q));
+    stated[q] = either(stated[q], single(p));
+    head.stated = stated;
+    head
+}
