@@ -5,7 +5,7 @@ use Prim.Native.Nat.{ℕ, zero, suc, _^_, _≤_, _<_}
 use native.Mathlib.Omega.{arith}
 use lib.Dec.{ltb}
 use lib.ListN.{length, getD, set, List·getD-eq-default}
-use mir.Syntax.{Width, w8, w16, w32}
+use mir.Syntax.{Width, w8, w32}
 use mir.Val.{Fits, bits}
 use borrow.Author.Tests.{ltb-true, ltb-false}
 use Rattle.bounded.specs.Array.{Array}
@@ -13,15 +13,12 @@ use Rattle.bounded.specs.Table.{tabulate}
 use Rattle.bounded.proofs.Bool.{by-cases}
 use Rattle.bounded.proofs.Table.{length-tabulate, getD-tabulate, getD-tabulate-past}
 
--- The elements of an array of `u8` or `u16` fit; `search (u8-array, u16-array, needs)` finds both facts of a parameter or a field.
+-- The elements of an array of `u8` or `u32` fit; `search (u8-array, u32-array, needs)` finds both facts of a parameter or a field.
 fits-array : (W : Width) (n : ℕ) (l : List ℕ) → length l ≡ n → ((k : ℕ) → Fits W (getD l k 0)) → Array n (2 ^ bits W) l
 fits-array W n l e f = record { array-length = e; element-lt = λ k. f k .fits }
 
 pub u8-array : (n : ℕ) (l : List ℕ) → length l ≡ n → ((k : ℕ) → Fits w8 (getD l k 0)) → Array n (2 ^ 8) l
 u8-array = fits-array w8
-
-pub u16-array : (n : ℕ) (l : List ℕ) → length l ≡ n → ((k : ℕ) → Fits w16 (getD l k 0)) → Array n (2 ^ 16) l
-u16-array = fits-array w16
 
 pub u32-array : (n : ℕ) (l : List ℕ) → length l ≡ n → ((k : ℕ) → Fits w32 (getD l k 0)) → Array n (2 ^ 32) l
 u32-array = fits-array w32

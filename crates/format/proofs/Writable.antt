@@ -14,10 +14,10 @@ use Rattle.network.specs.Sound.{Sound}
 use Rattle.network.specs.Sheet.{Sheet, networkOf, sheetOf}
 use Rattle.format.specs.Layout.{Layout, longest, largestSize, version2, found, unknown, layoutOf}
 use Rattle.format.specs.Parse.{Octets, got, parse}
-use Rattle.format.specs.Print.{print, printIn}
+use Rattle.format.specs.Print.{printIn}
 use Rattle.format.specs.WellFormed.{WellFormed}
 use Rattle.format.specs.Writable.{fitsVersion}
-use Rattle.format.proofs.Layouts.{version2-found, found-again, found-usable, found-plain, found-or-unknown}
+use Rattle.format.proofs.Layouts.{found-again, found-usable, found-plain, found-or-unknown}
 use Rattle.format.proofs.Lengths.{largest-sheet}
 use Rattle.format.proofs.RoundTrip.{parsed, parse-of-print}
 use Rattle.format.proofs.SheetOf.{Takes, plain-takes, sheetOf-wellformed, wellformed-sound, wellformed-n, wellformed-size, wellformed-takes, wellformed-sheetOf}
@@ -101,9 +101,3 @@ module _ (bytes : List ℕ) (octets : Octets bytes) (s : Sheet) (end : ℕ) (e :
   read-fits-version2 =
       let R = parsed bytes octets s end e in
       version2-fits (networkOf s) (wellformed-size (R .layout) (R .usable) s (R .body .well-formed))
-
-  pub in-version2 : parse (print version2 s) ≡ got s (length (print version2 s))
-  unfolding printIn
-  in-version2 =
-      let two = version2-found 2 refl in
-      rw two at (rewritten 2 (rw two read-fits-version2))

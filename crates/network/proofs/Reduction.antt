@@ -6,7 +6,7 @@ use native.Mathlib.Omega.{arith}
 use Rattle.bounded.specs.Bool.{and, not}
 use Rattle.bounded.specs.Fold.{count}
 use Rattle.bounded.proofs.Bool.{by-cases, clash, bool-ext, not-true→false, and-i, and-l, and-r, and-true, and-assoc, if-true, if-false}
-use Rattle.bounded.proofs.Fold.{some-i, some-e, first-some, first-passes, first-below, count-cong, count-le, count-split, count-without}
+use Rattle.bounded.proofs.Fold.{some-i, first-some, first-passes, first-below, count-cong, count-le, count-split, count-without}
 use Rattle.network.specs.Network.{Network, free, solves}
 use Rattle.network.specs.Sound.{Sound}
 use Rattle.network.specs.Step.{legal, eliminate}
@@ -104,10 +104,6 @@ run-most {N} {M} s r = omega (arith, run-count s r, some-free M (run-sound s r),
 pub leading-i : (N : Network) (i j : ℕ) → legal N i j ≡ true → leading N i ≡ true
 unfolding leading
 leading-i N i j l = some-i (N .n) (legal N i) j (legal-e N i j l .j-in) l
-
-pub leading-e : {A : Type 0} (N : Network) (i : ℕ) → leading N i ≡ true → ((j : ℕ) → legal N i j ≡ true → A) → A
-unfolding leading
-leading-e N i h f = some-e (N .n) (legal N i) h (λ j m l. f j l)
 
 pub legal-reducible : (N : Network) (i j : ℕ) → legal N i j ≡ true → reducible N ≡ true
 unfolding reducible

@@ -1,5 +1,5 @@
 -- Laws of what storing leaves behind, for any number w of values.
-use mathlib.Core.Bool.{Bool, true, false}
+use mathlib.Core.Bool.{Bool, false}
 use mathlib.Core.List.{List}
 use mathlib.Core.Logic.{_⊎_, ⊎-elim, inl, inr}
 use mathlib.Core.Path.{_≡_, refl, sym, ap, _∙_}
@@ -8,16 +8,16 @@ use native.Mathlib.Omega.{arith}
 use lib.Dec.{eqb, ltb}
 use lib.ListN.{length, getD, set, length-set}
 use lib.Seq.{getD-set-same, getD-set-other}
-use borrow.Author.Tests.{eqb-true, eqb-false, eq-eqb, ne-eqb, ltb-true, ltb-false}
+use borrow.Author.Tests.{eq-eqb, ne-eqb, ltb-true, ltb-false}
 use Rattle.bounded.specs.Bool.{if}
 use Rattle.bounded.proofs.Bool.{by-cases, if-true, if-false}
 use Rattle.bounded.proofs.Fold.{below-suc}
 use Rattle.bounded.proofs.Array.{set-lt}
 use Rattle.words.specs.Word.{has, word}
-use Rattle.words.proofs.Laws.{has-word, has-zero, word-lt}
+use Rattle.words.proofs.Laws.{has-word, word-lt}
 use Rattle.pairs.specs.Pairs.{slot, rowAt, allowsOf}
 use Rattle.pairs.specs.Frames.{Words, Other, RowPut, Stored, RunPut}
-use Rattle.pairs.proofs.Places.{Placed, placed, slot-inj, row-inj, row-lt, room}
+use Rattle.pairs.proofs.Places.{placed, slot-inj, row-inj, row-lt}
 use Rattle.pairs.proofs.Laws.{allows-up, allows-down, allows-alike, allows-same, allows-not}
 
 -- ---- runs

@@ -2,21 +2,20 @@
 use mathlib.Core.Bool.{Bool, true, false}
 use mathlib.Core.List.{List}
 use mathlib.Core.Path.{_≡_, refl, sym, ap, _∙_}
-use Prim.Native.Nat.{ℕ, suc, _+_, _*_, _/_, _%_, _^_, _≤_, _<_}
+use Prim.Native.Nat.{ℕ, _+_, _*_, _/_, _%_, _^_, _≤_, _<_}
 use native.Mathlib.Omega.{arith}
 use lib.Dec.{ltb}
 use lib.ListN.{length, getD}
 use borrow.Author.Tests.{ltb-true, ltb-false, lt-ltb, le-ltb}
-use Rattle.bounded.specs.Bool.{and, if}
 use Rattle.bounded.specs.Array.{Array}
-use Rattle.bounded.proofs.Bool.{by-cases, clash, bool-ext, and-l, and-r, and-i, and-fails, and-holds, and-cong, if-true, if-false, not-true→false}
+use Rattle.bounded.proofs.Bool.{by-cases, clash, bool-ext, and-l, and-r, and-i, and-holds, and-cong, if-true, if-false, not-true→false}
 use Rattle.bounded.proofs.Array.{table-array}
 use Rattle.bounded.proofs.Table.{getD-tabulate, is-table}
 use Rattle.words.specs.Word.{has, word}
-use Rattle.words.proofs.Laws.{has-word, word-lt, is-word, word-cong}
+use Rattle.words.proofs.Laws.{has-word, word-lt, is-word}
 use Rattle.pairs.specs.Pairs.{slot, rowAt, inside, allowsOf, upperOf, lowerOf, rowsOf}
 use Rattle.pairs.specs.Frames.{Words}
-use Rattle.pairs.proofs.Places.{Placed, placed, row-slot, row-value, row-lt, every-place}
+use Rattle.pairs.proofs.Places.{placed, row-slot, row-value, row-lt, every-place}
 
 -- ---- within the array
 
@@ -132,9 +131,6 @@ pub record Pairwise (w : ℕ) (p : ℕ → ℕ → ℕ → ℕ → Bool) : Type 
   pub no-self : (i a b : ℕ) → p i i a b ≡ false
   pub sides : (i j a b : ℕ) → p i j a b ≡ p j i b a
 
-pub pairwise : (w : ℕ) (rows : List ℕ) → Pairwise w (allowsOf w rows)
-pairwise w rows = record { within = allows-inside w rows; no-self = allows-self w rows; sides = allows-alike w rows }
-
 module _ (w : ℕ) (p : ℕ → ℕ → ℕ → ℕ → Bool) where
   -- The array of a rule allows what the rule allows,
   rule-up : (i j a b : ℕ) → i < j → j < 16 → a < w → b < w → allowsOf w (rowsOf w p) i j a b ≡ p i j a b
@@ -174,14 +170,6 @@ rows-allows w rows e f = sym (rows-rule w (allowsOf w rows) rows e f (λ i j a b
 pub rows-array : (w : ℕ) (p : ℕ → ℕ → ℕ → ℕ → Bool) → Array (120 * w) (2 ^ w) (rowsOf w p)
 unfolding rowsOf
 rows-array w p = table-array (120 * w) (2 ^ w) _ (omega (arith, word-lt w (p 0 0 0))) (λ k l. word-lt w _)
-
--- Two rules that agree on each pair, seen from its lower variable, have one array.
-pub rows-cong : (w : ℕ) (p q : ℕ → ℕ → ℕ → ℕ → Bool)
-    → ((i j a b : ℕ) → i < j → j < 16 → a < w → b < w → p i j a b ≡ q i j a b)
-    → rowsOf w p ≡ rowsOf w q
-rows-cong w p q h =
-    let t = rows-array w p in
-    rows-rule w q (rowsOf w p) (t .array-length) (t .element-lt) (λ i j a b l m k n. rule-up w p i j a b l m k n ∙ h i j a b l m k n)
 
 -- The rule of a row as a word: what `row` answers.
 pub has-row : (w : ℕ) (rows : List ℕ) (i j a b x : ℕ) → x ≡ word w (allowsOf w rows i j a) → b < w → has x b ≡ allowsOf w rows i j a b

@@ -7,18 +7,18 @@ use native.Mathlib.Nat.{mod-eq-of-lt, mul-le-mul-right, one-mul, zero-mul}
 use native.Mathlib.Numerals.{add-one}
 use native.Mathlib.Omega.{arith}
 use lib.Bits.{bitAnd, bitOr, or-shifted-r, and-le-l, and-mask}
-use lib.Dec.{eqb, leb, ltb}
+use lib.Dec.{eqb, leb}
 use lib.ListN.{getD}
 use lib.Pow.{pow-pos, pow-mono, pow-lt}
 use mir.Val.{boolByte}
-use borrow.Author.Tests.{eqb-true, eqb-false, eq-eqb, leb-true}
-use Rattle.bounded.specs.Bool.{and, or, implies, bit, if}
+use borrow.Author.Tests.{eqb-true, eqb-false, eq-eqb}
+use Rattle.bounded.specs.Bool.{and, or, bit, if}
 use Rattle.bounded.specs.Bool as b
-use Rattle.bounded.specs.Fold.{every, some, count, first}
+use Rattle.bounded.specs.Fold.{some, count, first}
 use Rattle.bounded.proofs.Bool.{by-cases, bit-le, bool-ext, and-l, and-r, and-i, and-comm, and-false, and-fails, true-and, and-true, or-l, or-r, or-elim, not-i, not-e, not-false-i, not-true→false, clash, implies-i, implies-e}
 use Rattle.bounded.proofs.Fold.{below-suc, every-i, every-e, some-i, some-e, some-cong, some-none, first-some, first-passes, count-without, count-cong}
 use Rattle.words.specs.Word.{has, word}
-use Rattle.words.proofs.Laws.{has-digit, has-one, empty, has-word, has-zero, nonempty, word-lt, word-suc, word-has, is-word, has-and, has-below, word-cong, ones-count}
+use Rattle.words.proofs.Laws.{has-digit, has-one, empty, has-word, has-zero, nonempty, word-lt, word-suc, is-word, has-and, has-below, word-cong}
 use Rattle.pairs.specs.Pairs.{slot, rowAt, allowsOf, partnersOf, partnersAt, partnersWithin, hitsAt, unionAt, joinOf}
 use Rattle.pairs.proofs.Laws.{allows-up, allows-down, has-row}
 
@@ -235,9 +235,6 @@ partners-count w rows i j dj a row x c re xe ce =
 
 -- The values that are no longer in the rest have been found within the bounds.
 module _ (w : ℕ) (rows : List ℕ) (i j di dj least most : ℕ) where
-  bounds : ℕ → Bool
-  bounds a = and (leb least (partnersAt w rows i j dj a)) (leb (partnersAt w rows i j dj a) most)
-
   pub record Passed (rest : ℕ) : Type 0 where
     pub rest-fits : rest < 2 ^ w
     pub rest-in : Within rest di

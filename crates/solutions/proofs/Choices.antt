@@ -1,10 +1,9 @@
 -- The tests and stores of the tester, the completer and the verdict: what each way through the code says of its definition, and what the
 -- definitions on arrays are of the network.
-use mathlib.Core.Bool.{Bool, true, false, _&&_, not as flip}
+use mathlib.Core.Bool.{Bool, true, false, not as flip}
 use mathlib.Core.List.{List}
 use mathlib.Core.Path.{_≡_, refl, sym, ap, _∙_}
 use Prim.Native.Nat.{ℕ, suc, pred, _+_, _^_, _≤_, _<_}
-use native.Mathlib.Numerals.{add-one}
 use native.Mathlib.Omega.{arith}
 use lib.Dec.{eqb, ltb}
 use lib.ListN.{getD, set, length-set, replicate, length-replicate, getD-replicate}

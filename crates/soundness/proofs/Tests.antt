@@ -1,15 +1,13 @@
 -- What each way through a test of soundness says of its definition, in the order of the code.
-use mathlib.Core.Bool.{Bool, true, false, _&&_}
+use mathlib.Core.Bool.{Bool, true, false}
 use mathlib.Core.List.{List}
 use mathlib.Core.Path.{_≡_, refl, sym, ap, _∙_}
 use Prim.Native.Nat.{ℕ, pred, _+_, _-_, _*_, _≤_, _<_}
-use native.Mathlib.Numerals.{add-one}
 use native.Mathlib.Omega.{arith}
-use lib.Dec.{eqb, leb, ltb}
+use lib.Dec.{eqb, leb}
 use lib.ListN.{getD}
 use borrow.Author.Tests.{lt-ltb, le-ltb, lt-leb, le-leb, eq-eqb, ne-eqb}
 use Rattle.bounded.specs.Bool.{and}
-use Rattle.bounded.specs.Fold.{every}
 use Rattle.bounded.proofs.Bool.{clash, not-i, not-false-i, implies-true, implies-false, and-fails, and-holds, if-true, if-false}
 use Rattle.words.specs.Word.{width, has, word}
 use Rattle.words.proofs.Laws.{has-word}

@@ -16,14 +16,13 @@ use Rattle.words.proofs.Laws.{has-word, has-all, has-below, is-word, within, wo
 use Rattle.network.specs.Sound.{Sound, Bounded}
 use Rattle.network.specs.Step.{legal, trimmed, third, composed, eliminate}
 use Rattle.network.proofs.Pairs.{pair-case-sym}
-use Rattle.network.proofs.Reduction.{step-keeps}
 use Rattle.network.proofs.Step.{Legal, legal-e, third-e, i-not-third, j-not-third, domain-i, domain-other, eliminate-moves, moved-allows-sym}
 use Rattle.network.proofs.Step.{trimmed-domain, trimmed-e, trimmed-i, joined-e, joined-i}
 use Rattle.pairs.specs.Pairs.{variables, allowsOf}
 use Rattle.pairs.proofs.Laws.{allows-alike, rows-rule}
 use Rattle.head.specs.declared.Head.{Head}
 use Rattle.head.specs.Held.{RowsShaped, held, headOf, soundIn}
-use Rattle.head.proofs.Held.{HeadShaped, held-bounded, held-sound, held-n, kept-packed}
+use Rattle.head.proofs.Held.{HeadShaped, held-bounded, held-sound, held-n}
 use Rattle.step_compose.specs.Compose.{supportedAt, composedAt}
 use Rattle.step_rules.specs.StepParts.{leaderAfter, thirdOf, statedAfter, madeAt, MovedRows}
 use Rattle.step_rules.specs.Stepped.{Stepped}
@@ -150,21 +149,3 @@ module _ {h : Head} (rows : List ℕ) (S : HeadShaped h) (t : soundIn h rows ≡
             head-is = head-after;
             rows-are = rows-rule width _ after (m .same-length ∙ R .array-length) (m .words (R .element-lt)) (λ x y a b _ _ la lb. allowed x y a b la lb);
           }
-
--- What a step leaves is sound again, has the shape that it asks for, and holds the network after the step.
-pub record Again (h : Head) (rows : List ℕ) (i j : ℕ) (r : Head) (after : List ℕ) : Type 0 where
-  pub again-held : held r after ≡ eliminate (held h rows) i j
-  pub again-sound : soundIn r after ≡ true
-  pub again-head : HeadShaped r
-  pub again-rows : RowsShaped after
-
-pub stepped-again : {h : Head} {rows : List ℕ} → HeadShaped h → soundIn h rows ≡ true → {i j : ℕ} → legal (held h rows) i j ≡ true
-    → {r : Head} {after : List ℕ} → Stepped h rows i j r after → Again h rows i j r after
-stepped-again {h} {rows} S t {i} {j} l s =
-    let p = kept-packed h rows S t (eliminate (held h rows) i j) _ (step-keeps (held h rows) (held-sound h rows S t) i j l) in
-    record {
-      again-held = ap₂ held (s .head-is) (s .rows-are) ∙ p .packed-held;
-      again-sound = ap₂ soundIn (s .head-is) (s .rows-are) ∙ p .packed-sound;
-      again-head = subst HeadShaped (sym (s .head-is)) (p .packed-head);
-      again-rows = subst RowsShaped (sym (s .rows-are)) (p .packed-rows);
-    }

@@ -6,14 +6,14 @@ use Prim.Native.Nat.{ℕ, zero, suc, _+_, _-_, _*_, _/_, _%_, _^_, _≤_, _<_, m
 use native.Mathlib.Nat.{mod-one, div-one, mod-lt, mod-eq-of-lt, div-eq-of-lt, sub-add-cancel, pow-suc, mul-le-mul-right, add-mul-div-right, add-mul-mod-self-right, mul-add-mod-self-right}
 use native.Mathlib.Numerals.{one-add}
 use native.Mathlib.Omega.{arith}
-use lib.Bits.{bitAnd, bitOr, bitXor, differ, and-step, or-step, xor-step, and-shr, or-shr, xor-shr, and-le-l}
+use lib.Bits.{bitAnd, bitOr, and-step, or-step, and-shr, or-shr, and-le-l}
 use lib.Count.{ones, ones-cat, trailingZeros, under}
 use lib.Dec.{eqb, ltb}
 use lib.Pow.{pow-pos, pow-mono, pow-add, high, mod-pow-add, shr-shr}
 use borrow.Author.Tests.{ltb-true, ltb-false, lt-ltb, le-ltb, eq-eqb, eqb-true, ne-eqb}
 use Rattle.bounded.specs.Bool.{and, or, implies, not, bit, if}
 use Rattle.bounded.specs.Fold.{every, some, sum, count, first}
-use Rattle.bounded.proofs.Bool.{by-cases, clash, bool-ext, not-true→false, implies-i, implies-e, false-and, and-true, bit-le, bit-true, bit-false}
+use Rattle.bounded.proofs.Bool.{by-cases, clash, bool-ext, not-true→false, implies-i, implies-e, false-and, bit-le, bit-true, bit-false}
 use Rattle.bounded.proofs.Fold.{below-suc, every-i, every-e, none-of, count-two, count-unique, first-cong}
 use Rattle.words.specs.Word.{has, word}
 
@@ -196,13 +196,6 @@ max-test true false = refl
 max-test false true = refl
 max-test false false = refl
 
-differ-test : (a b : Bool) → differ (bit a) (bit b) % 2 ≡ bit (if a (not b) b)
-unfolding bit if not
-differ-test true true = refl
-differ-test true false = refl
-differ-test false true = refl
-differ-test false false = refl
-
 -- `&` keeps the members of both words.
 pub has-and : (x y v : ℕ) → has (bitAnd x y) v ≡ and (has x v) (has y v)
 has-and = has-op bitAnd min and and-shr and-step min-test
@@ -210,10 +203,6 @@ has-and = has-op bitAnd min and and-shr and-step min-test
 -- `|` has the members of either word.
 pub has-or : (x y v : ℕ) → has (bitOr x y) v ≡ or (has x v) (has y v)
 has-or = has-op bitOr max or or-shr or-step max-test
-
--- `^` has the members of just one of the words.
-pub has-xor : (x y v : ℕ) → has (bitXor x y) v ≡ if (has x v) (not (has y v)) (has y v)
-has-xor = has-op bitXor differ (λ (a b : Bool). if a (not b) b) xor-shr xor-step differ-test
 
 bit-not : (t : Bool) → bit (not t) + bit t ≡ 1
 unfolding bit not
