@@ -91,7 +91,7 @@ static void refused_bytes(const uint8_t *bytes, size_t length, int number, size_
 /* Each cause of reading: one byte of case A is wrong, or two for 20, its first pair in the place of its second. */
 static void check_bytes(void) {
     static const struct { size_t at; uint8_t byte; int number; size_t place; } wrongs[] = {
-        {1, 0xff, 1, 0}, {0, 3, 2, 0},  {0, 2, 8, 10}, {3, 0, 3, 3}, {3, 17, 3, 3}, {4, 0, 4, 4},  {6, 17, 4, 6},   {7, 4, 5, 7},
+        {1, 0xff, 1, 0}, {0, 4, 2, 0},  {0, 2, 8, 10}, {0, 3, 8, 10}, {3, 0, 3, 3}, {3, 17, 3, 3}, {4, 0, 4, 4},  {6, 17, 4, 6},   {7, 4, 5, 7},
         {7, 1, 6, 14},   {7, 3, 6, 22}, {8, 0, 7, 8}, {9, 0, 7, 8},  {9, 4, 7, 8},  {14, 4, 7, 14},  {14, 3, 19, 14},
         {15, 1, 19, 14}, {8, 2, 19, 8}, {9, 1, 19, 8}, {14, 1, 6, 20}, {11, 8, 8, 10},
     };
@@ -115,6 +115,8 @@ static void check_bytes(void) {
     memcpy(twice, CASE_A, LENGTH_A);
     memcpy(twice + 14, CASE_A + 8, 2);
     refused_bytes(twice, LENGTH_A, SHEET_CAUSE_PAIR_SEQUENCE, 14);
+    static const uint8_t blank[] = {3, 0, 14, 2, 2, 1, 1, 1, 2, 0, 0, 0, 1, 0, 0, 0, 0};
+    refused_bytes(blank, sizeof blank, SHEET_CAUSE_BLANK_ROW, 13);
     refused_bytes(CASE_A, LENGTH_A - 1, SHEET_CAUSE_LENGTH, 0);
     refused_bytes(NULL, 0, SHEET_CAUSE_LENGTH, 0);
 }
@@ -225,17 +227,28 @@ static void check_writing(void) {
     struct sheet_write_answer answer = sheet_write(&fresh, 1, NULL, 0);
     CHECK(answer.number == SHEET_CAUSE_BUFFER_LENGTH && answer.length == 0);
     /* no version is cut to a byte, and 24 precedes 17 and follows 18 */
-    static const size_t unknown[] = {0, 3, 255, 256, 257, 258, SIZE_MAX};
+    static const size_t unknown[] = {0, 4, 255, 256, 257, 258, 259, SIZE_MAX};
     for (size_t k = 0; k < sizeof unknown / sizeof *unknown; k++) {
         CHECK(sheet_write(&fresh, unknown[k], NULL, 0).number == SHEET_CAUSE_NOT_IN_VERSION);
         CHECK(sheet_write(&stepped, unknown[k], NULL, 0).number == SHEET_CAUSE_NOT_AS_READ);
     }
-    /* in version 2 the five rows have two bytes more each, and read back as the same state */
-    uint8_t wide[LENGTH_A + 10];
-    struct sheet_state again;
-    answer = sheet_write(&fresh, 2, wide, sizeof wide);
-    CHECK(answer.number == 0 && answer.length == sizeof wide && wide[0] == 2);
-    CHECK(sheet_read(wide, sizeof wide, &again).number == 0 && same(&again, &fresh));
+    /* in versions 2 and 3 the five rows have two bytes more each, and read back as the same state */
+    for (uint8_t version = 2; version <= 3; version++) {
+        uint8_t wide[LENGTH_A + 10];
+        struct sheet_state again;
+        answer = sheet_write(&fresh, version, wide, sizeof wide);
+        CHECK(answer.number == 0 && answer.length == sizeof wide && wide[0] == version);
+        CHECK(sheet_read(wide, sizeof wide, &again).number == 0 && same(&again, &fresh));
+    }
+}
+
+/* Case J has an all-zero row: version 3 bans it, and 26 precedes 17. */
+static void check_blank_row(void) {
+    static const uint8_t case_j[] = {1, 0, 10, 2, 2, 1, 1, 1, 2, 0, 1, 0, 0};
+    struct sheet_state state;
+    CHECK(sheet_read(case_j, sizeof case_j, &state).number == 0);
+    CHECK(sheet_write(&state, 3, NULL, 0).number == SHEET_CAUSE_BLANK_ROW);
+    CHECK(sheet_write(&state, 2, NULL, 0).number == SHEET_CAUSE_BUFFER_LENGTH);
 }
 
 /* The same from both sides, and no for what no state has. */
@@ -274,7 +287,7 @@ static void check_read_only(void) {
 
 /* Each number that a cause has, and 0, has a text of its own. */
 static void check_texts(void) {
-    CHECK(SHEET_GREATEST_CAUSE == 24);
+    CHECK(SHEET_GREATEST_CAUSE == 26);
     const char *none = sheet_cause_text(255);
     unsigned causes = 0;
     for (unsigned one = 0; one <= SHEET_GREATEST_CAUSE + 1; one++) {
@@ -284,7 +297,7 @@ static void check_texts(void) {
             CHECK(strcmp(sheet_cause_text(one), sheet_cause_text(other)) != 0);
         }
     }
-    CHECK(causes == 22);
+    CHECK(causes == 23);
     CHECK(strcmp(sheet_cause_text(SHEET_CAUSE_NOT_SOUND), "the state is not sound") == 0);
     CHECK(strcmp(sheet_cause_text(255), sheet_cause_text(SHEET_GREATEST_CAUSE + 1)) == 0);
 }
@@ -334,6 +347,7 @@ int main(void) {
     check_sound_and_verdict();
     check_builds();
     check_writing();
+    check_blank_row();
     check_allows();
     check_read_only();
     check_texts();

@@ -40,7 +40,7 @@
 /* The version of these declarations: MAJOR rises where a caller has to be changed or compiled anew, MINOR where something is
  * added. The version in byte 0 of a sheet is another number. */
 #define SHEET_VERSION_MAJOR 3
-#define SHEET_VERSION_MINOR 0
+#define SHEET_VERSION_MINOR 1
 
 #define SHEET_LARGEST_BYTES 15621 /* "The largest version 2 sheet has 15,621 bytes, which is the limit in number 1" */
 #define SHEET_MOST_OPTIONS 16    /* length of the arrays that hold something for each option */
@@ -58,9 +58,9 @@ extern "C" {
 enum sheet_cause {
     SHEET_NOT_REFUSED = 0,
     SHEET_CAUSE_LENGTH = 1,             /* "under 3 bytes, over 4,101, or not 3 plus the count", with 15,621 for 4,101 */
-    SHEET_CAUSE_VERSION = 2,            /* "neither 1 nor 2" */
+    SHEET_CAUSE_VERSION = 2,            /* "neither 1 nor 2", and "let 3 pass too" */
     SHEET_CAUSE_OPTION_COUNT = 3,       /* "n is 0 or above 16" */
-    SHEET_CAUSE_SIZE = 4,               /* "a size is 0 or above 16", or above 32 in version 2 */
+    SHEET_CAUSE_SIZE = 4,               /* "a size is 0 or above 16", or above 32 in versions 2 and 3 */
     SHEET_CAUSE_TABLE_COUNT = 5,        /* "p above n(n-1)/2" */
     SHEET_CAUSE_CUT_OFF = 6,            /* "a field is cut off, or bytes are left over" */
     SHEET_CAUSE_PAIR = 7,               /* "a of 0, b of 0, or either above n" */
@@ -77,17 +77,18 @@ enum sheet_cause {
     SHEET_CAUSE_NOT_AS_READ = 18,       /* "writer: a follower exists or a list is not full" */
     SHEET_CAUSE_PAIR_ORDER = 19,        /* "a is not below b" */
     SHEET_CAUSE_PAIR_SEQUENCE = 20,     /* "the pair is not after the one before" */
-    SHEET_CAUSE_NOT_IN_VERSION = 24     /* writer: "an unknown version or a size above 16 in version 1" */
+    SHEET_CAUSE_NOT_IN_VERSION = 24,    /* writer: "an unknown version or a size above 16 in version 1" */
+    SHEET_CAUSE_BLANK_ROW = 26          /* version 3 "forbids an all-zero row": in a sheet, or in a state to be written */
 };
 
-#define SHEET_GREATEST_CAUSE SHEET_CAUSE_NOT_IN_VERSION
+#define SHEET_GREATEST_CAUSE SHEET_CAUSE_BLANK_ROW
 
 /* The cause in English, for any number; never NULL. */
 static inline const char *sheet_cause_text(unsigned number) {
     switch (number) {
     case SHEET_NOT_REFUSED: return "not refused";
     case SHEET_CAUSE_LENGTH: return "the sheet is under 3 bytes or over 15,621, or its count of bytes is wrong";
-    case SHEET_CAUSE_VERSION: return "the version is neither 1 nor 2";
+    case SHEET_CAUSE_VERSION: return "the version is none of 1, 2 and 3";
     case SHEET_CAUSE_OPTION_COUNT: return "the number of options is 0 or above 16";
     case SHEET_CAUSE_SIZE: return "the size of an option is 0, above 32, or above 16 in version 1";
     case SHEET_CAUSE_TABLE_COUNT: return "there are more tables than pairs of options";
@@ -107,6 +108,7 @@ static inline const char *sheet_cause_text(unsigned number) {
     case SHEET_CAUSE_PAIR_ORDER: return "the first option of a table is not below its second";
     case SHEET_CAUSE_PAIR_SEQUENCE: return "a table's pair is not after the one before";
     case SHEET_CAUSE_NOT_IN_VERSION: return "the version to write is unknown, or a size is above what it can hold";
+    case SHEET_CAUSE_BLANK_ROW: return "a row is all-zero, which version 3 forbids";
     default: return "no cause has this number";
     }
 }
@@ -218,17 +220,18 @@ struct sheet_cut_answer sheet_cut_parts(const uint8_t *bytes, size_t length, siz
                                         uint32_t lists[SHEET_MOST_OPTIONS], uint8_t leaders[SHEET_MOST_OPTIONS],
                                         uint32_t stated[SHEET_MOST_OPTIONS], uint32_t rows[SHEET_ROWS]);
 
-/* Reads a sheet of any length and contents into `state`: full lists, no leader, and exactly the tables of the sheet are stated.
+/* Reads a sheet of version 1, 2 or 3, of any length and contents, into `state`: full lists, no leader, and exactly the tables of the sheet are stated.
  * What the state held before does not matter.
- * Numbers 1 to 8, 19 and 20: "Number 1 is tested first, then 2, then fields in file order; at each field 6 precedes its own number."
+ * Numbers 1 to 8, 19, 20 and 26: "Number 1 is tested first, then 2, then fields in file order; at each field 6 precedes its own number."
  * A refusal answers its place and stores the zero state. */
 static inline struct sheet_read_answer sheet_read(const uint8_t *bytes, size_t length, struct sheet_state *state) {
     return sheet_read_parts(bytes, length, &state->n, state->sizes, state->lists, state->leaders, state->stated, state->rows);
 }
 
-/* Writes the sheet of a state that is as just read, in version 1 or 2, and answers its length; bytes past its end are left as
+/* Writes the sheet of a state that is as just read, in version 1, 2 or 3, and answers its length; bytes past its end are left as
  * they were.
- * Numbers 9, 18, 24, 17, tested in this order. A refusal leaves the buffer as it was.
+ * Numbers 9, 18, 24, 26, 17, tested in this order: 26 in version 3, "where a stated table has such a row for its lower-numbered
+ * option". A refusal leaves the buffer as it was.
  * Reading what was written gives the same state; writing what was read in its own version, into enough space, gives the same
  * bytes. */
 static inline struct sheet_write_answer sheet_write(const struct sheet_state *state, size_t version, uint8_t *buffer,
@@ -279,7 +282,7 @@ static inline struct sheet_verdict_answer sheet_verdict(const struct sheet_state
 }
 
 /* What sheet_read, sheet_reduce and sheet_verdict answer one after the other; the reduced state is stored in `state`.
- * Numbers 1 to 8, 19 and 20, as sheet_read. A refusal answers its place, 0 steps, SHEET_NO_VERDICT and no build, and stores the
+ * Numbers 1 to 8, 19, 20 and 26, as sheet_read. A refusal answers its place, 0 steps, SHEET_NO_VERDICT and no build, and stores the
  * zero state. */
 static inline struct sheet_cut_answer sheet_cut(const uint8_t *bytes, size_t length, struct sheet_state *state) {
     return sheet_cut_parts(bytes, length, &state->n, state->sizes, state->lists, state->leaders, state->stated, state->rows);

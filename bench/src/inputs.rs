@@ -118,7 +118,7 @@ pub fn sheet(family: Family, sizes: &[u8], random: &mut Random) -> Sheet {
     sheet_in(version, family, sizes, random)
 }
 
-/// A sheet in a version.
+/// A sheet in a version. In version 3 a row of zeros has one value in its place.
 pub fn sheet_in(version: u8, family: Family, sizes: &[u8], random: &mut Random) -> Sheet {
     let n = sizes.len();
     let build: Vec<u8> = sizes.iter().map(|&size| random.below(size as usize) as u8).collect();
@@ -140,6 +140,7 @@ pub fn sheet_in(version: u8, family: Family, sizes: &[u8], random: &mut Random) 
                 build[b] as usize,
                 random,
             ) {
+                let row = if version == 3 && row == 0 { 1 } else { row };
                 tables.extend(&row.to_be_bytes()[if version == 1 { 2 } else { 0 }..]);
             }
         }
@@ -177,7 +178,7 @@ pub fn random_bytes(random: &mut Random) -> Vec<u8> {
         .map(|_| if small { random.below(18) as u8 } else { random.next() as u8 })
         .collect();
     if random.chance(2) && length >= 3 {
-        bytes[0] = 1 + random.below(2) as u8;
+        bytes[0] = 1 + random.below(3) as u8;
         mend(&mut bytes);
     }
     bytes

@@ -3,11 +3,11 @@ use crate::proved::{State, Stepped, Tested, Verdict, Written, BUILT, NONE, NO_VE
 
 const LARGEST: usize = 15621;
 
-/// What a version fixes: the bytes of a row and the largest size; none where there is no such version.
+/// What a version fixes: the bytes of a row and the largest size; none where there is no such version. In version 3 no row is zero.
 fn layout(version: usize) -> Option<(usize, u8)> {
     match version {
         1 => Some((2, 16)),
-        2 => Some((4, 32)),
+        2 | 3 => Some((4, 32)),
         _ => None,
     }
 }
@@ -88,9 +88,9 @@ fn members(mut x: u32) -> impl Iterator<Item = usize> {
     })
 }
 
-/// Reads the fields of a sheet into a zero state; number and place of a refusal.
+/// Reads the fields of a sheet into a zero state; number and place of a refusal. Where rows must be FILLED none is zero.
 #[inline(always)]
-fn fields<const K: usize>(bytes: &[u8], most: u8, state: &mut State) -> Result<(), (u8, usize)> {
+fn fields<const K: usize, const FILLED: bool>(bytes: &[u8], most: u8, state: &mut State) -> Result<(), (u8, usize)> {
     let end = bytes.len();
     let byte = |at: usize| bytes.get(at).copied().ok_or((6, at));
     let n = byte(3)? as usize;
@@ -127,7 +127,7 @@ fn fields<const K: usize>(bytes: &[u8], most: u8, state: &mut State) -> Result<(
             return Err((20, at));
         }
         previous = a * 256 + b;
-        at = table::<K>(bytes, at + 2, a - 1, b - 1, state)?;
+        at = table::<K, FILLED>(bytes, at + 2, a - 1, b - 1, state)?;
     }
     if at < end {
         return Err((6, at));
@@ -143,33 +143,44 @@ fn number<const K: usize>(bytes: &[u8]) -> u32 {
 
 /// The rows of one table; the place after them.
 #[inline(always)]
-fn table<const K: usize>(bytes: &[u8], at: usize, i: usize, j: usize, state: &mut State) -> Result<usize, (u8, usize)> {
+fn table<const K: usize, const FILLED: bool>(
+    bytes: &[u8],
+    at: usize,
+    i: usize,
+    j: usize,
+    state: &mut State,
+) -> Result<usize, (u8, usize)> {
     let (i, j) = (i & 15, j & 15);
     let outside = !full(state.sizes[j] as usize & 63);
     let next = at + K * state.sizes[i] as usize;
     let Some(text) = bytes.get(at..next) else {
-        return Err(first_fault::<K>(&bytes[at..], at, outside));
+        return Err(first_fault::<K, FILLED>(&bytes[at..], at, outside));
     };
-    let mut all = 0;
+    let (mut all, mut blank) = (0, false);
     for (row, few) in pair_mut(state, i, j).iter_mut().zip(text.chunks_exact(K)) {
         *row = number::<K>(few);
         all |= *row;
+        blank |= FILLED && *row == 0;
     }
-    if all & outside != 0 {
-        return Err(first_fault::<K>(text, at, outside));
+    if all & outside != 0 || blank {
+        return Err(first_fault::<K, FILLED>(text, at, outside));
     }
     state.stated[i] |= 1 << j;
     state.stated[j] |= 1 << i;
     Ok(next)
 }
 
-/// The first row that is out of range, or else where the rows are cut off.
+/// The first row that is out of range or banned, or else where the rows are cut off.
 #[cold]
-fn first_fault<const K: usize>(text: &[u8], at: usize, outside: u32) -> (u8, usize) {
+fn first_fault<const K: usize, const FILLED: bool>(text: &[u8], at: usize, outside: u32) -> (u8, usize) {
     let mut place = at;
     for few in text.chunks_exact(K) {
-        if number::<K>(few) & outside != 0 {
+        let row = number::<K>(few);
+        if row & outside != 0 {
             return (8, place);
+        }
+        if FILLED && row == 0 {
+            return (26, place);
         }
         place += K;
     }
@@ -183,8 +194,9 @@ fn read_into_zero(bytes: &[u8], state: &mut State) -> Result<(), (u8, usize)> {
         return Err((1, 0));
     }
     match bytes[0] {
-        1 => fields::<2>(bytes, 16, state),
-        2 => fields::<4>(bytes, 32, state),
+        1 => fields::<2, false>(bytes, 16, state),
+        2 => fields::<4, false>(bytes, 32, state),
+        3 => fields::<4, true>(bytes, 32, state),
         _ => Err((2, 0)),
     }
 }
@@ -517,6 +529,11 @@ fn write_tables<const K: usize>(s: &State, buffer: &mut [u8], mut at: usize) {
     }
 }
 
+/// Whether a stated pair has a zero row for a value of its lower option.
+fn has_blank_row(s: &State) -> bool {
+    (0..s.n).any(|i| members(s.stated[i] & !full(i + 1)).any(|j| pair(s, i, j)[..s.sizes[i] as usize].contains(&0)))
+}
+
 /// Writes the sheet of a state as just read, in a version.
 pub fn write(s: &State, version: usize, buffer: &mut [u8]) -> Written {
     let refused = |number| Written { number, length: 0 };
@@ -532,6 +549,9 @@ pub fn write(s: &State, version: usize, buffer: &mut [u8]) -> Written {
     };
     if s.sizes[..n].iter().any(|&size| size > most) {
         return refused(24);
+    }
+    if version == 3 && has_blank_row(s) {
+        return refused(26);
     }
     let (mut length, mut tables) = (5 + n, 0);
     for i in 0..n {

@@ -77,12 +77,12 @@ fn cut(bytes: &[u8], before: &State, counts: &mut Counts) {
     counts.note(8, one.number, &(one, here), &(other, there));
 }
 
-/// A version to write in: 1 or 2, and now and then one that there is not.
+/// A version to write in: 1, 2 or 3, and now and then one that there is not.
 fn any_version(random: &mut Random) -> usize {
     if random.chance(8) {
-        [0, 3, 255, 257, usize::MAX][random.below(5)]
+        [0, 4, 255, 257, usize::MAX][random.below(5)]
     } else {
-        1 + random.below(2)
+        1 + random.below(3)
     }
 }
 
@@ -165,7 +165,9 @@ fn from_sheet(sheet: &Sheet, random: &mut Random, counts: &mut Counts) {
     for length in [whole - 1, whole, whole + 1, random.below(whole)] {
         write(&state, own, length, random, counts);
     }
-    write(&state, 3 - own, 15621, random, counts);
+    for version in 1..=3 {
+        write(&state, version, 15621, random, counts);
+    }
     for _ in 0..1 + random.below(6) {
         let n = state.n;
         state = if random.chance(8) {
@@ -201,14 +203,21 @@ fn round(at: usize, random: &mut Random, counts: &mut Counts) {
         any_sizes(random)
     };
     let family = FAMILIES[at % FAMILIES.len()];
-    // small sizes in version 2 too
-    let sheet = if at % 3 == 0 {
-        sheet_in(2, family, &sizes, random)
-    } else {
-        sheet(family, &sizes, random)
+    // small sizes in versions 2 and 3 too
+    let sheet = match at % 4 {
+        0 => sheet_in(2, family, &sizes, random),
+        1 => sheet_in(3, family, &sizes, random),
+        _ => sheet(family, &sizes, random),
     };
     counts.input(SHEET);
     from_sheet(&sheet, random, counts);
+    if sheet.bytes[0] == 2 {
+        // as version 3, which refuses its rows of zeros
+        let mut bytes = sheet.bytes.clone();
+        bytes[0] = 3;
+        counts.input(DAMAGED_SHEET);
+        read(&bytes, &State::ZERO, counts);
+    }
     if at % 200 == 0 || sheet.bytes.len() < 60 && at % 20 == 1 {
         damaged(&sheet.bytes, random, counts);
     }

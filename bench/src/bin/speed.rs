@@ -1,5 +1,5 @@
 //! How long each call takes in the proved library and in plain Rust: nanoseconds, medians, both in one run by turns.
-use bench::inputs::{sheet, Random, Sheet, FAMILIES};
+use bench::inputs::{sheet_in, Random, Sheet, FAMILIES};
 use bench::plain;
 use bench::proved::{self, State};
 use std::hint::black_box;
@@ -132,8 +132,8 @@ fn both(cases: &[Case], one: Call, other: Call) -> (f64, f64) {
     (median(ones), median(others))
 }
 
-/// Options and their values.
-const SIZES: [(usize, u8); 4] = [(4, 4), (8, 8), (16, 16), (16, 32)];
+/// A version, with options and their values.
+const SIZES: [(u8, usize, u8); 5] = [(1, 4, 4), (1, 8, 8), (1, 16, 16), (2, 16, 32), (3, 16, 32)];
 
 /// A ratio, with the place of its call and of its size.
 struct Ratio {
@@ -145,15 +145,15 @@ struct Ratio {
 fn main() {
     let only = std::env::args().nth(1);
     println!(
-        "{:9} {:6} {:9} {:>9} {:>9} {:>6}",
-        "call", "size", "family", "proved", "plain", "ratio"
+        "{:9} {:7} {:6} {:9} {:>9} {:>9} {:>6}",
+        "call", "version", "size", "family", "proved", "plain", "ratio"
     );
     let mut ratios = Vec::new();
-    for (size, (options, values)) in SIZES.into_iter().enumerate() {
+    for (size, (version, options, values)) in SIZES.into_iter().enumerate() {
         for family in FAMILIES {
             let mut random = Random(values as u64);
             let cases: Vec<Case> = (0..SHEETS)
-                .map(|_| case(sheet(family, &vec![values; options], &mut random)))
+                .map(|_| case(sheet_in(version, family, &vec![values; options], &mut random)))
                 .collect();
             for (call, &(name, one, other)) in CALLS.iter().enumerate() {
                 if only.as_deref().is_some_and(|word| word != name) {
@@ -162,7 +162,7 @@ fn main() {
                 let (proved, plain) = both(&cases, one, other);
                 let ratio = proved / plain;
                 let (across, family) = (format!("{options}x{values}"), format!("{family:?}"));
-                println!("{name:9} {across:6} {family:9} {proved:9.0} {plain:9.0} {ratio:6.2}");
+                println!("{name:9} {version:7} {across:6} {family:9} {proved:9.0} {plain:9.0} {ratio:6.2}");
                 ratios.push(Ratio { call, size, ratio });
             }
         }
@@ -172,7 +172,7 @@ fn main() {
 
 /// The lowest and the highest ratio over the families, for each call and size.
 fn summary(ratios: &[Ratio]) {
-    println!("\n| proved to plain | 4x4 | 8x8 | 16x16 | 16x32 |\n|---|---|---|---|---|");
+    println!("\n| proved to plain | 4x4 | 8x8 | 16x16 | 16x32, version 2 | 16x32, version 3 |\n|---|---|---|---|---|---|");
     for (call, (name, ..)) in CALLS.iter().enumerate() {
         if ratios.iter().all(|r| r.call != call) {
             continue;

@@ -8,11 +8,11 @@ use std::fmt;
 pub enum Cause {
     /// "under 3 bytes, over 4,101, or not 3 plus the count", with 15,621 for 4,101
     Length = 1,
-    /// "neither 1 nor 2"
+    /// "neither 1 nor 2", and "let 3 pass too"
     Version = 2,
     /// "n is 0 or above 16"
     OptionCount = 3,
-    /// "a size is 0 or above 16", or above 32 in version 2
+    /// "a size is 0 or above 16", or above 32 in versions 2 and 3
     Size = 4,
     /// "p above n(n-1)/2"
     TableCount = 5,
@@ -48,13 +48,15 @@ pub enum Cause {
     PairSequence = 20,
     /// writer: "an unknown version or a size above 16 in version 1"
     NotInVersion = 24,
+    /// version 3 "forbids an all-zero row": in a sheet, or in a state to be written
+    BlankRow = 26,
 }
 
 use Cause::*;
 
 impl Cause {
     /// All causes, in the order of their numbers.
-    pub const ALL: [Cause; 21] = [
+    pub const ALL: [Cause; 22] = [
         Length,
         Version,
         OptionCount,
@@ -76,10 +78,11 @@ impl Cause {
         PairOrder,
         PairSequence,
         NotInVersion,
+        BlankRow,
     ];
 
     /// The greatest number that a call answers.
-    pub const GREATEST: u8 = NotInVersion as u8;
+    pub const GREATEST: u8 = BlankRow as u8;
 
     /// The cause that has this number; none for 0, which stands for "not refused", and for a number that no cause has.
     pub fn of(number: u8) -> Option<Cause> {
@@ -96,7 +99,7 @@ impl fmt::Display for Cause {
     fn fmt(&self, f: &mut fmt::Formatter) -> fmt::Result {
         f.write_str(match self {
             Length => "the sheet is under 3 bytes or over 15,621, or its count of bytes is wrong",
-            Version => "the version is neither 1 nor 2",
+            Version => "the version is none of 1, 2 and 3",
             OptionCount => "the number of options is 0 or above 16",
             Size => "the size of an option is 0, above 32, or above 16 in version 1",
             TableCount => "there are more tables than pairs of options",
@@ -116,6 +119,7 @@ impl fmt::Display for Cause {
             PairOrder => "the first option of a table is not below its second",
             PairSequence => "a table's pair is not after the one before",
             NotInVersion => "the version to write is unknown, or a size is above what it can hold",
+            BlankRow => "a row is all-zero, which version 3 forbids",
         })
     }
 }

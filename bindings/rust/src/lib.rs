@@ -119,7 +119,7 @@ extern "C" {
 
 /// Reads a sheet of any length and contents: full lists, no leader, and exactly the tables of the sheet are stated.
 ///
-/// Numbers 1 to 8, 19 and 20: "Number 1 is tested first, then 2, then fields in file order; at each field 6 precedes its own number."
+/// Numbers 1 to 8, 19, 20 and 26: "Number 1 is tested first, then 2, then fields in file order; at each field 6 precedes its own number."
 /// A refusal answers its place and stores [`State::ZERO`]. What the state held before does not matter.
 #[inline]
 pub fn read(bytes: &[u8], state: &mut State) -> Read {
@@ -138,11 +138,12 @@ pub fn read(bytes: &[u8], state: &mut State) -> Read {
     }
 }
 
-/// Writes the sheet of a state that is as just read, in version 1 or 2, and answers its length; bytes past its end are left as
-/// they were.
+/// Writes the sheet of a state that is as just read, in version 1, 2 or 3, and answers its length; bytes past its end are left
+/// as they were.
 ///
-/// Numbers 9, 18, 24, 17, tested in this order. A refusal leaves the buffer as it was. Reading what was written gives the same
-/// state; writing what was read in its own version, into enough space, gives the same bytes.
+/// Numbers 9, 18, 24, 26, 17, tested in this order: 26 in version 3, "where a stated table has such a row for its lower-numbered
+/// option". A refusal leaves the buffer as it was. Reading what was written gives the same state; writing what was read in its
+/// own version, into enough space, gives the same bytes.
 #[inline]
 pub fn write(state: &State, version: usize, buffer: &mut [u8]) -> Written {
     let s = state;
@@ -255,7 +256,7 @@ pub fn verdict(state: &State) -> Verdict {
 
 /// What [`read`], [`reduce`] and [`verdict`] answer one after the other; the reduced state is stored.
 ///
-/// Numbers 1 to 8, 19 and 20, as [`read`]. A refusal answers its place, 0 steps, [`NO_VERDICT`] and no build, and stores
+/// Numbers 1 to 8, 19, 20 and 26, as [`read`]. A refusal answers its place, 0 steps, [`NO_VERDICT`] and no build, and stores
 /// [`State::ZERO`].
 #[inline]
 pub fn cut(bytes: &[u8], state: &mut State) -> Cut {

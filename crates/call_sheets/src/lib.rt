@@ -28,8 +28,8 @@ pub fn read(bytes: &[u8]) -> ReadAnswer
     ReadAnswer { outcome, state }
 }
 
-// Writes the sheet of a state as just read into a lent buffer, in the version that it is told: "the writer tests 9, 18, 17", and 24 "after 18 and before 17".
-// A refusal writes nothing.
+// Writes the sheet of a state as just read into a lent buffer, in the version that it is told: "the writer tests 9, 18, 17", 24 "after 18 and before 17", and
+// 26 "after 24 and before 17". A refusal writes nothing.
 pub fn write(state: State, version: usize, buffer: &mut [u8]) -> WriteAnswer
     ensures { λ r. ⌜ (writeTold r ≡ writeSheet version state (now (buffer .entry)) .answer)
         × (now (buffer .exit) ≡ writeSheet version state (now (buffer .entry)) .buffer) ⌝ }

@@ -22,7 +22,7 @@ use Rattle.network.specs.Reduction.{freeCount, leading, reducible, nextLeader, 
 use Rattle.network.specs.Sheet.{Sheet, isFor, tabled, rowFor, networkOf}
 use Rattle.network.specs.Completion.{BUILT, follow, completed, lowest, exhausted, decided, verdict, lowestSolution, shown}
 use Rattle.network.proofs.Reduction.{reduce-run, run-keeps}
-use Rattle.format.specs.Layout.{countTest, sizeTest, constraintsTest, outOfRange, pairTest, withinTest, longest, version1, version2, layouts, layoutAmong}
+use Rattle.format.specs.Layout.{countTest, sizeTest, constraintsTest, outOfRange, pairTest, rowTest, longest, version1, version2, version3, layouts, layoutAmong}
 use Rattle.format.specs.Parse.{got, bind, numberAt, judged, field, many, fields, pairOf, sizeOf, parseTable, parseTables, ended, parseBody, wrongUnder, parseIn, parseUnder, parse}
 use Rattle.pairs.specs.Pairs.{variables, rowsOf}
 use Rattle.head.specs.Held.{headOf}
@@ -60,11 +60,11 @@ sheetLast =
     }
 
 parsed-A : parse bytesA ≡ got sheetA 22
-unfolding or not if countTest sizeTest constraintsTest outOfRange pairTest withinTest longest version1 version2 layouts layoutAmong bind numberAt judged field many fields pairOf sizeOf parseTable parseTables ended parseBody wrongUnder parseIn parseUnder parse bytesA sheetA
+unfolding and or not if countTest sizeTest constraintsTest outOfRange pairTest rowTest longest version1 version2 version3 layouts layoutAmong bind numberAt judged field many fields pairOf sizeOf parseTable parseTables ended parseBody wrongUnder parseIn parseUnder parse bytesA sheetA
 parsed-A = refl
 
 parsed-last : parse bytesLast ≡ got sheetLast 20
-unfolding or not if countTest sizeTest constraintsTest outOfRange pairTest withinTest longest version1 version2 layouts layoutAmong bind numberAt judged field many fields pairOf sizeOf parseTable parseTables ended parseBody wrongUnder parseIn parseUnder parse bytesLast sheetLast
+unfolding and or not if countTest sizeTest constraintsTest outOfRange pairTest rowTest longest version1 version2 version3 layouts layoutAmong bind numberAt judged field many fields pairOf sizeOf parseTable parseTables ended parseBody wrongUnder parseIn parseUnder parse bytesLast sheetLast
 parsed-last = refl
 
 -- Bytes are below 256.

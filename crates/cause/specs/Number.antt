@@ -1,11 +1,11 @@
--- Document 01, "Causes and their numbers"; 7, 19 and 20 are those of document 02, L1, 21 and 22 those of L3, and 24 is that of L6.
+-- Document 01, "Causes and their numbers"; 7, 19 and 20 are those of document 02, L1, 21 and 22 those of L3, 24 is that of L6, and 26 that of L10.
 use Prim.Native.Nat.{ℕ}
 use Rattle.cause.specs.declared.Cause.{Cause}
-use Rattle.cause.specs.declared.Cause.the-variants.{Length, Version, VariableCount, Size, ConstraintCount, Extent, PairRange, PairOrder, PairRepeated, RowRange, Unsound, VariableNumber, NotTwoFree, NotStated, NotFunctional, SolutionLength, ValueRange, ValuesForbidden, BufferLength, NotFresh, SameVariables, TableRows, NotInVersion}
+use Rattle.cause.specs.declared.Cause.the-variants.{Length, Version, VariableCount, Size, ConstraintCount, Extent, PairRange, PairOrder, PairRepeated, RowRange, Unsound, VariableNumber, NotTwoFree, NotStated, NotFunctional, SolutionLength, ValueRange, ValuesForbidden, BufferLength, NotFresh, SameVariables, TableRows, NotInVersion, BlankRow}
 
 abbrev pub numberOf : Cause → ℕ
 numberOf Length = 1  -- under 3 bytes, over 15,621, or not 3 plus the count
-numberOf Version = 2  -- neither 1 nor 2
+numberOf Version = 2  -- none of 1, 2 and 3
 numberOf VariableCount = 3  -- n is 0 or above 16
 numberOf Size = 4  -- a size is 0 or above the version's limit
 numberOf ConstraintCount = 5  -- p above n(n-1)/2
@@ -27,7 +27,8 @@ numberOf NotFresh = 18  -- writer: a follower exists or a list is not full
 numberOf SameVariables = 21  -- two equal options
 numberOf TableRows = 22  -- a wrong count of rows or a bit at or above the size
 numberOf NotInVersion = 24  -- writer: an unknown version or a size above 16 in version 1
+numberOf BlankRow = 26  -- version 3: an all-zero row; writer: a stated table has one for its lower-numbered option
 
 -- The greatest of these numbers.
 abbrev pub greatest : ℕ
-greatest = 24
+greatest = 26

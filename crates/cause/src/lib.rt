@@ -35,6 +35,8 @@ pub enum Cause {
     TableRows,
     // The version to write is unknown, or a size is above its limit.
     NotInVersion,
+    // Version 3: a row of no values, read or to be written.
+    BlankRow,
 }
 
 // The number of the table of causes.
@@ -65,5 +67,6 @@ pub fn number(cause: Cause) -> u8
         Cause::SameVariables => 21,
         Cause::TableRows => 22,
         Cause::NotInVersion => 24,
+        Cause::BlankRow => 26,
     }
 }

@@ -7,7 +7,7 @@ use native.Mathlib.Nat.{suc-mul}
 use native.Mathlib.Omega.{arith}
 use lib.Dec.{eqb, ltb}
 use lib.ListN.{length, length-append}
-use lib.Pow.{pow-pos}
+use lib.Pow.{pow-pos, pow-mono}
 use borrow.Author.Tests.{lt-ltb, le-ltb, ne-eqb, ltb-true, ltb-false, eqb-false}
 use Rattle.bounded.specs.Bool.{and, not, if}
 use Rattle.bounded.specs.Table.{tabulate}
@@ -18,11 +18,12 @@ use Rattle.words.proofs.Laws.{has-full, is-word}
 use Rattle.network.specs.Network.{Network}
 use Rattle.network.specs.Sound.{Sound}
 use Rattle.network.specs.Sheet.{Table, Sheet, collect, tableOf, sheetOf}
-use Rattle.format.specs.Layout.{Layout, longest, largestIn, version1, version2}
+use Rattle.format.specs.Layout.{Layout, longest, largestIn, version1, version2, version3}
 use Rattle.format.specs.Print.{bytesOf, printAll, printTable, printBody, print}
 use Rattle.format.specs.WellFormed.{All, none, more, WellFormed}
 use Rattle.format.proofs.Layouts.{Usable}
 use Rattle.format.proofs.Lengths.{length-rows}
+use Rattle.format.proofs.Parse.{fine-row}
 use Rattle.format.proofs.SheetOf.{Takes, sheetOf-wellformed, tables-all}
 
 -- Items of m bytes each.
@@ -134,7 +135,8 @@ module _ (L : Layout) (U : Usable L) where
         sizes-taken = full-most m;
         rows-taken = λ i j a _ t l.
             let (x, y, d) = full-stated m i j t in
-            rw (full-row m i j a t l) (U .full-row _ (omega (arith, full-size m j y, U .some-value)));
+            let some = pow-mono (let e : 1 ≤ full m .size j = omega (arith, full-size m j y, U .some-value) in e) in
+            rw (full-row m i j a t l) (fine-row _ _ _ (omega (arith, some)) (λ _. omega (arith, some)));
       }
 
   full-bytes : length (print L (sheetOf (full (L .mostValues)))) ≡ largestIn L
@@ -174,3 +176,8 @@ largest-version1 = refl
 pub largest-version2 : (largestIn version2 ≡ longest) × (longest ≡ 15621)
 unfolding largestIn version2 longest
 largest-version2 = (refl, refl)
+
+-- "Version 3 is laid out like version 2"
+pub largest-version3 : largestIn version3 ≡ longest
+unfolding largestIn version3 longest
+largest-version3 = refl

@@ -11,4 +11,5 @@ pub mod Places
 pub mod Largest
 pub mod Versions
 pub mod Writable
+pub mod Beside
 pub mod Examples

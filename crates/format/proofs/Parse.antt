@@ -1,17 +1,18 @@
 -- The parser's pieces: one law for each case, and what holds of whatever a piece gets.
 use mathlib.Core.Bool.{Bool, true, false}
 use mathlib.Core.List.{List, _∷_}
-use mathlib.Core.Path.{_≡_, refl, _∙_, subst}
+use mathlib.Core.Path.{_≡_, refl, sym, _∙_, subst}
 use Prim.Native.Nat.{ℕ, suc, _+_, _-_, _*_, _/_, _≤_, _<_, _^_}
 use native.Mathlib.Omega.{arith}
 use lib.Dec.{eqb, ltb}
 use lib.ListN.{length, getD}
-use borrow.Author.Tests.{lt-ltb, le-ltb, eq-eqb, ne-eqb, lt-leb, ltb-true, ltb-false, leb-false, eqb-true, eqb-false}
+use lib.Pow.{pow-pos}
+use borrow.Author.Tests.{lt-ltb, le-ltb, eq-eqb, ne-eqb, lt-leb, le-leb, ltb-true, ltb-false, leb-false, eqb-true, eqb-false}
 use Rattle.bounded.specs.Bool.{or, if}
-use Rattle.bounded.proofs.Bool.{by-cases, or-l, or-r, or-false-l, or-false-r, or-false-i, not-false-e, not-false-i, if-true, if-false}
+use Rattle.bounded.proofs.Bool.{by-cases, not-true→false, and-i, and-l, and-r, and-holds, or-l, or-r, or-false-l, or-false-r, or-false-i, not-false-e, not-false-i, if-true, if-false}
 use Rattle.cause.specs.declared.Cause.{Cause}
-use Rattle.cause.specs.declared.Cause.the-variants.{Length, Version, Extent}
-use Rattle.format.specs.Layout.{Layout, Test, fine, fault, countTest, sizeTest, constraintsTest, withinTest, longest, found, unknown, layoutOf}
+use Rattle.cause.specs.declared.Cause.the-variants.{Length, Version, Extent, RowRange, BlankRow}
+use Rattle.format.specs.Layout.{Layout, Test, fine, fault, countTest, sizeTest, constraintsTest, rowTest, longest, found, unknown, layoutOf}
 use Rattle.format.specs.Parse.{Parse, got, bad, bind, numberAt, judged, field, many, parseBody, wrongUnder, parseIn, parseUnder, wrongLength, parse}
 
 -- P holds of the value and of the place after it, if the parser gets one.
@@ -123,14 +124,31 @@ pub fine-constraints : (n p : ℕ) → p ≤ n * (n - 1) / 2 → constraintsTest
 unfolding constraintsTest
 fine-constraints n p h = if-false _ _ _ (le-ltb _ p h)
 
-pub row-of-fine : (size row : ℕ) → withinTest size row ≡ fine → row < 2 ^ size
-unfolding withinTest
-row-of-fine size row h = leb-false _ _ (fine-unless _ _ _ h .0)
+module _ (filled : Bool) (size row : ℕ) where
+  pub row-of-fine : rowTest filled size row ≡ fine → (row < 2 ^ size) × (filled ≡ true → 1 ≤ row)
+  unfolding rowTest
+  row-of-fine h =
+      let (within, rest) = fine-unless _ _ _ h in (
+        leb-false _ _ within,
+        λ t. let x = eqb-false row 0 (sym (and-holds _ _ t) ∙ fine-unless _ _ _ rest .0) in omega (arith, x),
+      )
 
--- Every row below 2 to the size passes: "An all-zero row is allowed."
-pub fine-row : (size row : ℕ) → row < 2 ^ size → withinTest size row ≡ fine
-unfolding withinTest
-fine-row size row h = if-false _ _ _ (lt-leb _ _ h)
+  -- A row below 2 to the size passes, where such rows are banned if it is not all-zero.
+  pub fine-row : row < 2 ^ size → (filled ≡ true → 1 ≤ row) → rowTest filled size row ≡ fine
+  unfolding rowTest
+  fine-row h some =
+      if-false _ _ _ (lt-leb _ _ h)
+      ∙ if-false _ _ _ (not-true→false _ (λ t. let x : ⊥ = omega (arith, some (and-l _ _ t), eqb-true row 0 (and-r _ _ t)) in x))
+
+  pub row-out : 2 ^ size ≤ row → rowTest filled size row ≡ fault RowRange
+  unfolding rowTest
+  row-out h = if-true _ _ _ (le-leb _ _ h)
+
+  pub row-blank : filled ≡ true → row ≡ 0 → rowTest filled size row ≡ fault BlankRow
+  unfolding rowTest
+  row-blank t e =
+      let low : row < 2 ^ size = omega (arith, pow-pos size) in
+      if-false _ _ _ (lt-leb _ _ low) ∙ if-true _ _ _ (and-i _ _ t (eq-eqb row 0 e))
 
 -- The length of the bytes, and byte 0.
 pub record LengthFits (bytes : List ℕ) : Type 0 where

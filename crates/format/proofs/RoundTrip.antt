@@ -10,7 +10,7 @@ use borrow.Author.Tests.{lt-ltb, le-ltb, ltb-false}
 use Rattle.bounded.proofs.Bool.{by-cases, if-true, if-false}
 use Rattle.cause.specs.declared.Cause.the-variants.{Extent}
 use Rattle.network.specs.Sheet.{Table, Sheet}
-use Rattle.format.specs.Layout.{Layout, Test, fine, countTest, sizeTest, constraintsTest, pairTest, longest, found, layoutOf}
+use Rattle.format.specs.Layout.{Layout, Test, fine, countTest, sizeTest, constraintsTest, pairTest, rowTest, longest, found, layoutOf}
 use Rattle.format.specs.Parse.{Octets, Parse, got, bad, numberAt, field, many, fields, pairOf, sizeOf, parseTable, parseTables, ended, parseBody}
 use Rattle.format.specs.Parse.{wrongLength, parse}
 use Rattle.format.specs.Print.{bytesOf, printAll, printTable, printBody, print}
@@ -210,7 +210,7 @@ module _ (L : Layout) (sizes : List ℕ) (few : length sizes < 256) (previous : 
         fits = (fine-pair (length sizes) previous pair fits, pair-room L sizes few t f);
         stands = stands-front bytes at next (bytesOf 2 pair) rowsText text;
       }) in
-      let second : fields (L .rowBytes) (L .rowTest (sizeOf sizes (pair % 256))) (sizeOf sizes (pair / 256)) bytes mid ≡ got (t .rows) next =
+      let second : fields (L .rowBytes) (rowTest (L .filled) (sizeOf sizes (pair % 256))) (sizeOf sizes (pair / 256)) bytes mid ≡ got (t .rows) next =
       rw (a, b)
       (fields-inverse _ _ _ .accepts bytes mid (t .rows) next
       (record {

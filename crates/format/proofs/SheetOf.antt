@@ -23,12 +23,13 @@ use Rattle.network.proofs.Tables.{isFor-e, isFor-i, tabled-here, tabled-there, 
 use Rattle.network.proofs.SheetOf.{Same}
 use Rattle.network.proofs.SheetOf.{n-sheetOf, size-sheetOf, tabled-sheetOf, row-sheetOf, tabled-networkOf, row-networkOf}
 use Rattle.network.proofs.SheetOf.{Fits, networkOf-sound}
-use Rattle.format.specs.Layout.{Layout, fine, largestSize}
+use Rattle.format.specs.Layout.{Layout, fine, rowTest, largestSize}
 use Rattle.format.specs.Parse.{pairOf, sizeOf}
 use Rattle.format.specs.WellFormed.{All, none, more, TableFits, Ascend, WellFormed}
 use Rattle.format.proofs.All.{all-getD, all-tabulate, all-collect}
-use Rattle.format.proofs.Layouts.{Usable, TakesAnyRow}
+use Rattle.format.proofs.Layouts.{Usable}
 use Rattle.format.proofs.Lengths.{size-most}
+use Rattle.format.proofs.Parse.{row-of-fine}
 
 -- ---- look-ups
 
@@ -60,7 +61,7 @@ module _ (L : Layout) (U : Usable L) (sizes : List ℕ) (t : Table) (F : TableFi
   row-lt : (j a : ℕ) → t .second ≡ suc j → getD (t .rows) a 0 < 2 ^ getD sizes j 0
   row-lt j a y =
       by-cases (ltb a (length (t .rows)))
-      (λ l. rw (← sizeOf-suc sizes (t .second) j y) (U .row-within _ _ (all-getD (F .rows-fit) a 0 (ltb-true _ _ l) .0)))
+      (λ l. rw (← sizeOf-suc sizes (t .second) j y) (row-of-fine _ _ _ (all-getD (F .rows-fit) a 0 (ltb-true _ _ l) .0) .0))
       (λ l. rw (List·getD-eq-default (t .rows) 0 {n = a} (ltb-false _ _ l)) (pow-pos (getD sizes j 0)))
 
   -- and what it allows lies within the sizes.
@@ -186,11 +187,7 @@ tables-count N = omega (arith, count-tables N (N .n) 0 (omega arith))
 pub record Takes (L : Layout) (N : Network) : Type 0 where
   pub sizes-taken : (i : ℕ) → N .size i ≤ L .mostValues
   pub rows-taken : (i j a : ℕ) → i < j → N .stated i j ≡ true → a < N .size i
-      → L .rowTest (N .size j) (word (N .size j) (N .allows i j a)) ≡ fine
-
--- A layout that takes any row takes every network of its sizes.
-pub plain-takes : (L : Layout) → TakesAnyRow L → (N : Network) → ((i : ℕ) → N .size i ≤ L .mostValues) → Takes L N
-plain-takes L any N small = record { sizes-taken = small; rows-taken = λ i j a _ _ _. any _ _ (word-lt _ _) }
+      → rowTest (L .filled) (N .size j) (word (N .size j) (N .allows i j a)) ≡ fine
 
 module _ (L : Layout) (U : Usable L) (N : Network) (S : Sound N) (few : N .n ≤ 16) (T : Takes L N) where
   -- The size of the variable i, as the sheet has it for the option i + 1.

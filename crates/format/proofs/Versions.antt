@@ -8,19 +8,29 @@ use borrow.Author.Tests.{lt-ltb, le-ltb, ne-eqb}
 use Rattle.bounded.proofs.Bool.{or-l, or-r, if-true, if-false}
 use Rattle.cause.specs.declared.Cause.the-variants.{Length, Extent}
 use Rattle.network.specs.Sheet.{Sheet}
-use Rattle.format.specs.Layout.{Layout, longest, largestIn, version1, version2, layouts, found, layoutAmong, layoutOf}
+use Rattle.format.specs.Layout.{Layout, longest, largestIn, version1, version2, version3, layouts, found, unknown, layoutAmong, layoutOf}
 use Rattle.format.specs.Parse.{Octets, got, bad, wrongUnder, parseUnder, parse}
 use Rattle.format.specs.Print.{printBody, print}
-use Rattle.format.specs.WellFormed.{WellFormed}
+use Rattle.format.specs.WellFormed.{All, none, more, WellFormed}
 use Rattle.format.proofs.Layouts.{version1-found}
 use Rattle.format.proofs.Lengths.{within-largest}
 use Rattle.format.proofs.RoundTrip.{framed, parsed, left-over}
 
--- One layout more changes the look-up of its own version alone.
-one-more : (Ls : List Layout) (L : Layout) (v : ℕ) → (v ≡ L .version → ⊥) → layoutAmong (Ls ++ (L ∷ [])) v ≡ layoutAmong Ls v
-unfolding layoutAmong
-one-more [] L v h = if-false _ _ _ (ne-eqb _ _ h)
-one-more (K ∷ Ls) L v h = rw (one-more Ls L v h)
+module _ (v : ℕ) where
+  -- The version of a layout is another.
+  abbrev Other : Layout → Type 0
+  Other L = v ≡ L .version → ⊥
+
+  none-among : {Ls : List Layout} → All Other Ls → layoutAmong Ls v ≡ unknown
+  unfolding layoutAmong
+  none-among none = refl
+  none-among (more h hs) = if-false _ _ _ (ne-eqb _ _ h) ∙ none-among hs
+
+  -- More layouts change the look-up of their own versions alone.
+  with-more : (Ks : List Layout) {Ls : List Layout} → All Other Ls → layoutAmong (Ks ++ Ls) v ≡ layoutAmong Ks v
+  unfolding layoutAmong
+  with-more [] h = none-among h
+  with-more (K ∷ Ks) h = rw (with-more Ks h)
 
 module _ (bytes : List ℕ) where
   -- Bytes within two limits, with one look-up of their version among two lists, are parsed alike.
@@ -35,9 +45,15 @@ module _ (bytes : List ℕ) where
   too-long limit Ls h = if-true _ _ _ (or-r _ _ (or-l _ _ (lt-ltb _ _ h)))
 
   -- "A version 1 sheet gives the state it gave before, number for number": up to the limit of before the parser is that of before, which knew version 1 alone.
-  pub as-before-version2 : length bytes ≤ 4101 → (getD bytes 0 0 ≡ 2 → ⊥) → parse bytes ≡ parseUnder 4101 (version1 ∷ []) bytes
-  unfolding parse layouts version2 longest
-  as-before-version2 h other = same-parse _ _ _ _ (omega arith) h (one-more (version1 ∷ []) version2 _ other)
+  pub as-before-version2 : length bytes ≤ 4101 → (getD bytes 0 0 ≡ 2 → ⊥) → (getD bytes 0 0 ≡ 3 → ⊥)
+      → parse bytes ≡ parseUnder 4101 (version1 ∷ []) bytes
+  unfolding parse layouts version2 version3 longest
+  as-before-version2 h two three = same-parse _ _ _ _ (omega arith) h (with-more _ (version1 ∷ []) (more two (more three none)))
+
+  -- "Versions 1 and 2 go on allowing it": where the version is not 3 the parser is that of before, which knew versions 1 and 2.
+  pub as-before-version3 : (getD bytes 0 0 ≡ 3 → ⊥) → parse bytes ≡ parseUnder longest (version1 ∷ version2 ∷ []) bytes
+  unfolding parse parseUnder layouts version3
+  as-before-version3 three = rw (with-more (getD bytes 0 0) (version1 ∷ version2 ∷ []) {Ls = version3 ∷ []} (more three none))
 
   -- Longer bytes were refused for their length.
   pub long-before : 4101 < length bytes → parseUnder 4101 (version1 ∷ []) bytes ≡ bad Length 0

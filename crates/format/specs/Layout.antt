@@ -1,11 +1,11 @@
 -- What a version of the format fixes, and the tests of the fields: each answers "fine", or which cause.
-use mathlib.Core.Bool.{Bool}
+use mathlib.Core.Bool.{Bool, true, false}
 use mathlib.Core.List.{List, [], _∷_}
 use Prim.Native.Nat.{ℕ, _+_, _-_, _*_, _/_, _%_, _^_}
 use lib.Dec.{eqb, ltb, leb}
-use Rattle.bounded.specs.Bool.{or, not, if}
+use Rattle.bounded.specs.Bool.{and, or, not, if}
 use Rattle.cause.specs.declared.Cause.{Cause}
-use Rattle.cause.specs.declared.Cause.the-variants.{VariableCount, Size, ConstraintCount, PairRange, PairOrder, PairRepeated, RowRange}
+use Rattle.cause.specs.declared.Cause.the-variants.{VariableCount, Size, ConstraintCount, PairRange, PairOrder, PairRepeated, RowRange, BlankRow}
 
 -- The answer of a field's test.
 pub data Test : Type 0 where
@@ -26,7 +26,7 @@ pub record Layout : Type 0 where
   pub version : ℕ
   pub rowBytes : ℕ  -- bytes of a row
   pub mostValues : ℕ  -- the largest size
-  pub rowTest : ℕ → ℕ → Test  -- the test of a row, by the size of b
+  pub filled : Bool  -- an all-zero row is banned
 
 -- The bytes of the largest sheet of a layout: "3 and 1 + 16 + 1 + 120 × 34", with 2 and a row for each of the most values in the place of 34.
 unfoldable pub largestIn : Layout → ℕ
@@ -58,21 +58,29 @@ pairTest n previous pair =
     (if (not (ltb previous pair)) (fault PairRepeated)
     fine))
 
--- 8 "row has a bit at or above the size of b": it is not below 2 to the size. "An all-zero row is allowed."
-unfoldable pub withinTest : ℕ → ℕ → Test
-withinTest size row = if (leb (2 ^ size) row) (fault RowRange) fine
+-- 8 "row has a bit at or above the size of b": it is not below 2 to the size. Then 26, of a layout that "forbids an all-zero row", "at the place of the row
+-- after 8"; of the others "An all-zero row is allowed."
+unfoldable pub rowTest : Bool → ℕ → ℕ → Test
+rowTest filled size row =
+    if (leb (2 ^ size) row) (fault RowRange)
+    (if (and filled (eqb row 0)) (fault BlankRow)
+    fine)
 
 -- "version 1 keeps two-byte rows and sizes to 16"
 unfoldable pub version1 : Layout
-version1 = record { version = 1; rowBytes = 2; mostValues = 16; rowTest = withinTest }
+version1 = record { version = 1; rowBytes = 2; mostValues = 16; filled = false }
 
 -- "Version 2 of the sheet has four-byte rows"; "Sizes may go to 32".
 unfoldable pub version2 : Layout
-version2 = record { version = 2; rowBytes = 4; mostValues = 32; rowTest = withinTest }
+version2 = record { version = 2; rowBytes = 4; mostValues = 32; filled = false }
 
--- "Number 2 now means neither 1 nor 2": the layouts that there are, one for each version.
+-- "Version 3 is laid out like version 2 and forbids an all-zero row. Versions 1 and 2 go on allowing it."
+unfoldable pub version3 : Layout
+version3 = record { version = 3; rowBytes = 4; mostValues = 32; filled = true }
+
+-- "Number 2 now means neither 1 nor 2", and then: "Numbers 2 and 24 now let 3 pass too." The layouts that there are, one for each version.
 unfoldable pub layouts : List Layout
-layouts = version1 ∷ version2 ∷ []
+layouts = version1 ∷ version2 ∷ version3 ∷ []
 
 -- The layout of a version, if there is one.
 pub data Lookup : Type 0 where

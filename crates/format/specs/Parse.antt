@@ -1,4 +1,4 @@
--- The parser: document 01, "A sheet on disk", with the numbers 1 to 8, and 19 and 20 after 7, in their order.
+-- The parser: document 01, "A sheet on disk", with the numbers 1 to 8, 19 and 20 after 7, and 26 after 8, in their order.
 use mathlib.Core.Bool.{Bool}
 use mathlib.Core.List.{List, [], _∷_}
 use Prim.Native.Nat.{ℕ, zero, suc, _+_, _-_, _*_, _/_, _%_, _^_, _<_}
@@ -8,7 +8,7 @@ use Rattle.bounded.specs.Bool.{or, not, if}
 use Rattle.cause.specs.declared.Cause.{Cause}
 use Rattle.cause.specs.declared.Cause.the-variants.{Length, Version, Extent}
 use Rattle.network.specs.Sheet.{Table, Sheet}
-use Rattle.format.specs.Layout.{Test, fine, fault, Layout, countTest, sizeTest, constraintsTest, pairTest, longest, Lookup, found, unknown, layouts, layoutAmong}
+use Rattle.format.specs.Layout.{Test, fine, fault, Layout, countTest, sizeTest, constraintsTest, pairTest, rowTest, longest, Lookup, found, unknown, layouts, layoutAmong}
 
 -- Bytes: each is below 256.
 abbrev pub Octets : List ℕ → Type 0
@@ -59,7 +59,7 @@ sizeOf sizes x = getD sizes (x - 1) 0
 unfoldable pub parseTable : Layout → List ℕ → ℕ → List ℕ → ℕ → Parse Table
 parseTable L sizes previous bytes at =
     bind (field 2 (pairTest (length sizes) previous) bytes at) (λ pair next.
-    bind (fields (L .rowBytes) (L .rowTest (sizeOf sizes (pair % 256))) (sizeOf sizes (pair / 256)) bytes next) (λ rows end.
+    bind (fields (L .rowBytes) (rowTest (L .filled) (sizeOf sizes (pair % 256))) (sizeOf sizes (pair / 256)) bytes next) (λ rows end.
     got (record { first = pair / 256; second = pair % 256; rows = rows }) end))
 
 unfoldable pub parseTables : Layout → List ℕ → ℕ → ℕ → List ℕ → ℕ → Parse (List Table)
@@ -82,7 +82,7 @@ parseBody L bytes =
 unfoldable pub wrongUnder : ℕ → List ℕ → Bool
 wrongUnder limit bytes = or (ltb (length bytes) 3) (or (ltb limit (length bytes)) (not (eqb (length bytes) (3 + numberAt 2 bytes 1))))
 
--- 2 "version not 1": "Number 2 now means neither 1 nor 2", that is, it has no layout. Otherwise the body is read in its layout.
+-- 2 "version not 1": "Number 2 now means neither 1 nor 2", and then lets "3 pass too": it has no layout. Otherwise the body is read in its layout.
 unfoldable pub parseIn : Lookup → List ℕ → Parse Sheet
 parseIn unknown bytes = bad Version 0
 parseIn (found L) bytes = parseBody L bytes

@@ -4,7 +4,7 @@ use mathlib.Core.Path.{_≡_}
 use Prim.Native.Nat.{ℕ, _≤_, _<_, _-_, _*_, _/_, _^_}
 use lib.ListN.{length}
 use Rattle.network.specs.Sheet.{Table, Sheet}
-use Rattle.format.specs.Layout.{Layout, fine}
+use Rattle.format.specs.Layout.{Layout, fine, rowTest}
 use Rattle.format.specs.Parse.{pairOf, sizeOf}
 
 -- Every element of a list.
@@ -17,7 +17,7 @@ pub record TableFits (L : Layout) (sizes : List ℕ) (t : Table) : Type 0 where
   pub ordered : t .first < t .second
   pub second-in : t .second ≤ length sizes
   pub row-count : length (t .rows) ≡ sizeOf sizes (t .first)
-  pub rows-fit : All (λ (row : ℕ). (L .rowTest (sizeOf sizes (t .second)) row ≡ fine) × (row < 256 ^ L .rowBytes)) (t .rows)
+  pub rows-fit : All (λ (row : ℕ). (rowTest (L .filled) (sizeOf sizes (t .second)) row ≡ fine) × (row < 256 ^ L .rowBytes)) (t .rows)
 
 -- "Pairs ascend, by a and then by b, none twice": each pair as a number is above the one before, the first above `previous`.
 pub data Ascend : ℕ → List Table → Type 0 where

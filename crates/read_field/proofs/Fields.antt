@@ -1,24 +1,24 @@
 -- Laws of one field: what its bytes and its own test make of it, as the functions that read a field are asked for it.
-use mathlib.Core.Bool.{Bool, true, false, _||_, not as negated}
+use mathlib.Core.Bool.{Bool, true, false, _&&_, _||_, not as negated}
 use mathlib.Core.List.{List}
 use mathlib.Core.Path.{_≡_, refl, sym, _∙_, ap, fun-ext}
 use Prim.Native.Nat.{ℕ, _+_, _-_, _*_, _/_, _%_, _^_, _≤_, _<_}
 use native.Mathlib.Omega.{arith}
 use lib.Dec.{eqb, ltb}
 use lib.ListN.{length}
-use borrow.Author.Tests.{lt-ltb, le-ltb, le-leb, eq-eqb, ltb-true, ltb-false, eqb-true}
+use borrow.Author.Tests.{lt-ltb, le-ltb, eq-eqb, ltb-true, ltb-false, eqb-true, eqb-false}
 use Rattle.bounded.specs.Bool.{or, implies, not, if}
 use Rattle.bounded.specs.Fold.{every}
-use Rattle.bounded.proofs.Bool.{by-cases, bool-ext, if-true, if-false, not-i, not-false-i, or-l, or-r, or-false-l, or-false-r}
+use Rattle.bounded.proofs.Bool.{by-cases, bool-ext, machine-and, and-l, and-r, and-holds, if-true, if-false, not-i, not-false-i, or-l, or-r, or-false-l, or-false-r}
 use Rattle.words.specs.Word.{has}
 use Rattle.words.proofs.Laws.{within-every}
 use Rattle.cause.specs.declared.Cause.{Cause}
-use Rattle.cause.specs.declared.Cause.the-variants.{VariableCount, Size, ConstraintCount, PairRange, PairOrder, PairRepeated, RowRange, Extent}
+use Rattle.cause.specs.declared.Cause.the-variants.{VariableCount, Size, ConstraintCount, PairRange, PairOrder, PairRepeated, RowRange, BlankRow, Extent}
 use Rattle.read_field.specs.declared.field.Read.{Read}
 use Rattle.read_field.specs.declared.field.Read.the-variants.{Value, Refused}
-use Rattle.format.specs.Layout.{Test, fine, fault, countTest, sizeTest, constraintsTest, outOfRange, pairTest, withinTest, longest}
+use Rattle.format.specs.Layout.{Test, fine, fault, countTest, sizeTest, constraintsTest, outOfRange, pairTest, rowTest, longest}
 use Rattle.format.specs.Parse.{Parse, got, bad, numberAt, judged, field, wrongUnder, wrongLength}
-use Rattle.format.proofs.Parse.{fine-row}
+use Rattle.format.proofs.Parse.{fine-row, row-out, row-blank}
 use Rattle.read_field.specs.Fields.{readAs, readOf, rangeTest}
 
 -- ---- any parse that came to an answer
@@ -135,13 +135,17 @@ module _ (n previous pair : ℕ) where
         if-false _ _ _ (four-machine _ _ _ _ ∙ h) ∙ if-false _ _ _ (not-false-i _ (lt-ltb _ _ o)) ∙ if-false _ _ _ (not-false-i _ (lt-ltb _ _ r))
 
 -- A word below 2 to the size has no bit at or above it: one test decides a row, and a union of rows.
-module _ (w size row : ℕ) (l : row < 2 ^ w) where
-  pub within-fault : every w (λ (v : ℕ). implies (has row v) (ltb v size)) ≡ false → withinTest size row ≡ fault RowRange
-  unfolding withinTest
-  within-fault h = if-true _ _ _ (le-leb _ _ (ltb-false row (2 ^ size) (within-every w row size l ∙ h)))
+module _ (w : ℕ) (filled : Bool) (size row : ℕ) (l : row < 2 ^ w) where
+  pub within-fault : every w (λ (v : ℕ). implies (has row v) (ltb v size)) ≡ false → rowTest filled size row ≡ fault RowRange
+  within-fault h = row-out filled size row (ltb-false row (2 ^ size) (within-every w row size l ∙ h))
 
-  pub within-fine : every w (λ (v : ℕ). implies (has row v) (ltb v size)) ≡ true → withinTest size row ≡ fine
-  within-fine h = fine-row size row (ltb-true row (2 ^ size) (within-every w row size l ∙ h))
+  pub blank-fault : filled && eqb row 0 ≡ true → rowTest filled size row ≡ fault BlankRow
+  blank-fault h = let b = sym (machine-and _ _) ∙ h in row-blank filled size row (and-l _ _ b) (eqb-true _ _ (and-r _ _ b))
+
+  pub within-fine : every w (λ (v : ℕ). implies (has row v) (ltb v size)) ≡ true → filled && eqb row 0 ≡ false → rowTest filled size row ≡ fine
+  within-fine h b =
+      fine-row filled size row (ltb-true row (2 ^ size) (within-every w row size l ∙ h))
+      (λ f. let some = eqb-false row 0 (sym (and-holds _ _ f) ∙ sym (machine-and _ _) ∙ b) in omega (arith, some))
 
 -- ---- the length
 

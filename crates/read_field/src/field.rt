@@ -3,7 +3,7 @@ ghost use mathlib.Core.Path.{_≡_};
 ghost use Prim.Native.Nat.{_+_, _*_, _/_, _%_, _<_, _≤_};
 ghost use lib.ListN.{length};
 ghost use Rattle.words.specs.Word.{width};
-ghost use Rattle.format.specs.Layout.{pairTest, withinTest};
+ghost use Rattle.format.specs.Layout.{pairTest, rowTest};
 ghost use Rattle.format.specs.Parse.{numberAt, field};
 ghost use Rattle.read_field.specs.Fields.{readOf, rangeTest, RowBytes};
 use cause::Cause;
@@ -90,10 +90,11 @@ pub fn pair_field(bytes: &[u8], first: usize, n: usize, previous: usize) -> Read
     Read::Value(pair, second + 1)
 }
 
-// A row of `k` bytes, against a variable of `size` values.
-pub fn row_field(bytes: &[u8], at: usize, size: usize, k: usize) -> Read
+// A row of `k` bytes, against a variable of `size` values. Tested for 6, then 8 "row has a bit at or above the size of b", and then, where rows must be
+// `filled`, 26 "an all-zero row".
+pub fn row_field(bytes: &[u8], at: usize, size: usize, k: usize, filled: bool) -> Read
     requires { ⌜ (at ≤ length (now bytes)) × (size ≤ width) × RowBytes k ⌝ }
-    ensures { λ r. ⌜ field k (withinTest size) (now (bytes .entry)) at ≡ readOf r ⌝ }
+    ensures { λ r. ⌜ field k (rowTest filled size) (now (bytes .entry)) at ≡ readOf r ⌝ }
 {
     let next = at + k;
     if bytes.len() < next {
@@ -102,6 +103,9 @@ pub fn row_field(bytes: &[u8], at: usize, size: usize, k: usize) -> Read
     let row = number(bytes, at, k);
     if !words::within(row, size) {
         return Read::Refused(Cause::RowRange, at);
+    }
+    if filled & (row == 0) {
+        return Read::Refused(Cause::BlankRow, at);
     }
     Read::Value(row as usize, next)
 }

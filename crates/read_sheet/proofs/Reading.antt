@@ -1,5 +1,5 @@
 -- A whole sheet, field after field: what each answer makes of the parse, and that the arrays hold the sheet in the end.
-use mathlib.Core.Bool.{true, false}
+use mathlib.Core.Bool.{Bool, true, false}
 use mathlib.Core.List.{List, []}
 use mathlib.Core.Path.{_≡_, refl, sym, _∙_}
 use Prim.Native.Nat.{ℕ, _-_, _*_, _/_, _≤_, _<_}
@@ -22,7 +22,7 @@ use Rattle.pairs.specs.Pairs.{variables}
 use Rattle.pairs.proofs.Laws.{rows-rule}
 use Rattle.read_field.specs.declared.field.Read.{Read}
 use Rattle.read_field.specs.declared.field.Read.the-variants.{Value, Refused}
-use Rattle.format.specs.Layout.{Layout, sizeTest, constraintsTest, withinTest, found, layoutOf}
+use Rattle.format.specs.Layout.{Layout, sizeTest, constraintsTest, found, layoutOf}
 use Rattle.format.specs.Parse.{Parse, got, bad, bind, field, fields, parseTables, ended, parseBody, wrongLength, parse}
 use Rattle.format.proofs.Layouts.{other-unknown}
 use Rattle.format.proofs.Parse.{length-fits, parse-wrong-length, parse-wrong-version, parse-is-body}
@@ -102,22 +102,22 @@ pub record Constrained (bytes : List ℕ) (most n : ℕ) (sizes : List ℕ) (p f
       → parseBody L bytes ≡ bind (parseTables L (take n sizes) p 0 bytes from) (afterTables bytes (take n sizes))
 
 -- and the tables.
-pub record Tabled (bytes : List ℕ) (k most n : ℕ) (sizes stated rows : List ℕ) (end : ℕ) : Type 0 where
+pub record Tabled (bytes : List ℕ) (k : ℕ) (filled : Bool) (most n : ℕ) (sizes stated rows : List ℕ) (end : ℕ) : Type 0 where
   pub few : n ≤ variables
   pub sized : Sized n sizes
   pub tables : List Table
   pub last : ℕ
   pub held : Held tables last stated rows
-  pub left : (L : Layout) → RowsIn L k → L .mostValues ≡ most → parseBody L bytes ≡ afterTables bytes (take n sizes) tables end
+  pub left : (L : Layout) → RowsIn L k filled → L .mostValues ≡ most → parseBody L bytes ≡ afterTables bytes (take n sizes) tables end
 
 -- What is answered of the body in every layout of such rows and sizes.
-abbrev pub BodyRead : List ℕ → ℕ → ℕ → List ℕ → List ℕ → List ℕ → Read → Type 0
-BodyRead bytes k most sizes stated rows r =
-    (L : Layout) → RowsIn L k → L .mostValues ≡ most → SheetRead (parseBody L bytes) sizes stated rows r
+abbrev pub BodyRead : List ℕ → ℕ → Bool → ℕ → List ℕ → List ℕ → List ℕ → Read → Type 0
+BodyRead bytes k filled most sizes stated rows r =
+    (L : Layout) → RowsIn L k filled → L .mostValues ≡ most → SheetRead (parseBody L bytes) sizes stated rows r
 
 module _ (bytes : List ℕ) where
-  pub no-count : {k most : ℕ} {c : Cause} {place : ℕ} → field 1 (rangeTest 1 variables VariableCount) bytes 3 ≡ bad c place
-      → {sizes stated rows : List ℕ} → BodyRead bytes k most sizes stated rows (Refused c place)
+  pub no-count : {k : ℕ} {filled : Bool} {most : ℕ} {c : Cause} {place : ℕ} → field 1 (rangeTest 1 variables VariableCount) bytes 3 ≡ bad c place
+      → {sizes stated rows : List ℕ} → BodyRead bytes k filled most sizes stated rows (Refused c place)
   unfolding parseBody bind
   no-count {c = c} {place = place} e {sizes} {stated} {rows} L told m = sheet-refused _ sizes stated rows c place (rw (count-range, e))
 
@@ -129,7 +129,7 @@ module _ (bytes : List ℕ) where
       record { some = r .0; few = r .1; left = λ L. rw (count-range, e, g .ends) }
 
   module _ {n : ℕ} (so-far : Counted bytes n) {most : ℕ} {sizes : List ℕ} {r : Read} (read : SizesRead bytes n most sizes r) where
-    pub no-sizes : {c : Cause} {place : ℕ} → r ≡ Refused c place → {k : ℕ} {stated rows : List ℕ} → BodyRead bytes k most sizes stated rows (Refused c place)
+    pub no-sizes : {c : Cause} {place : ℕ} → r ≡ Refused c place → {k : ℕ} {filled : Bool} {stated rows : List ℕ} → BodyRead bytes k filled most sizes stated rows (Refused c place)
     unfolding bind
     no-sizes {c} {place} q {stated = stated} {rows = rows} L told m =
         sheet-refused _ sizes stated rows c place (so-far .left L ∙ rw (m, as-bad _ r _ c place (read .parsed) q))
@@ -146,7 +146,7 @@ module _ (bytes : List ℕ) where
 
   module _ {most n : ℕ} {sizes : List ℕ} {next : ℕ} (so-far : Listed bytes most n sizes next) where
     pub no-constraints : {c : Cause} {place : ℕ} → field 1 (rangeTest 0 (n * (n - 1) / 2) ConstraintCount) bytes next ≡ bad c place
-        → {k : ℕ} {stated rows : List ℕ} → BodyRead bytes k most sizes stated rows (Refused c place)
+        → {k : ℕ} {filled : Bool} {stated rows : List ℕ} → BodyRead bytes k filled most sizes stated rows (Refused c place)
     unfolding bind
     no-constraints {c} {place} e {stated = stated} {rows = rows} L told m =
         sheet-refused _ sizes stated rows c place (so-far .left L m ∙ rw (constraints-range n, e))
@@ -164,14 +164,14 @@ module _ (bytes : List ℕ) where
 
   module _
       {most n : ℕ} {sizes : List ℕ} {p from : ℕ} (so-far : Constrained bytes most n sizes p from)
-      {k : ℕ} {stated rows : List ℕ} {r : Read} (read : TablesRead bytes from k n p sizes stated rows r)
+      {k : ℕ} {filled : Bool} {stated rows : List ℕ} {r : Read} (read : TablesRead bytes from k filled n p sizes stated rows r)
     where
-      pub no-tables : {c : Cause} {place : ℕ} → r ≡ Refused c place → BodyRead bytes k most sizes stated rows (Refused c place)
+      pub no-tables : {c : Cause} {place : ℕ} → r ≡ Refused c place → BodyRead bytes k filled most sizes stated rows (Refused c place)
       unfolding bind
       no-tables {c} {place} q L told m =
           sheet-refused _ sizes stated rows c place (so-far .left L m ∙ rw (as-bad _ r _ c place (read .parsed L told) q))
 
-      pub tabled-all : {v end : ℕ} → r ≡ Value v end → Tabled bytes k most n sizes stated rows end
+      pub tabled-all : {v end : ℕ} → r ≡ Value v end → Tabled bytes k filled most n sizes stated rows end
       unfolding bind
       tabled-all {v} {end} q =
           record {
@@ -183,12 +183,12 @@ module _ (bytes : List ℕ) where
             left = λ L told m. so-far .left L m ∙ rw (as-got _ r _ v end (read .parsed L told) q);
           }
 
-  module _ {k most n : ℕ} {sizes stated rows : List ℕ} {end : ℕ} (so-far : Tabled bytes k most n sizes stated rows end) where
-    pub left-over : end < length bytes → BodyRead bytes k most sizes stated rows (Refused Extent end)
+  module _ {k : ℕ} {filled : Bool} {most n : ℕ} {sizes stated rows : List ℕ} {end : ℕ} (so-far : Tabled bytes k filled most n sizes stated rows end) where
+    pub left-over : end < length bytes → BodyRead bytes k filled most sizes stated rows (Refused Extent end)
     unfolding afterTables ended
     left-over h L told m = sheet-refused _ sizes stated rows Extent end (so-far .left L told m ∙ if-true _ _ _ (lt-ltb _ _ h))
 
-    pub body-read : length bytes ≤ end → BodyRead bytes k most sizes stated rows (Value n end)
+    pub body-read : length bytes ≤ end → BodyRead bytes k filled most sizes stated rows (Value n end)
     unfolding afterTables ended readAs
     body-read h L told m =
         record {
@@ -211,10 +211,11 @@ module _ (bytes : List ℕ) {sizes stated rows : List ℕ} where
 
   module _ (right : wrongLength bytes ≡ false) where
     -- Then 2.
-    pub into-wrong-version : (getD bytes 0 0 ≡ 1 → ⊥) → (getD bytes 0 0 ≡ 2 → ⊥) → SheetRead (parse bytes) sizes stated rows (Refused Version 0)
-    into-wrong-version h k = sheet-refused _ sizes stated rows Version 0 (parse-wrong-version bytes right (other-unknown _ h k))
+    pub into-wrong-version : (getD bytes 0 0 ≡ 1 → ⊥) → (getD bytes 0 0 ≡ 2 → ⊥) → (getD bytes 0 0 ≡ 3 → ⊥)
+        → SheetRead (parse bytes) sizes stated rows (Refused Version 0)
+    into-wrong-version h k l = sheet-refused _ sizes stated rows Version 0 (parse-wrong-version bytes right (other-unknown _ h k l))
 
     -- Then the fields, in the layout of the version.
-    pub into-body : (L : Layout) → layoutOf (getD bytes 0 0) ≡ found L → L .rowTest ≡ withinTest
-        → {r : Read} → BodyRead bytes (L .rowBytes) (L .mostValues) sizes stated rows r → SheetRead (parse bytes) sizes stated rows r
-    into-body L version test body = rw (parse-is-body bytes right L version) (body L (record { row-bytes = refl; row-test = test }) refl)
+    pub into-body : (L : Layout) → layoutOf (getD bytes 0 0) ≡ found L
+        → {r : Read} → BodyRead bytes (L .rowBytes) (L .filled) (L .mostValues) sizes stated rows r → SheetRead (parse bytes) sizes stated rows r
+    into-body L version body = rw (parse-is-body bytes right L version) (body L (record { row-bytes = refl; rows-filled = refl }) refl)

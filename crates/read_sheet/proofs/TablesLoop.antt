@@ -1,4 +1,5 @@
 -- One table, and the loop that reads them all.
+use mathlib.Core.Bool.{Bool}
 use mathlib.Core.List.{List, [], _∷_, _++_}
 use mathlib.Core.Path.{_≡_, refl, _∙_}
 use Prim.Native.Nat.{ℕ, suc, _+_, _-_, _*_, _/_, _%_, _≤_, _<_}
@@ -13,7 +14,7 @@ use Rattle.cause.specs.declared.Cause.{Cause}
 use Rattle.network.specs.Sheet.{Table}
 use Rattle.read_field.specs.declared.field.Read.{Read}
 use Rattle.read_field.specs.declared.field.Read.the-variants.{Value, Refused}
-use Rattle.format.specs.Layout.{Layout, pairTest, withinTest}
+use Rattle.format.specs.Layout.{Layout, pairTest, rowTest}
 use Rattle.format.specs.Parse.{got, bad, bind, field, fields, pairOf, sizeOf, parseTable, parseTables}
 use Rattle.format.proofs.Pairs.{pair-of-fine}
 use Rattle.read_field.specs.Fields.{readAs}
@@ -69,10 +70,10 @@ module _ {n : ℕ} {sizes : List ℕ} (sized : Sized n sizes) (few : n ≤ varia
   unfolding sizeOf
   taken-size x l m = getD-take n sizes (x - 1) 0 (omega arith)
 
-  module _ (bytes : List ℕ) (at k previous : ℕ) where
+  module _ (bytes : List ℕ) (at k : ℕ) (filled : Bool) (previous : ℕ) where
     -- The pair is refused.
     pub table-no-pair : {c : Cause} {place : ℕ} → field 2 (pairTest n previous) bytes at ≡ bad c place
-        → {stated rows : List ℕ} → TableRead bytes at k n previous sizes stated rows stated rows (Refused c place)
+        → {stated rows : List ℕ} → TableRead bytes at k filled n previous sizes stated rows stated rows (Refused c place)
     unfolding parseTable bind readAs
     table-no-pair {c} {place} e =
         record {
@@ -82,8 +83,8 @@ module _ {n : ℕ} {sizes : List ℕ} (sized : Sized n sizes) (few : n ≤ varia
         }
 
     module _ {pair next : ℕ} (e : field 2 (pairTest n previous) bytes at ≡ got pair next) where
-      table-is : (L : Layout) → RowsIn L k → parseTable L (take n sizes) previous bytes at
-          ≡ bind (fields k (withinTest (getD sizes (pair % 256 - 1) 0)) (getD sizes (pair / 256 - 1) 0) bytes next)
+      table-is : (L : Layout) → RowsIn L k filled → parseTable L (take n sizes) previous bytes at
+          ≡ bind (fields k (rowTest filled (getD sizes (pair % 256 - 1) 0)) (getD sizes (pair / 256 - 1) 0) bytes next)
           (λ rows end. got (record { first = pair / 256; second = pair % 256; rows = rows }) end)
       unfolding parseTable bind
       table-is L told =
@@ -94,16 +95,18 @@ module _ {n : ℕ} {sizes : List ℕ} (sized : Sized n sizes) (few : n ≤ varia
             taken-size (pair / 256) (p .first-in) (omega arith),
             taken-size (pair % 256) (omega arith) (p .second-in),
             told .row-bytes,
-            told .row-test,
+            told .rows-filled,
           )
 
       module _
           {rows rows′ : List ℕ} {r : Read}
-          (body : RowsRead k bytes next (pair / 256 - 1) (pair % 256 - 1) (getD sizes (pair / 256 - 1) 0) (getD sizes (pair % 256 - 1) 0) rows rows′ r)
+          (body :
+          RowsRead k (rowTest filled (getD sizes (pair % 256 - 1) 0)) bytes next (pair / 256 - 1) (pair % 256 - 1) (getD sizes (pair / 256 - 1) 0)
+          rows rows′ r)
         where
           -- A row is refused.
           pub table-no-rows : {c : Cause} {place : ℕ} → r ≡ Refused c place
-              → {stated : List ℕ} → TableRead bytes at k n previous sizes stated rows stated rows′ (Refused c place)
+              → {stated : List ℕ} → TableRead bytes at k filled n previous sizes stated rows stated rows′ (Refused c place)
           unfolding bind readAs
           table-no-rows {c} {place} q =
               record {
@@ -115,7 +118,7 @@ module _ {n : ℕ} {sizes : List ℕ} (sized : Sized n sizes) (few : n ≤ varia
           -- The table is read, and its pair stated from both sides.
           pub table-read : {v end : ℕ} → r ≡ Value v end → {stated stated₁ stated₂ : List ℕ}
               → stated₁ ≡ marked stated (pair / 256 - 1) (pair % 256 - 1) → stated₂ ≡ marked stated₁ (pair % 256 - 1) (pair / 256 - 1)
-              → TableRead bytes at k n previous sizes stated rows stated₂ rows′ (Value pair end)
+              → TableRead bytes at k filled n previous sizes stated rows stated₂ rows′ (Value pair end)
           unfolding bind readAs pairOf tableAt
           table-read {v} {end} q {stated} {stated₂} e₁ e₂ =
               let p = pair-in at sized e in
@@ -137,18 +140,18 @@ module _ {n : ℕ} {sizes : List ℕ} (sized : Sized n sizes) (few : n ≤ varia
               }
 
 -- The first t tables are held, and the next one stands at a place.
-pub record TablesSoFar (bytes : List ℕ) (from k n count : ℕ) (sizes stated rows : List ℕ) (at previous t : ℕ) : Type 0 where
+pub record TablesSoFar (bytes : List ℕ) (from k : ℕ) (filled : Bool) (n count : ℕ) (sizes stated rows : List ℕ) (at previous t : ℕ) : Type 0 where
   pub done : List Table
   pub within : t ≤ count
   pub ends : at ≤ length bytes
-  pub parsed : (L : Layout) → RowsIn L k → parseTables L (take n sizes) count 0 bytes from
+  pub parsed : (L : Layout) → RowsIn L k filled → parseTables L (take n sizes) count 0 bytes from
       ≡ prepend done (parseTables L (take n sizes) (count - t) previous bytes at)
   pub held : Held done previous stated rows
 
-pub tables-none : (bytes : List ℕ) (from k n count : ℕ) (sizes stated rows : List ℕ) → from ≤ length bytes
-    → stated ≡ replicate variables 0 → rows ≡ replicate 3840 0 → TablesSoFar bytes from k n count sizes stated rows from 0 0
+pub tables-none : (bytes : List ℕ) (from k : ℕ) (filled : Bool) (n count : ℕ) (sizes stated rows : List ℕ) → from ≤ length bytes
+    → stated ≡ replicate variables 0 → rows ≡ replicate 3840 0 → TablesSoFar bytes from k filled n count sizes stated rows from 0 0
 unfolding parseTables
-tables-none bytes from k n count sizes stated rows h e d =
+tables-none bytes from k filled n count sizes stated rows h e d =
     record {
       done = [];
       within = omega arith;
@@ -158,10 +161,10 @@ tables-none bytes from k n count sizes stated rows h e d =
     }
 
 module _
-    {bytes : List ℕ} {from k n count : ℕ} {sizes stated rows : List ℕ} {at previous t : ℕ}
-    (so-far : TablesSoFar bytes from k n count sizes stated rows at previous t)
+    {bytes : List ℕ} {from k : ℕ} {filled : Bool} {n count : ℕ} {sizes stated rows : List ℕ} {at previous t : ℕ}
+    (so-far : TablesSoFar bytes from k filled n count sizes stated rows at previous t)
   where
-    pub tables-end : count ≤ t → TablesRead bytes from k n count sizes stated rows (Value count at)
+    pub tables-end : count ≤ t → TablesRead bytes from k filled n count sizes stated rows (Value count at)
     unfolding parseTables readAs
     tables-end h =
         record {
@@ -171,8 +174,8 @@ module _
           held = λ v next q. so-far .held;
         }
 
-    module _ (one-left : t < count) {stated′ rows′ : List ℕ} {r : Read} (read : TableRead bytes at k n previous sizes stated rows stated′ rows′ r) where
-      pub tables-more : {pair next : ℕ} → r ≡ Value pair next → TablesSoFar bytes from k n count sizes stated′ rows′ next pair (t + 1)
+    module _ (one-left : t < count) {stated′ rows′ : List ℕ} {r : Read} (read : TableRead bytes at k filled n previous sizes stated rows stated′ rows′ r) where
+      pub tables-more : {pair next : ℕ} → r ≡ Value pair next → TablesSoFar bytes from k filled n count sizes stated′ rows′ next pair (t + 1)
       unfolding parseTables readAs
       tables-more {pair} {next} q =
           let s = read .stored pair next q in
@@ -187,7 +190,7 @@ module _
             held = s .held (so-far .done) (so-far .held);
           }
 
-      pub tables-refused : {c : Cause} {place : ℕ} → r ≡ Refused c place → TablesRead bytes from k n count sizes stated′ rows′ (Refused c place)
+      pub tables-refused : {c : Cause} {place : ℕ} → r ≡ Refused c place → TablesRead bytes from k filled n count sizes stated′ rows′ (Refused c place)
       unfolding parseTables readAs
       tables-refused {c} {place} q =
           record {

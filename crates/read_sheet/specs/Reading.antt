@@ -13,14 +13,14 @@ use Rattle.pairs.specs.Pairs.{variables, allowsOf, rowsOf}
 use Rattle.pairs.specs.Frames.{Words}
 use Rattle.read_field.specs.declared.field.Read.{Read}
 use Rattle.read_field.specs.declared.field.Read.the-variants.{Value}
-use Rattle.format.specs.Layout.{Layout, sizeTest, withinTest}
+use Rattle.format.specs.Layout.{Layout, sizeTest}
 use Rattle.format.specs.Parse.{Parse, fields, pairOf, parseTable, parseTables}
 use Rattle.read_field.specs.Fields.{readAs}
 
--- What reading is told of a layout's rows: how many bytes each has. Its test of a row is that no bit is at or above the size.
-pub record RowsIn (L : Layout) (k : ℕ) : Type 0 where
+-- What reading is told of a layout's rows: how many bytes each has, and whether one may be all-zero.
+pub record RowsIn (L : Layout) (k : ℕ) (filled : Bool) : Type 0 where
   pub row-bytes : L .rowBytes ≡ k
-  pub row-test : L .rowTest ≡ withinTest
+  pub rows-filled : L .filled ≡ filled
 
 -- An array of at most n sizes, 0 past them.
 pub record Sized (n : ℕ) (sizes : List ℕ) : Type 0 where
@@ -60,15 +60,15 @@ pub record TableStored (bytes : List ℕ) (previous : ℕ) (table : Table) (stat
   pub held : (ts : List Table) → Held ts previous stated rows → Held (ts ++ (table ∷ [])) pair stated′ rows′
 
 -- A table parsed, in every layout of such rows; where it is not refused, it is stored.
-pub record TableRead (bytes : List ℕ) (at k n previous : ℕ) (sizes stated rows stated′ rows′ : List ℕ) (r : Read) : Type 0 where
+pub record TableRead (bytes : List ℕ) (at k : ℕ) (filled : Bool) (n previous : ℕ) (sizes stated rows stated′ rows′ : List ℕ) (r : Read) : Type 0 where
   pub table : Table
-  pub parsed : (L : Layout) → RowsIn L k → parseTable L (take n sizes) previous bytes at ≡ readAs r table
+  pub parsed : (L : Layout) → RowsIn L k filled → parseTable L (take n sizes) previous bytes at ≡ readAs r table
   pub stored : (pair next : ℕ) → r ≡ Value pair next → TableStored bytes previous table stated rows stated′ rows′ pair next
 
 -- All tables parsed, and where none is refused, the arrays hold them.
-pub record TablesRead (bytes : List ℕ) (from k n count : ℕ) (sizes stated rows : List ℕ) (r : Read) : Type 0 where
+pub record TablesRead (bytes : List ℕ) (from k : ℕ) (filled : Bool) (n count : ℕ) (sizes stated rows : List ℕ) (r : Read) : Type 0 where
   pub tables : List Table
-  pub parsed : (L : Layout) → RowsIn L k → parseTables L (take n sizes) count 0 bytes from ≡ readAs r tables
+  pub parsed : (L : Layout) → RowsIn L k filled → parseTables L (take n sizes) count 0 bytes from ≡ readAs r tables
   pub last : ℕ
   pub held : (v next : ℕ) → r ≡ Value v next → Held tables last stated rows
 

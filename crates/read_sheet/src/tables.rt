@@ -1,4 +1,4 @@
-// The tables of a sheet, stored as they are read. Their rows have `k` bytes each.
+// The tables of a sheet, stored as they are read. Their rows have `k` bytes each, and must be `filled`, or need not.
 ghost use mathlib.Core.Path.{_≡_};
 ghost use Prim.Native.Nat.{_<_, _≤_};
 ghost use lib.ListN.{length, replicate};
@@ -22,6 +22,7 @@ fn read_table(
     bytes: &[u8],
     at: usize,
     k: usize,
+    filled: bool,
     n: usize,
     previous: usize,
     sizes: &[u8; VARIABLES],
@@ -29,7 +30,7 @@ fn read_table(
     rows: &mut Rows,
 ) -> Read
     requires { ⌜ (at ≤ length (now bytes)) × RowBytes k × (n ≤ variables) × (length (now rows) ≡ 3840) × Sized n (now sizes) ⌝ }
-    ensures { λ r. ⌜ TableRead (now (bytes .entry)) at k n previous (now (sizes .entry))
+    ensures { λ r. ⌜ TableRead (now (bytes .entry)) at k filled n previous (now (sizes .entry))
         (now (stated .entry)) (now (rows .entry)) (now (stated .exit)) (now (rows .exit)) r ⌝ }
 {
     let head = read_field::pair_field(bytes, at, n, previous);
@@ -46,6 +47,7 @@ fn read_table(
         j,
         sizes[i] as usize,
         sizes[j] as usize,
+        filled,
         rows,
     );
     let Read::Value(_, end) = body else {
@@ -61,6 +63,7 @@ pub fn read_tables(
     bytes: &[u8],
     from: usize,
     k: usize,
+    filled: bool,
     n: usize,
     count: usize,
     sizes: &[u8; VARIABLES],
@@ -68,12 +71,12 @@ pub fn read_tables(
     rows: &mut Rows,
 ) -> Read
     requires { ⌜ (from ≤ length (now bytes)) × RowBytes k × (n ≤ variables) × (now stated ≡ replicate variables 0) × (now rows ≡ replicate 3840 0) × Sized n (now sizes) ⌝ }
-    ensures { λ r. ⌜ TablesRead (now (bytes .entry)) from k n count (now (sizes .entry)) (now (stated .exit)) (now (rows .exit)) r ⌝ }
+    ensures { λ r. ⌜ TablesRead (now (bytes .entry)) from k filled n count (now (sizes .entry)) (now (stated .exit)) (now (rows .exit)) r ⌝ }
 {
     let mut at = from;
     let mut previous = 0;
     for _ in 0..count {
-        let table = read_table(bytes, at, k, n, previous, sizes, stated, rows);
+        let table = read_table(bytes, at, k, filled, n, previous, sizes, stated, rows);
         let Read::Value(pair, next) = table else {
             return table;
         };

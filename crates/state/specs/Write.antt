@@ -1,4 +1,5 @@
--- Writing: "the writer tests 9, 18, 17", and document 02: "The writer is told the version", and refuses with 24 "after 18 and before 17".
+-- Writing: "the writer tests 9, 18, 17", and document 02: "The writer is told the version", and refuses with 24 "after 18 and before 17" and
+-- with 26 "after 24 and before 17".
 use mathlib.Core.List.{List, _++_}
 use Prim.Native.Nat.{ℕ}
 use lib.Dec.{ltb}
@@ -7,7 +8,7 @@ use Rattle.bounded.specs.Bool.{not, if}
 use Rattle.network.specs.Sheet.{sheetOf, fresh}
 use Rattle.format.specs.Layout.{layoutOf}
 use Rattle.format.specs.Print.{printIn}
-use Rattle.format.specs.Writable.{fitsVersion}
+use Rattle.format.specs.Writable.{fitsVersion, rowsPass}
 use Rattle.state.specs.declared.state.State.{State}
 use Rattle.state.specs.View.{view, soundState}
 use Rattle.answers.specs.Answers.{WriteTold}
@@ -22,8 +23,9 @@ writeRefusal version s space =
     if (not (soundState s)) 9
     (if (not (fresh (view s))) 18
     (if (not (fitsVersion (layoutOf version) (view s))) 24
+    (if (not (rowsPass (layoutOf version) (view s))) 26
     (if (ltb space (length (sheetBytes version s))) 17
-    0)))
+    0))))
 
 -- What is answered, and the buffer at exit: "The writer returns the sheet's length and leaves bytes past its end untouched";
 -- a refusal leaves the buffer as it was.

@@ -22,12 +22,12 @@ use Rattle.format.specs.Layout.{version1, largestIn, found, layoutAmong}
 use Rattle.format.specs.Parse.{Octets, Parse, got, bad, wrongUnder, parseIn, parseUnder, parse}
 use Rattle.format.proofs.Layouts.{version1-found}
 use Rattle.format.proofs.Lengths.{size-most}
-use Rattle.format.proofs.Versions.{as-before-version2, long-before, too-long-for-version}
+use Rattle.format.proofs.Versions.{as-before-version2, as-before-version3, long-before, too-long-for-version}
 use Rattle.state.specs.declared.state.State.{State}
 use Rattle.state.specs.View.{view, pack}
 use Rattle.state.specs.Answers.{ReadTold}
 use Rattle.state.specs.Read.{readAs, readSheet}
-use Rattle.state_read.specs.Before.{parseBefore, InWordsOf, AsBefore, Version1AsBefore}
+use Rattle.state_read.specs.Before.{parseBefore, InWordsOf, AsBefore, Version1AsBefore, OthersAsBefore}
 use Rattle.state_read.proofs.RoundTrip.{accepted, got-accepted, read-got}
 
 -- A word whose members are all below w is the same number in w bits.
@@ -83,7 +83,8 @@ module _ (bytes : List ℕ) where
 
     got-now : parse bytes ≡ got s next
     unfolding parseBefore
-    got-now = as-before-version2 bytes was-short (λ t. let x : ⊥ = omega (arith, was-version1) in x) ∙ e
+    got-now =
+        as-before-version2 bytes was-short (λ t. let x : ⊥ = omega (arith, was-version1) in x) (λ t. let x : ⊥ = omega (arith, was-version1) in x) ∙ e
 
   module _ (octets : Octets bytes) where
     still : (s : Sheet) (next : ℕ) → parseBefore bytes ≡ got s next
@@ -107,7 +108,7 @@ module _ (bytes : List ℕ) where
         let short : length bytes ≤ 4101 = by-cases (ltb 4101 (length bytes))
         (λ t. absurd (too-long-for-version bytes octets version1 (version1-found _ v) (ltb-true _ _ t) s _ (A .got-sheet)))
         (ltb-false _ _) in
-        (s, sym (as-before-version2 bytes short (λ t. let x : ⊥ = omega arith in x)) ∙ A .got-sheet)
+        (s, sym (as-before-version2 bytes short (λ t. let x : ⊥ = omega arith in x) (λ t. let x : ⊥ = omega arith in x)) ∙ A .got-sheet)
 
 pub version1-as-before : Version1AsBefore
 unfolding Version1AsBefore readSheet parseBefore
@@ -115,5 +116,9 @@ version1-as-before bytes octets =
     record {
       accepted-still = still bytes octets;
       no-more = none-more bytes octets;
-      answered = λ h other. ap readAs (as-before-version2 bytes h other);
+      answered = λ h two three. ap readAs (as-before-version2 bytes h two three);
     }
+
+pub others-as-before : OthersAsBefore
+unfolding OthersAsBefore readSheet
+others-as-before bytes three = ap readAs (as-before-version3 bytes three)

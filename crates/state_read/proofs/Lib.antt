@@ -1,3 +1,4 @@
 pub mod Reading
 pub mod RoundTrip
 pub mod Before
+pub mod Beside

@@ -23,22 +23,22 @@ use Rattle.network.proofs.SheetOf.{fresh-leader, fresh-domain, networkOf-fresh,
 use Rattle.pairs.specs.Pairs.{variables}
 use Rattle.head.specs.Held.{held}
 use Rattle.head.proofs.Held.{Packed, pack-sound, held-n}
-use Rattle.format.specs.Layout.{layoutOf}
+use Rattle.format.specs.Layout.{version2, found, layoutOf}
 use Rattle.format.specs.Parse.{Octets, Parse, got, bad, parse}
 use Rattle.format.specs.Print.{print, printIn}
-use Rattle.format.specs.Writable.{fitsVersion}
+use Rattle.format.specs.Writable.{fitsVersion, filledIn, rowsPass}
 use Rattle.format.specs.Builds.{isBuild}
 use Rattle.format.proofs.Layouts.{found-version, version2-found}
 use Rattle.format.proofs.RoundTrip.{SheetRead, parsed, parse-of-print}
 use Rattle.format.proofs.SheetOf.{wellformed-fits, wellformed-sound, wellformed-n, wellformed-size}
-use Rattle.format.proofs.Writable.{fits-takes, parse-of-written, read-fits, written-of-parse, read-fits-version2}
+use Rattle.format.proofs.Writable.{fits-takes, parse-of-written, read-fits, written-of-parse, read-fits-version2, plain-pass}
 use Rattle.format.proofs.Builds.{builds-solve, options-are, option-sizes-are, tables-are, rows-are-read}
 use Rattle.state.specs.declared.state.State.{State}
 use Rattle.state.specs.View.{view, pack, zeroState, soundState}
 use Rattle.state.specs.Answers.{ReadTold}
 use Rattle.state.specs.Read.{readAs, readSheet}
 use Rattle.state.specs.Write.{Wrote, sheetBytes, writeRefusal, writeAs, writeSheet}
-use Rattle.state_read.specs.RoundTrip.{AcceptedExactly, ReadTables, ReadOfWrite, WriteOfRead, ReadInVersion2}
+use Rattle.state_read.specs.RoundTrip.{AcceptedExactly, ReadTables, ReadOfWrite, WriteOfRead, ReadInVersion, ReadInVersion2}
 use Rattle.state.proofs.View.{Shaped, pack-view, state-sound, packed-view, packed-state, packed-shaped}
 
 -- Reading, case by case.
@@ -126,7 +126,7 @@ module _ (bytes : List ℕ) (octets : Octets bytes) where
         let (s, A) = accepted h in
         ap (λ (N : Network). solves N f) (A .view-is) ∙ sym (builds-solve bytes octets s (length bytes) (A .got-sheet) f)
 
--- The writer's refusal, case by case: "the writer tests 9, 18, 17", and 24 "after 18 and before 17".
+-- The writer's refusal, case by case: "the writer tests 9, 18, 17", 24 "after 18 and before 17", and 26 "after 24 and before 17".
 module _ (version : ℕ) (s : State) (space : ℕ) where
   pub write-unsound : soundState s ≡ false → writeRefusal version s space ≡ 9
   unfolding writeRefusal
@@ -143,25 +143,34 @@ module _ (version : ℕ) (s : State) (space : ℕ) where
       write-not-in-version v = if-false _ _ _ (not-false-i _ h) ∙ if-false _ _ _ (not-false-i _ f) ∙ if-true _ _ _ (not-i _ v)
 
       module _ (v : fitsVersion (layoutOf version) (view s) ≡ true) where
-        -- What is left to test is the room.
-        write-tested : writeRefusal version s space ≡ if (ltb space (length (sheetBytes version s))) 17 0
+        pub write-blank-row : rowsPass (layoutOf version) (view s) ≡ false → writeRefusal version s space ≡ 26
         unfolding writeRefusal
-        write-tested = if-false _ _ _ (not-false-i _ h) ∙ if-false _ _ _ (not-false-i _ f) ∙ if-false _ _ _ (not-false-i _ v)
+        write-blank-row p =
+            if-false _ _ _ (not-false-i _ h) ∙ if-false _ _ _ (not-false-i _ f) ∙ if-false _ _ _ (not-false-i _ v) ∙ if-true _ _ _ (not-i _ p)
 
-        pub write-no-room : space < length (sheetBytes version s) → writeRefusal version s space ≡ 17
-        write-no-room l = write-tested ∙ if-true _ _ _ (lt-ltb _ _ l)
+        module _ (p : rowsPass (layoutOf version) (view s) ≡ true) where
+          -- What is left to test is the room.
+          write-tested : writeRefusal version s space ≡ if (ltb space (length (sheetBytes version s))) 17 0
+          unfolding writeRefusal
+          write-tested =
+              if-false _ _ _ (not-false-i _ h) ∙ if-false _ _ _ (not-false-i _ f) ∙ if-false _ _ _ (not-false-i _ v) ∙ if-false _ _ _ (not-false-i _ p)
 
-        pub write-accepted : length (sheetBytes version s) ≤ space → writeRefusal version s space ≡ 0
-        write-accepted l = write-tested ∙ if-false _ _ _ (le-ltb _ _ l)
+          pub write-no-room : space < length (sheetBytes version s) → writeRefusal version s space ≡ 17
+          write-no-room l = write-tested ∙ if-true _ _ _ (lt-ltb _ _ l)
+
+          pub write-accepted : length (sheetBytes version s) ≤ space → writeRefusal version s space ≡ 0
+          write-accepted l = write-tested ∙ if-false _ _ _ (le-ltb _ _ l)
 
   -- Only a sound and fresh state that fits the version is written.
   pub written-fresh : writeRefusal version s space ≡ 0
-      → (soundState s ≡ true) × (fresh (view s) ≡ true) × (fitsVersion (layoutOf version) (view s) ≡ true)
+      → (soundState s ≡ true) × (fresh (view s) ≡ true) × (fitsVersion (layoutOf version) (view s) ≡ true) × (rowsPass (layoutOf version) (view s) ≡ true)
   written-fresh e =
       by-cases (soundState s)
       (λ h. by-cases (fresh (view s))
       (λ f. by-cases (fitsVersion (layoutOf version) (view s))
-      (λ v. (h, f, v))
+      (λ v. by-cases (rowsPass (layoutOf version) (view s))
+      (λ p. (h, f, v, p))
+      (λ p. absurd (let x : ⊥ = omega (arith, write-blank-row h f v p) in x)))
       (λ v. absurd (let x : ⊥ = omega (arith, write-not-in-version h f v) in x)))
       (λ f. absurd (let x : ⊥ = omega (arith, write-not-fresh h f) in x)))
       (λ h. absurd (let x : ⊥ = omega (arith, write-unsound h) in x))
@@ -191,19 +200,19 @@ module _ (version : ℕ) (s : State) (buffer : List ℕ) where
       (λ t. omega (arith, ltb-false 0 (writeRefusal version s (length buffer)) t))
 
 -- Byte 0 of what is written is the version.
-sheet-version : (version : ℕ) (s : State) → Shaped s → soundState s ≡ true → fitsVersion (layoutOf version) (view s) ≡ true → (rest : List ℕ)
-    → getD (sheetBytes version s ++ rest) 0 0 ≡ version
+sheet-version : (version : ℕ) (s : State) → Shaped s → soundState s ≡ true → fitsVersion (layoutOf version) (view s) ≡ true
+    → rowsPass (layoutOf version) (view s) ≡ true → (rest : List ℕ) → getD (sheetBytes version s ++ rest) 0 0 ≡ version
 unfolding sheetBytes printIn print
-sheet-version version s h t v rest = let (L, e, _) = fits-takes (view s) (state-sound s h t) version v in rw e (sym (found-version version L e))
+sheet-version version s h t v p rest = let (L, e, _) = fits-takes (view s) (state-sound s h t) version v p in rw e (sym (found-version version L e))
 
 -- The bytes of what is written read back as the state.
 read-sheetBytes : (version : ℕ) (s : State) → Shaped s → (space : ℕ) → writeRefusal version s space ≡ 0
     → readSheet (sheetBytes version s) ≡ record { number = 0; place = 0; state = s }
 unfolding sheetBytes held
 read-sheetBytes version s h space e =
-    let (t, F, v) = written-fresh version s space e in
+    let (t, F, v, p) = written-fresh version s space e in
     let S = state-sound s h t in
-    read-got (sheetBytes version s) (sheetOf (view s)) _ (parse-of-written (view s) S version v (held-n _ (s .rows) t))
+    read-got (sheetBytes version s) (sheetOf (view s)) _ (parse-of-written (view s) S version v p (held-n _ (s .rows) t))
     ∙ ap (λ (u : State). record { number = 0; place = 0; state = u }) (ap pack (networkOf-sheetOf (view s) S F) ∙ pack-view s h)
 
 pub read-of-write : ReadOfWrite
@@ -223,13 +232,14 @@ module _ (bytes : List ℕ) (octets : Octets bytes) (h : readSheet bytes .number
       let (s, A) = accepted bytes octets h in
       ap (λ (N : Network). printIn (layoutOf (getD bytes 0 0)) (sheetOf N)) (A .view-is) ∙ written-of-parse bytes octets s _ (A .got-sheet)
 
-  -- It is written in every version that it fits, given the room.
+  -- It is written in every version whose tests it passes, given the room.
   read-accepted : (version space : ℕ) → fitsVersion (layoutOf version) (view (readSheet bytes .state)) ≡ true
+      → rowsPass (layoutOf version) (view (readSheet bytes .state)) ≡ true
       → length (sheetBytes version (readSheet bytes .state)) ≤ space
       → writeRefusal version (readSheet bytes .state) space ≡ 0
-  read-accepted version space v l =
+  read-accepted version space v p l =
       let r = read-sound bytes octets h in
-      write-accepted version (readSheet bytes .state) space (r .is-sound) (r .is-fresh) v l
+      write-accepted version (readSheet bytes .state) space (r .is-sound) (r .is-fresh) v p l
 
 pub write-of-read : WriteOfRead
 unfolding WriteOfRead
@@ -237,8 +247,9 @@ write-of-read bytes octets h buffer l =
     let (s, A) = accepted bytes octets h in
     let v = getD bytes 0 0 in
     let same = sheetBytes-of-read bytes octets h in
-    let fits : fitsVersion (layoutOf v) (view (readSheet bytes .state)) ≡ true = rw (A .view-is) (read-fits bytes octets s _ (A .got-sheet)) in
-    let e = rw same at (wrote v (readSheet bytes .state) buffer (read-accepted bytes octets h v (length buffer) fits (rw same l))) in
+    let fits : fitsVersion (layoutOf v) (view (readSheet bytes .state)) ≡ true = rw (A .view-is) (read-fits bytes octets s _ (A .got-sheet) .0) in
+    let rows : rowsPass (layoutOf v) (view (readSheet bytes .state)) ≡ true = rw (A .view-is) (read-fits bytes octets s _ (A .got-sheet) .1) in
+    let e = rw same at (wrote v (readSheet bytes .state) buffer (read-accepted bytes octets h v (length buffer) fits rows (rw same l))) in
     rw e
     (record {
       not-refused = refl;
@@ -247,21 +258,30 @@ write-of-read bytes octets h buffer l =
       rest-untouched = drop-append-seam bytes (drop (length bytes) buffer);
     })
 
-pub read-in-version2 : ReadInVersion2
-unfolding ReadInVersion2 ReadOfWrite
-read-in-version2 bytes octets h buffer l =
-    let (s, A) = accepted bytes octets h in
+pub read-in-version : ReadInVersion
+unfolding ReadInVersion ReadOfWrite
+read-in-version version bytes octets h fits rows buffer l =
     let t = readSheet bytes .state in
     let r = read-sound bytes octets h in
-    let fits : fitsVersion (layoutOf 2) (view t) ≡ true =
-    rw (version2-found 2 refl, A .view-is) (read-fits-version2 bytes octets s _ (A .got-sheet)) in
-    let e = wrote 2 t buffer (read-accepted bytes octets h 2 (length buffer) fits l) in
-    let n : writeSheet 2 t buffer .answer .number ≡ 0 = ap (λ (w : Wrote). w .answer .number) e in
+    let e = wrote version t buffer (read-accepted bytes octets h version (length buffer) fits rows l) in
+    let n : writeSheet version t buffer .answer .number ≡ 0 = ap (λ (w : Wrote). w .answer .number) e in
     record {
       not-refused = n;
-      its-version = ap (λ (w : Wrote). getD (w .buffer) 0 0) e ∙ sheet-version 2 t (r .read-shaped) (r .is-sound) fits (drop (length (sheetBytes 2 t)) buffer);
-      reads-back = read-of-write 2 t (r .read-shaped) buffer n;
+      its-version =
+          ap (λ (w : Wrote). getD (w .buffer) 0 0) e
+          ∙ sheet-version version t (r .read-shaped) (r .is-sound) fits rows (drop (length (sheetBytes version t)) buffer);
+      reads-back = read-of-write version t (r .read-shaped) buffer n;
     }
+
+pub read-in-version2 : ReadInVersion2
+unfolding ReadInVersion2 ReadInVersion filledIn version2
+read-in-version2 bytes octets h buffer l =
+    let (s, A) = accepted bytes octets h in
+    let two = version2-found 2 refl in
+    read-in-version 2 bytes octets h
+    (rw (two, A .view-is) (read-fits-version2 bytes octets s _ (A .got-sheet)))
+    (rw two (plain-pass (found version2) refl (view (readSheet bytes .state))))
+    buffer l
 
 pub accepted-exactly : AcceptedExactly
 unfolding AcceptedExactly

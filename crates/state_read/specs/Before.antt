@@ -8,7 +8,7 @@ use Rattle.words.specs.Word.{width, word}
 use Rattle.network.specs.Network.{Network}
 use Rattle.network.specs.Sheet.{Sheet, networkOf}
 use Rattle.pairs.specs.Pairs.{variables, allowsOf}
-use Rattle.format.specs.Layout.{version1}
+use Rattle.format.specs.Layout.{longest, version1, version2}
 use Rattle.format.specs.Parse.{Octets, Parse, got, parseUnder}
 use Rattle.state.specs.declared.state.State.{State}
 use Rattle.state.specs.Read.{readAs, readSheet}
@@ -29,12 +29,17 @@ pub record InWordsOf (w : ℕ) (N : Network) (s : State) : Type 0 where
   pub no-row-above : (i j a : ℕ) → w ≤ a → word width (allowsOf width (s .rows) i j a) ≡ 0
 
 -- A sheet that was accepted is accepted, and its state has the numbers that it had. No other sheet of version 1 is accepted. Up to the limit of before every
--- answer is the one of before, but where the version is 2.
+-- answer is the one of before, but where the version is 2 or 3.
 pub record AsBefore (bytes : List ℕ) : Type 0 where
   pub accepted-still : (s : Sheet) (next : ℕ) → parseBefore bytes ≡ got s next
       → (readSheet bytes .number ≡ 0) × InWordsOf 16 (networkOf s) (readSheet bytes .state)
   pub no-more : readSheet bytes .number ≡ 0 → getD bytes 0 0 ≡ 1 → (s : Sheet) × (parseBefore bytes ≡ got s (length bytes))
-  pub answered : length bytes ≤ 4101 → (getD bytes 0 0 ≡ 2 → ⊥) → readSheet bytes ≡ readAs (parseBefore bytes)
+  pub answered : length bytes ≤ 4101 → (getD bytes 0 0 ≡ 2 → ⊥) → (getD bytes 0 0 ≡ 3 → ⊥) → readSheet bytes ≡ readAs (parseBefore bytes)
 
 unfoldable pub Version1AsBefore : Type 0
 Version1AsBefore = (bytes : List ℕ) → Octets bytes → AsBefore bytes
+
+-- "Versions 1 and 2 go on allowing it": where the version is not 3 every answer, its state included, is the one of before, when there were versions 1 and 2.
+unfoldable pub OthersAsBefore : Type 0
+OthersAsBefore =
+    (bytes : List ℕ) → (getD bytes 0 0 ≡ 3 → ⊥) → readSheet bytes ≡ readAs (parseUnder longest (version1 ∷ version2 ∷ []) bytes)

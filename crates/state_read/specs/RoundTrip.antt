@@ -14,6 +14,7 @@ use Rattle.format.specs.Layout.{Layout, found, layoutOf}
 use Rattle.format.specs.Parse.{Octets}
 use Rattle.format.specs.Print.{print}
 use Rattle.format.specs.WellFormed.{WellFormed}
+use Rattle.format.specs.Writable.{fitsVersion, rowsPass}
 use Rattle.format.specs.Builds.{options, optionSize, tableRow, tablePlace, hasTable}
 use Rattle.state.specs.declared.state.State.{State}
 use Rattle.state.specs.View.{Shaped, view}
@@ -70,7 +71,15 @@ pub record WrittenIn (version : ℕ) (s : State) (w : Wrote) : Type 0 where
   pub its-version : getD (w .buffer) 0 0 ≡ version
   pub reads-back : readSheet (take (w .answer .length) (w .buffer)) ≡ record { number = 0; place = 0; state = s }
 
--- Every sheet just read, one of version 1 too, may be written in version 2, into enough space.
+-- A sheet just read may be written in every version that has its sizes and allows its rows, into enough space.
+unfoldable pub ReadInVersion : Type 0
+ReadInVersion =
+    (version : ℕ) (bytes : List ℕ) → Octets bytes → readSheet bytes .number ≡ 0
+    → fitsVersion (layoutOf version) (view (readSheet bytes .state)) ≡ true → rowsPass (layoutOf version) (view (readSheet bytes .state)) ≡ true
+    → (buffer : List ℕ) → length (sheetBytes version (readSheet bytes .state)) ≤ length buffer
+    → WrittenIn version (readSheet bytes .state) (writeSheet version (readSheet bytes .state) buffer)
+
+-- In version 2 every one, one of version 1 or 3 too.
 unfoldable pub ReadInVersion2 : Type 0
 ReadInVersion2 =
     (bytes : List ℕ) → Octets bytes → readSheet bytes .number ≡ 0 → (buffer : List ℕ)

@@ -21,7 +21,7 @@ use Rattle.network.specs.Sheet.{fresh}
 use Rattle.head.specs.Held.{HeadShaped, held}
 use Rattle.head.proofs.Held.{held-sound, held-size}
 use Rattle.format.specs.Layout.{layoutOf}
-use Rattle.format.specs.Writable.{fitsVersion}
+use Rattle.format.specs.Writable.{fitsVersion, rowsPass}
 use Rattle.write_sheet.specs.Writing.{bytesHeld}
 use Rattle.solutions.specs.Choices.{freshValue, freshParts}
 use Rattle.answers.specs.declared.WriteAnswer.the-variants as writeAnswer
@@ -59,11 +59,12 @@ module _ (version : ℕ) (s : State) (buffer : List ℕ) where
 
   -- Otherwise the bytes are written, and their length is answered.
   pub written-told : (k : ℕ) (after : List ℕ) → soundState s ≡ true → fresh (view s) ≡ true → fitsVersion (layoutOf version) (view s) ≡ true
+      → rowsPass (layoutOf version) (view s) ≡ true
       → length (bytesHeld version (headIn s) (s .rows)) ≤ length buffer
       → k ≡ length (bytesHeld version (headIn s) (s .rows))
       → after ≡ bytesHeld version (headIn s) (s .rows) ++ drop (length (bytesHeld version (headIn s) (s .rows))) buffer
       → (writeTold (writeAnswer.Length k) ≡ writeSheet version s buffer .answer) × (after ≡ writeSheet version s buffer .buffer)
   unfolding writeTold bytesHeld sheetBytes
-  written-told k after t f v l e a =
-      let w = wrote version s buffer (write-accepted version s (length buffer) t f v l) in
+  written-told k after t f v p l e a =
+      let w = wrote version s buffer (write-accepted version s (length buffer) t f v p l) in
       (rw e (sym (ap (λ (r : Wrote). r .answer) w)), a ∙ sym (ap (λ (r : Wrote). r .buffer) w))

@@ -7,6 +7,7 @@ use solutions::fresh_parts;
 use soundness::sound_parts;
 use write_sheet::fits_version;
 use write_sheet::fixed_by;
+use write_sheet::rows_pass;
 use write_sheet::sheet_length;
 use write_sheet::write_into;
 ghost use mathlib.Core.Path.{_≡_};
@@ -14,8 +15,8 @@ ghost use Rattle.answers.specs.Answers.{writeTold};
 ghost use Rattle.state.specs.View.{stateOf};
 ghost use Rattle.state.specs.Write.{writeSheet};
 
-// Writes the sheet of a state as just read into a lent buffer, in the version that it is told: "the writer tests 9, 18, 17", and 24 "after 18 and before 17".
-// A refusal writes nothing.
+// Writes the sheet of a state as just read into a lent buffer, in the version that it is told: "the writer tests 9, 18, 17", 24 "after 18 and before 17", and
+// 26 "after 24 and before 17". A refusal writes nothing.
 pub fn write_parts(head: Head, rows: &Rows, version: usize, buffer: &mut [u8]) -> WriteAnswer
     ensures { λ r. ⌜ (writeTold r ≡ writeSheet version (stateOf head (now (rows .entry))) (now (buffer .entry)) .answer)
         × (now (buffer .exit) ≡ writeSheet version (stateOf head (now (rows .entry))) (now (buffer .entry)) .buffer) ⌝ }
@@ -26,6 +27,7 @@ pub fn write_parts(head: Head, rows: &Rows, version: usize, buffer: &mut [u8]) -
     let n = head.n;
     let fresh = fresh_parts(head);
     let fits = fits_version(version, n, &head.sizes);
+    let passes = rows_pass(head, rows, version);
     let bytes = fixed_by(version).bytes;
     let length = sheet_length(bytes, n, &head.sizes, &head.stated);
     if !fresh {
@@ -33,6 +35,9 @@ pub fn write_parts(head: Head, rows: &Rows, version: usize, buffer: &mut [u8]) -
     }
     if !fits {
         return WriteAnswer::Refused(Cause::NotInVersion);
+    }
+    if !passes {
+        return WriteAnswer::Refused(Cause::BlankRow);
     }
     if buffer.len() < length {
         return WriteAnswer::Refused(Cause::BufferLength);

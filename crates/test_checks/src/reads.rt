@@ -105,23 +105,35 @@ pub fn check_written(bytes: &[u8], state: State, tally: &mut Counts) {
     check_unwritten(state, version, 0, 17, tally);
 }
 
-// In the other version, where every size fits it, the state has other bytes, which are read as the same state.
-fn check_other(bytes: &[u8], state: State, tally: &mut Counts) {
-    if versions::has_great_size(bytes) {
+// The judge says 26 of the bytes.
+fn is_blank(bytes: &[u8]) -> bool {
+    let judged = judge::judge(bytes);
+    judged.number == 26
+}
+
+// In another version the state has other bytes, which are read as the same state: where every size fits it, and it does not ban a row.
+fn check_in(bytes: &[u8], state: State, version: u8, tally: &mut Counts) {
+    if (version == 1) & versions::has_great_size(bytes) {
         check_refused(state, 1, 24, tally);
         return;
     }
-    let other = versions::rewritten(bytes);
+    let other = versions::rewritten(bytes, version);
     let made = other.bytes;
     let written = families::first(&made, other.length);
+    if is_blank(written) {
+        check_refused(state, version as usize, 26, tally);
+        return;
+    }
     check_written(written, state, tally);
     let reading = check(written, tally);
     tally::hold(tally, states::same(reading.state, state));
 }
 
-// A sheet that was read is written back byte for byte, and in the other version. In no other.
+// A sheet that was read is written back byte for byte, and in the other versions. In no other.
 pub fn check_round_trip(bytes: &[u8], state: State, seed: &mut u64, tally: &mut Counts) {
     check_written(bytes, state, tally);
-    check_other(bytes, state, tally);
+    let second = versions::after(brute::byte(bytes, 0));
+    check_in(bytes, state, second, tally);
+    check_in(bytes, state, versions::after(second), tally);
     check_refused(state, versions::unknown(seed), 24, tally);
 }

@@ -25,12 +25,14 @@ fn reduced(state: State) -> State {
     answer.state
 }
 
-// `A`: sheet A as read. `a`: sheet A reduced, where option 1 alone is live. `V`: a sheet of version 2, whose option 2 has 27 values. Else sheet B as
-// read, whose option 2 can not follow 1 at first.
+// `A`: sheet A as read. `a`: sheet A reduced, where option 1 alone is live. `J`: case J, which has an all-zero row. `K`: no such row, but a value of option 2
+// without partners. `V`: a sheet of version 2, whose option 2 has 27 values. Else sheet B as read, whose option 2 can not follow 1 at first.
 pub(crate) fn state_named(name: u8) -> State {
     match name {
         b'A' => state_a(),
         b'a' => reduced(state_a()),
+        b'J' => state_of(b"\x01\x00\x0a\x02\x02\x01\x01\x01\x02\x00\x01\x00\x00"),
+        b'K' => state_of(b"\x01\x00\x0a\x02\x02\x02\x01\x01\x02\x00\x01\x00\x01"),
         b'V' => state_of(b"\x02\x00\x0a\x02\x01\x1b\x01\x01\x02\x04\x00\x00\x00"),
         _ => state_of(
             b"\x01\x00\x13\x03\x02\x03\x02\x02\x01\x02\x00\x01\x00\x06\x02\x03\x00\x01\x00\x02\x00\x02",

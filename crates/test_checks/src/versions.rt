@@ -7,12 +7,9 @@ use test_oracle::brute;
 use test_oracle::brute::byte;
 use test_oracle::brute::past;
 
-// The other of the two versions.
-pub(crate) fn other_version(bytes: &[u8]) -> u8 {
-    if byte(bytes, 0) == 1 {
-        return 2;
-    }
-    1
+// The version after another, and after 3 the first.
+pub(crate) fn after(version: u8) -> u8 {
+    version % 3 + 1
 }
 
 // The version, n, the sizes and the number of tables. Answers the place after them.
@@ -67,10 +64,10 @@ fn put_tables(to: &mut [u8; ROOM], bytes: &[u8], end: usize) -> usize {
     places.at
 }
 
-// The sheet in the other version, whose rows have another length. Its sizes are to be 16 at most.
-pub(crate) fn rewritten(bytes: &[u8]) -> Sheet {
+// The sheet in another version, whose rows may have another length. Its sizes are to fit that.
+pub(crate) fn rewritten(bytes: &[u8], version: u8) -> Sheet {
     let mut made = [0u8; ROOM];
-    let end = put_head(&mut made, bytes, other_version(bytes));
+    let end = put_head(&mut made, bytes, version);
     let length = put_tables(&mut made, bytes, end);
     families::mend(&mut made, length);
     Sheet {
@@ -93,7 +90,7 @@ pub(crate) fn has_great_size(bytes: &[u8]) -> bool {
 pub(crate) fn unknown(seed: &mut u64) -> usize {
     match random::below(seed, 8) {
         0 => 0,
-        1 => 3,
+        1 => 4,
         2 => 255,
         3 => 257,
         4 => 258,
@@ -108,5 +105,5 @@ pub fn any(seed: &mut u64) -> usize {
     if random::once_in(seed, 3) {
         return unknown(seed);
     }
-    random::from(seed, 1, 2)
+    random::from(seed, 1, 3)
 }

@@ -78,6 +78,15 @@ fn longer(sheet: Sheet, seed: &mut u64) -> Sheet {
     with_length(with_byte(sheet, length, any_byte(seed)), more)
 }
 
+// In another version, or in none: 3 after 2 leaves the rows as they are, all-zero ones too.
+fn with_version(sheet: Sheet, seed: &mut u64) -> Sheet {
+    let bytes = sheet.bytes;
+    if families::byte_at(&bytes, 0) == 2 {
+        return with_byte(sheet, 0, 3);
+    }
+    with_byte(sheet, 0, random::byte(seed) % 5)
+}
+
 fn altered(kind: u64, sheet: Sheet, at: usize, seed: &mut u64) -> Sheet {
     let length = sheet.length;
     match kind {
@@ -87,6 +96,7 @@ fn altered(kind: u64, sheet: Sheet, at: usize, seed: &mut u64) -> Sheet {
         3 | 4 => with_length(sheet, at),
         5 | 6 => longer(sheet, seed),
         7 => with_length(sheet, great_length(seed)),
+        8 => with_version(sheet, seed),
         _ => with_byte(sheet, random::from(seed, 4, 20), any_byte(seed)),
     }
 }
@@ -94,7 +104,7 @@ fn altered(kind: u64, sheet: Sheet, at: usize, seed: &mut u64) -> Sheet {
 // One change to a sheet; it may leave a sheet that is accepted.
 fn changed(sheet: Sheet, seed: &mut u64) -> Sheet {
     let at = place(sheet.length, seed);
-    let kind = random::below(seed, 9);
+    let kind = random::below(seed, 10);
     let other = altered(kind, sheet, at, seed);
     match kind {
         4 | 6 | 7 => mended(other),
@@ -123,7 +133,7 @@ fn random_bytes(seed: &mut u64) -> Sheet {
     if random::once_in(seed, 8) {
         return Sheet { bytes, length };
     }
-    families::put(&mut bytes, 0, random::from_one(seed, 2));
+    families::put(&mut bytes, 0, random::from_one(seed, 3));
     families::mend(&mut bytes, length);
     Sheet { bytes, length }
 }

@@ -31,7 +31,7 @@ pub const LARGE: u8 = 8;
 pub const LARGER: u8 = 9;
 // 16 options of 16 values and every table, in version 1: 4,101 bytes.
 pub const FULL: u8 = 10;
-// 16 options of 32 values and every table, in version 2: 15,621 bytes.
+// 16 options of 32 values and every table, in version 2 or 3: 15,621 bytes.
 pub const LARGEST: u8 = 11;
 
 pub fn put(bytes: &mut [u8; ROOM], at: usize, byte: u8) -> usize {
@@ -75,12 +75,12 @@ pub fn byte_at(bytes: &[u8; ROOM], at: usize) -> u8 {
     bytes[at]
 }
 
-// The version of a sheet of the family: 2 where a size may be above 16, 1 for the fullest of that version, else either.
+// The version of a sheet of the family: 2 or 3 where a size may be above 16, 1 for the fullest of that version, else any.
 fn version(family: u8, seed: &mut u64) -> u8 {
     match family {
-        WIDER | LARGER | LARGEST => 2,
+        WIDER | LARGER | LARGEST => 2 + random::byte(seed) % 2,
         FULL => 1,
-        _ => random::from_one(seed, 2),
+        _ => random::from_one(seed, 3),
     }
 }
 
@@ -211,6 +211,14 @@ fn row(kind: u8, r: u32, q: u32, shift: u8, v: usize, size: u8) -> u32 {
     }
 }
 
+// Where the version at place 0 is 3, one value in the place of none.
+fn filled(bytes: &[u8; ROOM], row: u32, drawn: u32, size: u8) -> u32 {
+    if (byte_at(bytes, 0) == 3) & (row == 0) {
+        return one_value(drawn as usize, size);
+    }
+    row
+}
+
 // A row, in as many bytes as the version at place 0 has for it.
 pub fn put_row(bytes: &mut [u8; ROOM], at: usize, row: u32) -> usize {
     let number = row as usize;
@@ -234,7 +242,9 @@ fn put_rows(
     for v in 0..count {
         let r = random::word(seed);
         let q = random::word(seed);
-        at = put_row(bytes, at, row(kind, r, q, shift, v, size));
+        let drawn = row(kind, r, q, shift, v, size);
+        let row = filled(bytes, drawn, q, size);
+        at = put_row(bytes, at, row);
     }
     at
 }

@@ -23,9 +23,9 @@ fn is_length_wrong(bytes: &[u8]) -> bool {
     (length < 3) | (15621 < length) | (past(3, number(bytes, 1)) != length)
 }
 
-// "neither 1 nor 2"
+// "neither 1 nor 2", and "now let 3 pass too"
 fn is_version_wrong(version: u8) -> bool {
-    (version != 1) & (version != 2)
+    (version != 1) & (version != 2) & (version != 3)
 }
 
 // "version 1 keeps two-byte rows and sizes to 16"
@@ -103,12 +103,20 @@ fn is_row_wide(row: usize, size: usize) -> bool {
     (row >> size) != 0
 }
 
+// "Version 3 .. forbids an all-zero row."
+fn is_row_banned(row: usize, version: u8) -> bool {
+    (version == 3) & (row == 0)
+}
+
 fn judge_row(bytes: &[u8], at: usize, size: usize) -> u8 {
     if bytes.len() < past(at, row_length(bytes)) {
         return 6;
     }
     if is_row_wide(row(bytes, at), size) {
         return 8;
+    }
+    if is_row_banned(row(bytes, at), byte(bytes, 0)) {
+        return 26;
     }
     0
 }

@@ -29,7 +29,7 @@ use Rattle.head.proofs.Held.{held-sound, held-n, held-size}
 use Rattle.format.specs.Layout.{Layout, longest, found, layoutOf}
 use Rattle.format.specs.Print.{bytesOf, printAll, printTable, printBody, print, printIn}
 use Rattle.format.specs.WellFormed.{WellFormed}
-use Rattle.format.specs.Writable.{fitsVersion}
+use Rattle.format.specs.Writable.{fitsVersion, rowsPass}
 use Rattle.format.specs.Builds.{widthIn}
 use Rattle.format.proofs.Layouts.{found-version, other-unknown}
 use Rattle.format.proofs.Lengths.{length-rows, few-tables}
@@ -256,11 +256,11 @@ module _ (h : Head) (rows : List ℕ) (shaped : HeadShaped h) (t : soundIn h row
   unfolding held
   stated-below i j u = held-sound h rows shaped t .stated-in i j u .1
 
-  -- in a version that it fits
-  module _ (version : ℕ) (fits : fitsVersion (layoutOf version) (held h rows) ≡ true) where
+  -- in a version whose tests it passes
+  module _ (version : ℕ) (fits : fitsVersion (layoutOf version) (held h rows) ≡ true) (pass : rowsPass (layoutOf version) (held h rows) ≡ true) where
     sound-layout : (L : Layout) × (layoutOf version ≡ found L) × WellFormed L (sheetOf (held h rows))
     unfolding held
-    sound-layout = written-wellformed (held h rows) (held-sound h rows shaped t) version fits (held-n h rows t)
+    sound-layout = written-wellformed (held h rows) (held-sound h rows shaped t) version fits pass (held-n h rows t)
 
     -- A version that there is is a byte.
     pub version-byte : version < 256
@@ -268,7 +268,7 @@ module _ (h : Head) (rows : List ℕ) (shaped : HeadShaped h) (t : soundIn h row
         by-cases (ltb version 256)
         (λ l. ltb-true _ _ l)
         (λ l. let m : 256 ≤ version = ltb-false version 256 l in
-        clash (rw (other-unknown version (λ e. omega arith) (λ e. omega arith)) at fits) (unknown-unfit (held h rows)))
+        clash (rw (other-unknown version (λ e. omega arith) (λ e. omega arith) (λ e. omega arith)) at fits) (unknown-unfit (held h rows)))
 
     pub bytes-printed : (L : Layout) × (layoutOf version ≡ found L) × (bytesHeld version h rows ≡ print L (sheetOf (held h rows)))
     unfolding bytesHeld printIn
@@ -285,7 +285,7 @@ module _ (h : Head) (rows : List ℕ) (shaped : HeadShaped h) (t : soundIn h row
     -- No sheet is longer than the limit, so that two bytes have room for the count,
     pub sound-most : length (bytesHeld version h rows) ≤ 15621
     unfolding bytesHeld longest held
-    sound-most = written-most (held h rows) (held-sound h rows shaped t) version fits (held-n h rows t)
+    sound-most = written-most (held h rows) (held-sound h rows shaped t) version fits pass (held-n h rows t)
 
     -- and none has more than 120 tables.
     pub sound-count : tableCount (h .n) (h .stated) ≤ 120

@@ -7,7 +7,7 @@ use Rattle.head.specs.declared.Head.{Head}
 use Rattle.head.specs.Held.{held}
 use Rattle.format.specs.Layout.{Lookup, found, unknown, layoutOf}
 use Rattle.format.specs.Builds.{widthIn}
-use Rattle.format.specs.Writable.{fitsVersion}
+use Rattle.format.specs.Writable.{fitsVersion, filledIn}
 use Rattle.write_sheet.specs.declared.layout.Fixed.{Fixed}
 
 -- The largest size in a layout.
@@ -20,6 +20,7 @@ pub record Fixes (k : Lookup) (f : Fixed) : Type 0 where
   pub bytes-are : f .bytes ≡ widthIn k
   pub bytes-most : f .bytes ≤ 4
   pub most-is : f .most ≡ mostIn k
+  pub filled-is : f .filled ≡ filledIn k
 
 -- Whether every head with these sizes fits a version, whatever else it and the rows are.
 abbrev pub FitsIs : ℕ → ℕ → List ℕ → Bool → Type 0

@@ -6,19 +6,32 @@ ghost use Rattle.format.specs.Layout.{layoutOf};
 ghost use Rattle.write_sheet.specs.Version.{Fixes, FitsIs};
 use pairs::VARIABLES;
 
-// How many bytes a row has, and the largest size: both 0 in an unknown version.
+// How many bytes a row has, the largest size, and whether an all-zero row is banned: 0, 0 and not in an unknown version.
 pub struct Fixed {
     pub bytes: usize,
     pub most: u8,
+    pub filled: bool,
 }
 
 pub fn fixed_by(version: usize) -> Fixed
     ensures { λ r. ⌜ Fixes (layoutOf version) r ⌝ }
 {
     match version {
-        1 => Fixed { bytes: 2, most: 16 },
-        2 => Fixed { bytes: 4, most: 32 },
-        _ => Fixed { bytes: 0, most: 0 },
+        1 => Fixed {
+            bytes: 2,
+            most: 16,
+            filled: false,
+        },
+        2 | 3 => Fixed {
+            bytes: 4,
+            most: 32,
+            filled: version == 3,
+        },
+        _ => Fixed {
+            bytes: 0,
+            most: 0,
+            filled: false,
+        },
     }
 }
 

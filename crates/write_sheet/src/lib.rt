@@ -1,7 +1,9 @@
 // Writing a sheet's bytes from arrays.
+mod blank;
 mod layout;
 mod writing;
 
+pub use blank::rows_pass;
 pub use layout::Fixed;
 pub use layout::fits_version;
 pub use layout::fixed_by;

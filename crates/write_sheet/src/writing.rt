@@ -10,7 +10,7 @@ ghost use Rattle.pairs.specs.Pairs.{variables};
 ghost use Rattle.head.specs.Held.{held, soundIn};
 ghost use Rattle.format.specs.Layout.{layoutOf};
 ghost use Rattle.format.specs.Print.{bytesOf};
-ghost use Rattle.format.specs.Writable.{fitsVersion};
+ghost use Rattle.format.specs.Writable.{fitsVersion, rowsPass};
 ghost use Rattle.write_sheet.specs.Writing.{bytesHeld, LengthIs};
 ghost use Rattle.write_sheet.specs.Texts.{sizesText, rowOf, rowsText, tableText, laterText, tablesText, later, tableCount};
 use crate::layout::fixed_by;
@@ -218,9 +218,10 @@ fn write_header(version: u8, n: u8, follow: u32, buffer: &mut [u8]) -> usize
     put_byte(buffer, variables, n)
 }
 
-// The sheet of the network that a head and rows hold, in a version that it fits, at the start of the buffer; how many bytes it has.
+// The sheet of the network that a head and rows hold, in a version whose tests it passes, at the start of the buffer; how many bytes it has.
 pub fn write_into(head: Head, rows: &Rows, version: usize, buffer: &mut [u8]) -> usize
-    requires { ⌜ (soundIn head (now rows) ≡ true) × (fitsVersion (layoutOf version) (held head (now rows)) ≡ true) ⌝ }
+    requires { ⌜ (soundIn head (now rows) ≡ true) × (fitsVersion (layoutOf version) (held head (now rows)) ≡ true)
+        × (rowsPass (layoutOf version) (held head (now rows)) ≡ true) ⌝ }
     requires { ⌜ length (bytesHeld version head (now rows)) ≤ length (now buffer) ⌝ }
     ensures { λ r. ⌜ r ≡ length (bytesHeld version head (now (rows .entry))) ⌝ }
     ensures { λ r. ⌜ now (buffer .exit) ≡ bytesHeld version head (now (rows .entry))

@@ -1,4 +1,4 @@
--- Cut off, then within the size by the union, then the walk: one law for each.
+-- Cut off, then within the size by the union and none banned, then the walk: one law for each.
 use mathlib.Core.Path.{sym, _∙_}
 use native.Mathlib.Omega.{arith}
 use borrow.Author.Needs.{needs}
@@ -17,13 +17,14 @@ returns c = rows-cut (c .walk-rows .ensures) (c .before .if1 .taken)
 
 returns-2 : tie.Need-returns-2
 returns-2 c =
-    let store = c .before .before in
+    let test = c .before .before in
+    let store = test .before in
     let start = store .before .before .before in
-    rows-at-once (store .store-rows .ensures) (start .shared-slice-known .given) (omega arith) (omega arith)
-    (sym (c .before .within .ensures) ∙ c .if2 .taken)
+    rows-at-once (store .store-rows .ensures) _ _ (start .shared-slice-known .given) (omega arith) (omega arith)
+    (test .within .ensures) (c .before .none-banned .ensures) (c .if2 .taken)
 
 returns-3 : tie.Need-returns-3
-returns-3 c = rows-walked (c .before .before .before .store-rows .ensures) (c .walk-rows2 .ensures)
+returns-3 c = rows-walked (c .before .before .before .before .store-rows .ensures) (c .walk-rows2 .ensures)
 
 pub read-rows-spec : {M : Type 1} → statement M
 read-rows-spec =
@@ -33,6 +34,7 @@ read-rows-spec =
     add-end
     (λ c κs. search needs)
     returns
+    (λ c κs. search needs)
     (λ c κs. search needs)
     (λ c κs. search needs)
     returns-2

@@ -2,16 +2,17 @@
 use Prim.Native.Nat.{_-_}
 use native.Mathlib.Omega.{arith}
 use borrow.Author.Needs.{needs}
+use Rattle.format.specs.Layout.{rowTest}
 use Rattle.read_field.proofs.Fields.{read-got, read-bad}
 use Rattle.read_rows.proofs.Rows.{RowsSoFar, rows-none, rows-more, rows-refused, rows-end}
 use Rattle.read_rows.proofs.walk_rows.Statement.{statement}
 use Rattle.read_rows.proofs.walk_rows.Tie as tie
 
 abbrev Inv-loop : tie.InvT-loop
-Inv-loop bytes from k count size at₀ counter₀ at counter = RowsSoFar k bytes from count size at counter
+Inv-loop bytes from k count size filled at₀ counter₀ at counter = RowsSoFar k (rowTest filled size) bytes from count at counter
 
 abbrev μ-loop : tie.MeasureT-loop
-μ-loop bytes from k count size at₀ counter₀ at counter = count - counter
+μ-loop bytes from k count size filled at₀ counter₀ at counter = count - counter
 
 loop-holds : tie.Need-loop-holds Inv-loop μ-loop
 loop-holds c = rows-none _ _ _ _ _ (omega arith)

@@ -11,11 +11,11 @@ use Rattle.network.specs.Sheet.{fresh}
 use Rattle.head.specs.Held.{held, soundIn}
 use Rattle.head.proofs.Held.{HeadShaped, shape, held-n, held-size}
 use Rattle.format.specs.Layout.{layoutOf}
-use Rattle.format.specs.Writable.{fitsVersion}
+use Rattle.format.specs.Writable.{fitsVersion, rowsPass}
 use Rattle.write_sheet.specs.Writing.{bytesHeld}
 use Rattle.write_sheet.proofs.Held.{stated-below, length-told}
 use Rattle.state.specs.Write.{sheetBytes}
-use Rattle.state_read.proofs.RoundTrip.{write-unsound, write-not-fresh, write-not-in-version, write-no-room}
+use Rattle.state_read.proofs.RoundTrip.{write-unsound, write-not-fresh, write-not-in-version, write-blank-row, write-no-room}
 use Rattle.state_write.proofs.Written.{fresh-told, refused-told, written-told}
 use Rattle.state_write.proofs.write_parts.Statement.{statement}
 use Rattle.state_write.proofs.write_parts.Tie as tie
@@ -29,12 +29,16 @@ start c = c .before .before .before
 is-sound : (c : tie.Else1) → soundIn (start c .args .t1) (start c .args .rows .now) ≡ true
 is-sound c = sym (c .before .sound-parts .ensures) ∙ not-false _ (c .if1 .left)
 
--- What is measured of a sound state: whether it is fresh, whether it fits the version, and, where it does, how many bytes its sheet has.
+-- What is measured of a sound state: whether it is fresh, whether it fits the version, whether that takes its rows, and, where it does, how many bytes its
+-- sheet has.
 abbrev fixed : tie.After-sheet-length → tie.After-fixed-by
 fixed c = c .before .before .before .before
 
+abbrev passed : tie.After-sheet-length → tie.After-rows-pass
+passed c = fixed c .before
+
 abbrev tested : tie.After-sheet-length → tie.After-fits-version
-tested c = fixed c .before
+tested c = passed c .before
 
 abbrev past : tie.After-sheet-length → tie.After-fresh-parts
 past c = tested c .before .before .before
@@ -51,22 +55,29 @@ fresh-measured c = let e = sound c in fresh-told _ (shaped (start e)) (is-sound 
 fits-measured : (c : tie.After-sheet-length) → fitsVersion (layoutOf (start (sound c) .args .version)) (told c) ≡ tested c .fits-version .result
 fits-measured c = let a = start (sound c) .args in sym (tested c .fits-version .ensures (a .t1) (a .rows .now) refl refl)
 
-length-measured : (c : tie.After-sheet-length) → fitsVersion (layoutOf (start (sound c) .args .version)) (told c) ≡ true
-    → let a = start (sound c) .args in c .sheet-length .result ≡ length (bytesHeld (a .version) (a .t1) (a .rows .now))
-length-measured c v =
-    let e = sound c in
-    length-told _ _ (shaped (start e)) (is-sound e) _ v _ _ (fixed c .fixed-by .ensures .bytes-are) (c .sheet-length .ensures)
+pass-measured : (c : tie.After-sheet-length) → rowsPass (layoutOf (start (sound c) .args .version)) (told c) ≡ passed c .rows-pass .result
+pass-measured c = sym (passed c .rows-pass .ensures)
 
--- Past the second test it is fresh, past the third it fits, and past the fourth there is room.
+length-measured : (c : tie.After-sheet-length) → fitsVersion (layoutOf (start (sound c) .args .version)) (told c) ≡ true
+    → rowsPass (layoutOf (start (sound c) .args .version)) (told c) ≡ true
+    → let a = start (sound c) .args in c .sheet-length .result ≡ length (bytesHeld (a .version) (a .t1) (a .rows .now))
+length-measured c v p =
+    let e = sound c in
+    length-told _ _ (shaped (start e)) (is-sound e) _ v p _ _ (fixed c .fixed-by .ensures .bytes-are) (c .sheet-length .ensures)
+
+-- Past the second test it is fresh, past the third it fits, past the fourth its rows pass, and past the fifth there is room.
 is-fresh : (c : tie.Else2) → fresh (told (c .before)) ≡ true
 is-fresh c = fresh-measured (c .before) ∙ not-false _ (c .if2 .left)
 
 fits : (c : tie.Else3) → let m = c .before .before in fitsVersion (layoutOf (start (sound m) .args .version)) (told m) ≡ true
 fits c = fits-measured (c .before .before) ∙ not-false _ (c .if3 .left)
 
-room : (c : tie.Else4)
-    → let a = start (sound (c .before .before .before)) .args in length (bytesHeld (a .version) (a .t1) (a .rows .now)) ≤ length (a .buffer .now)
-room c = omega (arith, c .if4 .left, length-measured (c .before .before .before) (fits (c .before)))
+pass : (c : tie.Else4) → let m = c .before .before .before in rowsPass (layoutOf (start (sound m) .args .version)) (told m) ≡ true
+pass c = pass-measured (c .before .before .before) ∙ not-false _ (c .if4 .left)
+
+room : (c : tie.Else5)
+    → let a = start (sound (c .before .before .before .before)) .args in length (bytesHeld (a .version) (a .t1) (a .rows .now)) ≤ length (a .buffer .now)
+room c = let p = c .before in omega (arith, c .if5 .left, length-measured (p .before .before .before) (fits (p .before)) (pass p))
 
 returns : tie.Need-returns
 returns c = refused-told _ _ _ _ (write-unsound _ _ _ (sym (c .before .sound-parts .ensures) ∙ not-true _ (c .if1 .taken)))
@@ -77,10 +88,13 @@ fresh-parts-requires c κs = (held-n _ _ (is-sound c), λ i. omega (arith, held-
 fits-version-requires : tie.Need-fits-version-requires
 fits-version-requires c κs = held-n _ _ (is-sound (c .before .before .before))
 
+rows-pass-requires : tie.Need-rows-pass-requires
+rows-pass-requires c κs = is-sound (c .before .before .before .before)
+
 sheet-length-requires : tie.Need-sheet-length-requires
 sheet-length-requires c κs =
     let f = c .before .before .before in
-    let e = f .before .before .before .before .before in
+    let e = f .before .before .before .before .before .before in
     (f .fixed-by .ensures .bytes-most, held-n _ _ (is-sound e), stated-below _ _ (shaped (start e)) (is-sound e))
 
 returns-2 : tie.Need-returns-2
@@ -93,23 +107,33 @@ returns-3 c =
     refused-told _ _ _ _ (write-not-in-version _ _ _ (is-sound (sound m)) (is-fresh (c .before)) (fits-measured m ∙ not-true _ (c .if3 .taken)))
 
 returns-4 : tie.Need-returns-4
-unfolding bytesHeld sheetBytes
 returns-4 c =
     let t = c .before in
     let m = t .before .before in
-    refused-told _ _ _ _ (write-no-room _ _ _ (is-sound (sound m)) (is-fresh (t .before)) (fits t)
-    (omega (arith, c .if4 .taken, length-measured m (fits t))))
+    refused-told _ _ _ _ (write-blank-row _ _ _ (is-sound (sound m)) (is-fresh (t .before)) (fits t) (pass-measured m ∙ not-true _ (c .if4 .taken)))
+
+returns-5 : tie.Need-returns-5
+unfolding bytesHeld sheetBytes
+returns-5 c =
+    let p = c .before in
+    let t = p .before in
+    let m = t .before .before in
+    refused-told _ _ _ _ (write-no-room _ _ _ (is-sound (sound m)) (is-fresh (t .before)) (fits t) (pass p)
+    (omega (arith, c .if5 .taken, length-measured m (fits t) (pass p))))
 
 write-into-requires : tie.Need-write-into-requires
 write-into-requires c κs =
-    let t = c .before .before in ((is-sound (sound (t .before .before)), fits t), room (c .before))
+    let p = c .before .before in
+    let t = p .before in
+    ((is-sound (sound (t .before .before)), fits t, pass p), room (c .before))
 
-returns-5 : tie.Need-returns-5
-returns-5 c =
+returns-6 : tie.Need-returns-6
+returns-6 c =
     let w = c .before .before in
     let r = w .before .before in
-    let t = r .before in
-    written-told _ _ _ _ _ (is-sound (sound (t .before .before))) (is-fresh (t .before)) (fits t) (room r) (w .write-into .ensures .0)
+    let p = r .before in
+    let t = p .before in
+    written-told _ _ _ _ _ (is-sound (sound (t .before .before))) (is-fresh (t .before)) (fits t) (pass p) (room r) (w .write-into .ensures .0)
     (w .write-into .ensures .1)
 
 pub write-parts-spec : {M : Type 1} → statement M
@@ -120,11 +144,13 @@ write-parts-spec =
     returns
     fresh-parts-requires
     fits-version-requires
+    rows-pass-requires
     (λ c κs. search needs)
     sheet-length-requires
     returns-2
     returns-3
     returns-4
+    returns-5
     write-into-requires
     (λ c. search needs)
-    returns-5)
+    returns-6)

@@ -77,8 +77,8 @@ at-end : (c : tie.After-known-told4)
     let sizes = tables .before .before .before .before .before .before .before .before .before .before .before in
     let n = sizes .before .before .before in
     let args = n .before .before .before .before .args in
-    Tabled (now (args .bytes)) (args .k) (args .most) (n .count .given .0 .0) (sizes .read-sizes .last .1 .1 .1 .0)
-    (tables .read-tables .last .1 .1 .1 .1 .1 .1 .0) (tables .read-tables .last .1 .1 .1 .1 .1 .1 .1 .0) (c .before .all .given .0 .1 .0))
+    Tabled (now (args .bytes)) (args .k) (args .filled) (args .most) (n .count .given .0 .0) (sizes .read-sizes .last .1 .1 .1 .0)
+    (tables .read-tables .last .1 .1 .1 .1 .1 .1 .1 .0) (tables .read-tables .last .1 .1 .1 .1 .1 .1 .1 .1 .0) (c .before .all .given .0 .1 .0))
 at-end c =
     let tables = c .before .before .before in
     tabled-all _ (at-p (tables .before .before .before .before)) (tables .read-tables .ensures) (c .before .all .given .1)

@@ -2,9 +2,9 @@
 use mathlib.Core.Bool.{false}
 use mathlib.Core.Path.{_≡_, refl, sym, _∙_}
 use denote.Ref.{now}
-use Rattle.format.specs.Layout.{version1, version2}
+use Rattle.format.specs.Layout.{version1, version2, version3}
 use Rattle.format.specs.Parse.{wrongLength}
-use Rattle.format.proofs.Layouts.{version1-found, version2-found}
+use Rattle.format.proofs.Layouts.{version1-found, version2-found, version3-found}
 use Rattle.read_sheet.proofs.Reading.{into-wrong-length, some-byte, into-wrong-version, into-body}
 use borrow.Author.Needs.{needs}
 use Rattle.read_sheet.proofs.read.read_into.Statement.{statement}
@@ -24,16 +24,23 @@ returns-2 : tie.Need-returns-2
 unfolding version1
 returns-2 c =
     let version = c .before .before .before .before in
-    into-body _ (right-length (version .before .before)) version1 (version1-found _ (version .if2 .taken)) refl (c .read-body .ensures)
+    into-body _ (right-length (version .before .before)) version1 (version1-found _ (version .if2 .taken)) (c .read-body .ensures)
 
 returns-3 : tie.Need-returns-3
 unfolding version2
 returns-3 c =
     let version = c .before .before .before .before in
-    into-body _ (right-length (version .before .before .before)) version2 (version2-found _ (version .if3 .taken)) refl (c .read-body2 .ensures)
+    into-body _ (right-length (version .before .before .before)) version2 (version2-found _ (version .if3 .taken)) (c .read-body2 .ensures)
 
 returns-4 : tie.Need-returns-4
-returns-4 c = into-wrong-version _ (right-length (c .before .before .before)) (c .before .if2 .left) (c .if3 .left)
+unfolding version3
+returns-4 c =
+    let version = c .before .before .before .before in
+    into-body _ (right-length (version .before .before .before .before)) version3 (version3-found _ (version .if4 .taken)) (c .read-body3 .ensures)
+
+returns-5 : tie.Need-returns-5
+returns-5 c =
+    into-wrong-version _ (right-length (c .before .before .before .before)) (c .before .before .if2 .left) (c .before .if3 .left) (c .if4 .left)
 
 pub read-into-spec : {M : Type 1} → statement M
 read-into-spec =
@@ -46,4 +53,6 @@ read-into-spec =
     returns-2
     (λ c κs. search needs)
     returns-3
-    returns-4)
+    (λ c κs. search needs)
+    returns-4
+    returns-5)

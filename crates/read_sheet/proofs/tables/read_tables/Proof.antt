@@ -7,11 +7,11 @@ use Rattle.read_sheet.proofs.tables.read_tables.Statement.{statement}
 use Rattle.read_sheet.proofs.tables.read_tables.Tie as tie
 
 abbrev Inv-loop : tie.InvT-loop
-Inv-loop bytes from k n count sizes stated₀ rows₀ at₀ previous₀ counter₀ stated rows at previous counter =
-    TablesSoFar bytes from k n count sizes stated rows at previous counter
+Inv-loop bytes from k filled n count sizes stated₀ rows₀ at₀ previous₀ counter₀ stated rows at previous counter =
+    TablesSoFar bytes from k filled n count sizes stated rows at previous counter
 
 abbrev μ-loop : tie.MeasureT-loop
-μ-loop bytes from k n count sizes stated₀ rows₀ at₀ previous₀ counter₀ stated rows at previous counter =
+μ-loop bytes from k filled n count sizes stated₀ rows₀ at₀ previous₀ counter₀ stated rows at previous counter =
     count - counter
 
 loop-holds : tie.Need-loop-holds Inv-loop μ-loop

@@ -27,7 +27,7 @@ text : (c : tie.After-fixed-by)
     bytesHeld (a .version) h (a .rows .now) ≡ sheetText (c .fixed-by .result .bytes) (rowOf (a .rows .now)) (a .version) (h .n) (h .sizes) (h .stated)
 text c =
     let s = start c in
-    sound-text _ _ (shaped s) (s .pre .0 .0) (s .args .version) (s .pre .0 .1) _ (c .fixed-by .ensures .bytes-are)
+    sound-text _ _ (shaped s) (s .pre .0 .0) (s .args .version) (s .pre .0 .1) (s .pre .0 .2) _ (c .fixed-by .ensures .bytes-are)
 
 abbrev fixed : tie.After-sheet-length → tie.After-fixed-by
 fixed c = c .before .before .before .before
@@ -48,8 +48,8 @@ bytes c =
     let f = fixed c in
     let s = start f in
     let a = s .args in
-    let whole = length-told _ _ (shaped s) (s .pre .0 .0) (a .version) (s .pre .0 .1) _ _ (f .fixed-by .ensures .bytes-are) (c .sheet-length .ensures) in
-    let most = sound-most _ _ (shaped s) (s .pre .0 .0) (a .version) (s .pre .0 .1) in (
+    let whole = length-told _ _ (shaped s) (s .pre .0 .0) (a .version) (s .pre .0 .1) (s .pre .0 .2) _ _ (f .fixed-by .ensures .bytes-are) (c .sheet-length .ensures) in
+    let most = sound-most _ _ (shaped s) (s .pre .0 .0) (a .version) (s .pre .0 .1) (s .pre .0 .2) in (
       held-n _ _ (s .pre .0 .0),
       whole ∙ ap length (text f) ∙ sheet-parts _ _ _ _ _ (a .version),
       body-parts _ _ _ _ _,
@@ -65,7 +65,7 @@ sheet-length-requires c κs =
 
 cast-write-header : tie.Need-cast-write-header
 cast-write-header c =
-    let s = start (fixed c) in omega (arith, version-byte _ _ (shaped s) (s .pre .0 .0) (s .args .version) (s .pre .0 .1))
+    let s = start (fixed c) in omega (arith, version-byte _ _ (shaped s) (s .pre .0 .0) (s .args .version) (s .pre .0 .1) (s .pre .0 .2))
 
 cast-write-header-2 : tie.Need-cast-write-header-2
 cast-write-header-2 c = omega (arith, bytes c)
@@ -89,7 +89,7 @@ table-count-requires c κs = bytes (c .before .before .before .before .before .b
 cast-tables : tie.Need-cast-tables
 cast-tables c =
     let s = start (fixed (c .before .before .before .before .before .before .before .before .before .before .before .before .before)) in
-    omega (arith, sound-count _ _ (shaped s) (s .pre .0 .0) (s .args .version) (s .pre .0 .1))
+    omega (arith, sound-count _ _ (shaped s) (s .pre .0 .0) (s .args .version) (s .pre .0 .1) (s .pre .0 .2))
 
 put-byte-requires : tie.Need-put-byte-requires
 unfolding bytesOf
