@@ -6,6 +6,7 @@ mod store;
 pub use read::partners;
 pub use read::partners_within;
 pub use read::row;
+pub use read::stored_row;
 pub use run::joined;
 pub use run::place;
 pub use store::clear;

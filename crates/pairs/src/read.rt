@@ -21,13 +21,21 @@ fn known(x: u32) -> u32
     x
 }
 
-// The values of `j` that go with value `a` of `i`.
+// The values of `j` that go with value `a` of `i`; `j` is higher, so that this is a row as it stands. Short enough to be inlined in a loop over values.
+pub fn stored_row(rows: &Rows, i: usize, j: usize, a: usize) -> u32
+    requires { ⌜ (i < j) × (j < variables) × (a < width) ⌝ }
+    ensures { λ r. ⌜ r ≡ word width (allowsOf width (now (rows .entry)) i j a) ⌝ }
+{
+    known(rows[place(i, j) + a])
+}
+
+// The same, whichever is lower.
 pub fn row(rows: &Rows, i: usize, j: usize, a: usize) -> u32
     requires { ⌜ (i < variables) × (j < variables) × (i ≡ j → ⊥) × (a < width) ⌝ }
     ensures { λ r. ⌜ r ≡ word width (allowsOf width (now (rows .entry)) i j a) ⌝ }
 {
     if i < j {
-        return known(rows[place(i, j) + a]);
+        return stored_row(rows, i, j, a);
     }
     hits(rows, place(j, i), single(a))
 }

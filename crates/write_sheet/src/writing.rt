@@ -67,35 +67,13 @@ fn put_rows(
 {
     let mut next = at;
     for a in 0..size {
-        next = put_number(buffer, next, pairs::row(rows, i, j, a), bytes);
+        next = put_number(buffer, next, pairs::stored_row(rows, i, j, a), bytes);
     }
     next
 }
 
-// The same. Where the bytes of a row are a constant, as the two and the four of today's versions are here, the compiler writes several rows at once.
-fn write_rows(
-    bytes: usize,
-    size: usize,
-    i: usize,
-    j: usize,
-    rows: &Rows,
-    buffer: &mut [u8],
-    at: usize,
-) -> usize
-    requires { ⌜ (bytes ≤ 4) × (size ≤ width) × (i < j) × (j < variables) ⌝ }
-    requires { ⌜ at + length (rowsText bytes (rowOf (now rows)) size i j) ≤ length (now buffer) ⌝ }
-    ensures { λ r. ⌜ Wrote (now (buffer .entry)) (now (buffer .exit)) (rowsText bytes (rowOf (now (rows .entry))) size i j) at r ⌝ }
-{
-    if bytes == 2 {
-        return put_rows(2, size, i, j, rows, buffer, at);
-    }
-    if bytes == 4 {
-        return put_rows(4, size, i, j, rows, buffer, at);
-    }
-    put_rows(bytes, size, i, j, rows, buffer, at)
-}
-
-// The table of `i` and the later `j`, where they are stated together: the pair, counted from 1, and the rows.
+// The table of `i` and the later `j`, where they are stated together: the pair, counted from 1, and the rows. Where the bytes of a row are a constant, as the
+// two and the four of today's versions are here, the compiler writes several rows at once.
 fn write_table(
     bytes: usize,
     size: usize,
@@ -115,7 +93,13 @@ fn write_table(
     }
     let second = put_byte(buffer, at, (i + 1) as u8);
     let first_row = put_byte(buffer, second, (j + 1) as u8);
-    write_rows(bytes, size, i, j, rows, buffer, first_row)
+    if bytes == 2 {
+        return put_rows(2, size, i, j, rows, buffer, first_row);
+    }
+    if bytes == 4 {
+        return put_rows(4, size, i, j, rows, buffer, first_row);
+    }
+    put_rows(bytes, size, i, j, rows, buffer, first_row)
 }
 
 // The tables of `i` and each later variable.

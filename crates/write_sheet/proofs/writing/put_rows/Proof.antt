@@ -33,7 +33,7 @@ loop-again : tie.Need-loop-again Inv-loop μ-loop
 unfolding rowOf
 loop-again c =
     let p = c .before .before in
-    (omega arith, wrote-next _ (omega arith) (p .before .before .before .before .loop .inv .1) (rw (p .before .row .ensures) at (p .put-number .ensures)))
+    (omega arith, wrote-next _ (omega arith) (p .before .before .before .before .loop .inv .1) (rw (p .before .stored-row .ensures) at (p .put-number .ensures)))
 
 returns : tie.Need-returns Inv-loop μ-loop
 unfolding rowsText
