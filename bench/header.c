@@ -148,6 +148,42 @@ static void check_steps(void) {
     CHECK(answer.number == SHEET_CAUSE_NOT_SOUND && answer.steps == 0 && same(&s, &zero));
 }
 
+static void refused_table(const struct sheet_state *given, size_t first, size_t second, const uint32_t *table, size_t length, int number) {
+    struct sheet_state state = *given;
+    struct sheet_step_answer answer = sheet_add_table(&state, first, second, table, length);
+    CHECK(answer.number == number && answer.steps == 0 && same(&state, given));
+}
+
+/* On case A reduced, where 2 and 3 follow 1: its list loses the values whose partners a table forbids. As read, the pair is cut, or
+ * becomes stated, whichever option is named first. */
+static void check_tables(void) {
+    static const uint32_t later[] = {0x0004, 0x0006}, none[] = {0x0006, 0x0003}, wide[] = {0x0008, 0x0000}, all[] = {0x0003, 0x0003};
+    struct sheet_state s = reduced, expected = reduced;
+    struct sheet_step_answer answer = sheet_add_table(&s, 3, 2, later, 2);
+    expected.lists[0] = 0x0002;
+    CHECK(answer.number == 0 && answer.steps == 0 && same(&s, &expected));
+    CHECK(sheet_verdict(&s).kind == SHEET_BUILT && sheet_verdict(&s).build[1] == 2);
+    s = reduced, expected.lists[0] = 0x0000;
+    CHECK(sheet_add_table(&s, 1, 2, none, 2).number == 0 && same(&s, &expected) && sheet_verdict(&s).kind == SHEET_NONE);
+    /* (2,3) 0002 0001 0001 and (3,2) 0004 0006 have no values in common but 2 of option 2 with 0 of option 3 */
+    s = fresh, expected = fresh;
+    for (size_t a = 0; a < 3; a++) expected.rows[sheet_row_place(1, 2, a)] = a == 2;
+    CHECK(sheet_add_table(&s, 3, 2, later, 2).number == 0 && same(&s, &expected));
+    refused_table(&zero, 0, 0, NULL, 0, SHEET_CAUSE_NOT_SOUND);
+    refused_table(&fresh, 0, 0, NULL, 0, SHEET_CAUSE_OPTION_NUMBER);
+    refused_table(&reduced, 2, 4, later, 2, SHEET_CAUSE_OPTION_NUMBER);
+    refused_table(&reduced, 2, 2, NULL, 0, SHEET_CAUSE_SAME_OPTIONS);
+    refused_table(&reduced, 2, 3, later, 2, SHEET_CAUSE_TABLE_ROWS);
+    refused_table(&reduced, 3, 2, wide, 2, SHEET_CAUSE_TABLE_ROWS);
+    refused_table(&reduced, 3, 2, NULL, 0, SHEET_CAUSE_TABLE_ROWS);
+    s = fresh, expected = fresh;
+    CHECK(sheet_add_table(&s, 3, 1, all, 2).number == 0);
+    for (int a = 0; a < 2; a++) {
+        for (int b = 0; b < 2; b++) allow(&expected, 1, a, 3, b);
+    }
+    CHECK(same(&s, &expected));
+}
+
 static void check_sound_and_verdict(void) {
     CHECK(sheet_is_sound(&fresh) && sheet_is_sound(&stepped) && sheet_is_sound(&reduced) && !sheet_is_sound(&zero));
     struct sheet_verdict_answer answer = sheet_verdict(&reduced);
@@ -276,6 +312,10 @@ static void check_read_only(void) {
     CHECK(sheet_eliminate(&held->fresh, 1, 3).number == SHEET_CAUSE_NOT_STATED);
     CHECK(sheet_eliminate(&held->fresh, 3, 2).number == SHEET_CAUSE_NOT_FUNCTIONAL);
     CHECK(sheet_reduce(&held->zero).number == SHEET_CAUSE_NOT_SOUND);
+    CHECK(sheet_add_table(&held->zero, 1, 2, NULL, 0).number == SHEET_CAUSE_NOT_SOUND);
+    CHECK(sheet_add_table(&held->fresh, 0, 2, NULL, 0).number == SHEET_CAUSE_OPTION_NUMBER);
+    CHECK(sheet_add_table(&held->fresh, 2, 2, NULL, 0).number == SHEET_CAUSE_SAME_OPTIONS);
+    CHECK(sheet_add_table(&held->fresh, 1, 2, NULL, 0).number == SHEET_CAUSE_TABLE_ROWS);
     CHECK(sheet_complete(&held->zero, held->bytes, 3) == SHEET_CAUSE_NOT_SOUND);
     CHECK(sheet_complete(&held->fresh, held->bytes, 4) == SHEET_CAUSE_BUILD_LENGTH);
     CHECK(sheet_complete(&held->fresh, held->bytes, 3) == SHEET_CAUSE_VALUES_FORBIDDEN);
@@ -297,7 +337,7 @@ static void check_texts(void) {
             CHECK(strcmp(sheet_cause_text(one), sheet_cause_text(other)) != 0);
         }
     }
-    CHECK(causes == 23);
+    CHECK(causes == 25);
     CHECK(strcmp(sheet_cause_text(SHEET_CAUSE_NOT_SOUND), "the state is not sound") == 0);
     CHECK(strcmp(sheet_cause_text(255), sheet_cause_text(SHEET_GREATEST_CAUSE + 1)) == 0);
 }
@@ -312,6 +352,10 @@ static void read_it(void) { sheet_read(CASE_A, LENGTH_A, &held); }
 static void write_it(void) { sheet_write(&fresh, 1, bytes, LENGTH_A); }
 static void sound_it(void) { bytes[0] = sheet_is_sound(&reduced); }
 static void follow_it(void) { held = fresh, sheet_eliminate(&held, 1, 2); }
+static void add_it(void) {
+    static const uint32_t table[] = {0x0004, 0x0006};
+    held = fresh, sheet_add_table(&held, 3, 2, table, 2);
+}
 static void reduce_it(void) { held = fresh, sheet_reduce(&held); }
 static void test_it(void) { bytes[0] = sheet_test(&reduced, bytes, 3).number; }
 static void complete_it(void) { memset(bytes, 0, 3), sheet_complete(&reduced, bytes, 3); }
@@ -330,7 +374,7 @@ static void run_on_own_stack(void (*call)(void)) {
 }
 
 static void check_stack(void) {
-    static void (*const calls[])(void) = {read_it, write_it,    sound_it,   follow_it, reduce_it,
+    static void (*const calls[])(void) = {read_it, write_it,    sound_it,   follow_it, reduce_it, add_it,
                                           test_it, complete_it, verdict_it, cut_it,    text_it};
     for (size_t k = 0; k < sizeof calls / sizeof *calls; k++) {
         size_t untouched = 0;
@@ -344,6 +388,7 @@ int main(void) {
     make_states();
     check_bytes();
     check_steps();
+    check_tables();
     check_sound_and_verdict();
     check_builds();
     check_writing();

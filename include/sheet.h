@@ -40,7 +40,7 @@
 /* The version of these declarations: MAJOR rises where a caller has to be changed or compiled anew, MINOR where something is
  * added. The version in byte 0 of a sheet is another number. */
 #define SHEET_VERSION_MAJOR 3
-#define SHEET_VERSION_MINOR 1
+#define SHEET_VERSION_MINOR 2
 
 #define SHEET_LARGEST_BYTES 15621 /* "The largest version 2 sheet has 15,621 bytes, which is the limit in number 1" */
 #define SHEET_MOST_OPTIONS 16    /* length of the arrays that hold something for each option */
@@ -77,6 +77,8 @@ enum sheet_cause {
     SHEET_CAUSE_NOT_AS_READ = 18,       /* "writer: a follower exists or a list is not full" */
     SHEET_CAUSE_PAIR_ORDER = 19,        /* "a is not below b" */
     SHEET_CAUSE_PAIR_SEQUENCE = 20,     /* "the pair is not after the one before" */
+    SHEET_CAUSE_SAME_OPTIONS = 21,      /* added table: "two equal options" */
+    SHEET_CAUSE_TABLE_ROWS = 22,        /* added table: "a wrong count of rows or a bit at or above the size" */
     SHEET_CAUSE_NOT_IN_VERSION = 24,    /* writer: "an unknown version or a size above 16 in version 1" */
     SHEET_CAUSE_BLANK_ROW = 26          /* version 3 "forbids an all-zero row": in a sheet, or in a state to be written */
 };
@@ -107,6 +109,8 @@ static inline const char *sheet_cause_text(unsigned number) {
     case SHEET_CAUSE_NOT_AS_READ: return "an option follows another, or a list is not full";
     case SHEET_CAUSE_PAIR_ORDER: return "the first option of a table is not below its second";
     case SHEET_CAUSE_PAIR_SEQUENCE: return "a table's pair is not after the one before";
+    case SHEET_CAUSE_SAME_OPTIONS: return "the table is for one option and itself";
+    case SHEET_CAUSE_TABLE_ROWS: return "the table does not have a row for each value of its first option, or a row allows a value at or above the size of its second";
     case SHEET_CAUSE_NOT_IN_VERSION: return "the version to write is unknown, or a size is above what it can hold";
     case SHEET_CAUSE_BLANK_ROW: return "a row is all-zero, which version 3 forbids";
     default: return "no cause has this number";
@@ -144,7 +148,7 @@ struct sheet_read_answer {
     size_t place;  /* the byte that a refusal is about, counted from 0; 0 where nothing is refused */
 };
 
-/* A follow step or a full reduction; the state is changed where it is. */
+/* A follow step, a full reduction or a table added; the state is changed where it is. */
 struct sheet_step_answer {
     uint8_t number;
     size_t steps;  /* how many options were live before and are not now */
@@ -205,6 +209,10 @@ struct sheet_step_answer sheet_eliminate_parts(size_t n, const uint8_t sizes[SHE
 struct sheet_step_answer sheet_reduce_parts(size_t n, const uint8_t sizes[SHEET_MOST_OPTIONS],
                                             uint32_t lists[SHEET_MOST_OPTIONS], uint8_t leaders[SHEET_MOST_OPTIONS],
                                             uint32_t stated[SHEET_MOST_OPTIONS], uint32_t rows[SHEET_ROWS]);
+struct sheet_step_answer sheet_add_table_parts(size_t n, const uint8_t sizes[SHEET_MOST_OPTIONS],
+                                               uint32_t lists[SHEET_MOST_OPTIONS], uint8_t leaders[SHEET_MOST_OPTIONS],
+                                               uint32_t stated[SHEET_MOST_OPTIONS], uint32_t rows[SHEET_ROWS], size_t first,
+                                               size_t second, const uint32_t *table, size_t length);
 struct sheet_test_answer sheet_test_parts(size_t n, const uint8_t sizes[SHEET_MOST_OPTIONS],
                                           const uint32_t lists[SHEET_MOST_OPTIONS], const uint8_t leaders[SHEET_MOST_OPTIONS],
                                           const uint32_t stated[SHEET_MOST_OPTIONS], const uint32_t rows[SHEET_ROWS],
@@ -258,6 +266,20 @@ static inline struct sheet_step_answer sheet_eliminate(struct sheet_state *state
  * The builds of the state stay the same. */
 static inline struct sheet_step_answer sheet_reduce(struct sheet_state *state) {
     return sheet_reduce_parts(state->n, state->sizes, state->lists, state->leaders, state->stated, state->rows);
+}
+
+/* Adds a table for the options `first` and `second`, live or not, in place: `length` rows, one for each value of the first, value 0
+ * first; bit v of a row says that value v of the second is allowed. The first may have the higher number.
+ * "Each option is traced to its live leader; a live option is its own. If the leaders differ, their pair becomes stated. It then
+ * allows two values exactly when both are in the leaders' lists, the new table allows their partners, and the pair, if stated
+ * before, allowed them. .. If they are one, its list loses the values whose partners the new table forbids." Nothing else changes;
+ * answers 0 steps.
+ * Numbers 9, 10, 21, 22, tested in this order; 22 goes by the sizes of the two options named. A refusal leaves the state as it was.
+ * Of the builds of the state exactly those stay that keep to the table. */
+static inline struct sheet_step_answer sheet_add_table(struct sheet_state *state, size_t first, size_t second,
+                                                       const uint32_t *table, size_t length) {
+    return sheet_add_table_parts(state->n, state->sizes, state->lists, state->leaders, state->stated, state->rows, first, second,
+                                 table, length);
 }
 
 /* The tester, on n bytes, a value for each option: "yes exactly when each value is in its option's list and each stated pair

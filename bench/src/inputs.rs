@@ -286,3 +286,46 @@ pub fn buffer(build: &[u8], length: usize, random: &mut Random) -> Vec<u8> {
         })
         .collect()
 }
+
+/// A table to add to a state: two option numbers, and rows.
+pub struct Table {
+    pub first: usize,
+    pub second: usize,
+    pub rows: Vec<u32>,
+}
+
+/// A table for two options of these sizes; value `a` is to go with value `b`.
+pub fn half_table(first: usize, second: usize, sizes: &[u8], a: usize, b: usize, random: &mut Random) -> Table {
+    let (from, to) = (sizes[first - 1] as usize, sizes[second - 1] as usize);
+    Table {
+        first,
+        second,
+        rows: rows(Kind::Half, from, to, a, b, random),
+    }
+}
+
+/// A table of any kind for any two options of a state; most states take most of them.
+pub fn any_table(state: &State, random: &mut Random) -> Table {
+    let n = state.n.clamp(1, 16);
+    let number = |random: &mut Random| match random.below(20) {
+        0 => random.next() as usize,
+        1 => random.below(n + 2),
+        _ => 1 + random.below(n),
+    };
+    let (first, second) = (number(random), number(random));
+    let size = |option: usize| match option {
+        1..=16 => state.sizes[option - 1].clamp(1, 32) as usize,
+        _ => 4,
+    };
+    let (from, to) = (size(first), size(second));
+    let kinds = [Kind::Few, Kind::Function, Kind::Permutation, Kind::Half, Kind::Everything];
+    let mut rows = rows(kinds[random.below(5)], from, to, random.below(from), random.below(to), random);
+    match random.below(16) {
+        // a row too few or too many, and a bit that may be too high
+        0 => rows.truncate(random.below(from)),
+        1 => rows.extend((0..1 + random.below(33)).map(|_| 0)),
+        2 => rows[random.below(from)] |= 1 << random.below(32),
+        _ => {}
+    }
+    Table { first, second, rows }
+}

@@ -423,6 +423,158 @@ pub fn reduce(s: &mut State) -> Stepped {
     }
 }
 
+/// The number that refuses a table on a sound state, options counted from 1.
+fn table_refusal(s: &State, first: usize, second: usize, table: &[u32]) -> u8 {
+    if first == 0 || first > s.n || second == 0 || second > s.n {
+        return 10;
+    }
+    if first == second {
+        return 21;
+    }
+    let outside = !full(s.sizes[(second - 1) & 15] as usize & 63);
+    if table.len() != s.sizes[(first - 1) & 15] as usize || together(table) & outside != 0 {
+        return 22;
+    }
+    0
+}
+
+/// The live leader of an option, itself where it is live.
+#[inline(always)]
+fn traced(s: &State, x: usize) -> usize {
+    match s.leaders[x & 15] as usize {
+        0 => x & 15,
+        leader => (leader - 1) & 15,
+    }
+}
+
+/// For each value of `x` the values in the list of its leader `p` that it is the partner of.
+#[inline(always)]
+fn groups(s: &State, p: usize, x: usize) -> Pair {
+    let mut groups = [0; PAIR_ROWS];
+    if p == x {
+        for a in members(s.lists[p]) {
+            groups[a] = 1 << a;
+        }
+    } else if p < x {
+        let rows = pair(s, p, x);
+        for a in members(s.lists[p]) {
+            groups[(rows[a] & s.lists[x]).trailing_zeros() as usize & 31] |= 1 << a;
+        }
+    } else {
+        let rows = pair(s, x, p);
+        for c in members(s.lists[x]) {
+            groups[c] = rows[c] & s.lists[p];
+        }
+    }
+    groups
+}
+
+/// The rows of a table for `x` and `y`, each with the values in the list of the leader `q` instead of their partners in `y`.
+#[inline(always)]
+fn told(s: &State, table: &Pair, q: usize, y: usize) -> Pair {
+    if q == y {
+        return table.map(|row| row & s.lists[q]);
+    }
+    let groups = groups(s, q, y);
+    table.map(|row| union(&groups, row & s.lists[y]))
+}
+
+/// The table from its other side: blocks of 16, 8, 4, 2 and 1 change places.
+#[inline(always)]
+fn turned(table: &Pair) -> Pair {
+    let mut rows = *table;
+    let (mut width, mut mask) = (16, 0xffffu32);
+    while width != 0 {
+        for k in 0..16 {
+            let a = (k & !(width - 1)) << 1 | k & (width - 1);
+            let moved = (rows[a] >> width ^ rows[a + width]) & mask;
+            rows[a + width] ^= moved;
+            rows[a] ^= moved << width;
+        }
+        width >>= 1;
+        mask ^= mask << width;
+    }
+    rows
+}
+
+/// Cuts the pair of the leaders `p` of `x` and `q` of `y`, where `p` is the lower.
+#[inline(always)]
+fn cut_pair(s: &mut State, p: usize, x: usize, q: usize, y: usize, table: &Pair) {
+    let rows = told(s, table, q, y);
+    let mut made = [0; PAIR_ROWS];
+    if p == x {
+        for a in members(s.lists[p]) {
+            made[a] = rows[a];
+        }
+    } else {
+        for (group, row) in groups(s, p, x).into_iter().zip(rows) {
+            for a in members(group) {
+                made[a] = row;
+            }
+        }
+    }
+    let before = if s.stated[p] >> q & 1 == 1 { 0 } else { u32::MAX };
+    for (row, made) in pair_mut(s, p, q).iter_mut().zip(made) {
+        *row = (*row | before) & made;
+    }
+    s.stated[p] |= 1 << q;
+    s.stated[q] |= 1 << p;
+}
+
+/// The partner in `x` of each value in the list of its leader `p`.
+#[inline(always)]
+fn partners_in(s: &State, p: usize, x: usize) -> [u8; PAIR_ROWS] {
+    let mut partners = [0; PAIR_ROWS];
+    if p == x {
+        return std::array::from_fn(|a| a as u8);
+    }
+    if p < x {
+        let rows = pair(s, p, x);
+        for a in members(s.lists[p]) {
+            partners[a] = (rows[a] & s.lists[x]).trailing_zeros() as u8 & 31;
+        }
+    } else {
+        let rows = pair(s, x, p);
+        for c in members(s.lists[x]) {
+            for a in members(rows[c] & s.lists[p]) {
+                partners[a] = c as u8;
+            }
+        }
+    }
+    partners
+}
+
+/// The values in the list of the one leader `p` of `x` and `y` that the table leaves.
+#[inline(always)]
+fn kept(s: &State, p: usize, x: usize, y: usize, table: &Pair) -> u32 {
+    let (first, second) = (partners_in(s, p, x), partners_in(s, p, y));
+    members(s.lists[p]).fold(0, |kept, a| {
+        kept | (table[first[a] as usize & 31] >> (second[a] & 31) & 1) << a
+    })
+}
+
+/// Adds a table in place, options counted from 1.
+pub fn add_table(s: &mut State, first: usize, second: usize, table: &[u32]) -> Stepped {
+    if !is_sound(s) {
+        return Stepped { number: 9, steps: 0 };
+    }
+    let number = table_refusal(s, first, second, table);
+    if number == 0 {
+        let (x, y) = ((first - 1) & 15, (second - 1) & 15);
+        let (p, q) = (traced(s, x), traced(s, y));
+        let mut whole = [0; PAIR_ROWS];
+        whole[..table.len()].copy_from_slice(table);
+        if p == q {
+            s.lists[p] = kept(s, p, x, y, &whole);
+        } else if p < q {
+            cut_pair(s, p, x, q, y, &whole);
+        } else {
+            cut_pair(s, q, y, p, x, &turned(&whole));
+        }
+    }
+    Stepped { number, steps: 0 }
+}
+
 /// The followers' values from those of the live options.
 #[inline(always)]
 fn follow(s: &State, build: &mut [u8]) {

@@ -11,7 +11,7 @@ struct Counts {
     differences: usize,
 }
 
-const CALLS: [&str; 10] = [
+const CALLS: [&str; 11] = [
     "read",
     "write",
     "sound",
@@ -22,6 +22,7 @@ const CALLS: [&str; 10] = [
     "verdict",
     "cut",
     "text",
+    "add_table",
 ];
 /// The numbers that a call can answer: 0, which stands for "not refused", and those of the causes.
 const NUMBERS: usize = Cause::GREATEST as usize + 1;
@@ -114,6 +115,16 @@ fn reduce(state: &State, counts: &mut Counts) -> State {
     here
 }
 
+/// A table added; the state left, which after a refusal is the one given.
+fn add_table(state: &State, table: &Table, counts: &mut Counts) -> State {
+    let (mut here, mut there) = (*state, *state);
+    let one = proved::add_table(&mut here, table.first, table.second, &table.rows);
+    let other = plain::add_table(&mut there, table.first, table.second, &table.rows);
+    let kept = one.number == 0 || here == *state;
+    counts.note(10, one.number, &(one, here, kept), &(other, there, true));
+    here
+}
+
 fn test_and_complete(state: &State, build: &[u8], counts: &mut Counts) {
     let one = proved::test(state, build);
     counts.note(5, one.number, &one, &plain::test(state, build));
@@ -138,6 +149,9 @@ fn calls(state: &State, build: &[u8], random: &mut Random, counts: &mut Counts) 
         eliminate(state, random.next() as usize, random.next() as usize, counts);
     }
     reduce(state, counts);
+    for _ in 0..2 {
+        add_table(state, &any_table(state, random), counts);
+    }
     for _ in 0..2 {
         let length = if random.chance(2) { n } else { random.below(21) };
         test_and_complete(state, &buffer(build, length, random), counts);
@@ -170,10 +184,10 @@ fn from_sheet(sheet: &Sheet, random: &mut Random, counts: &mut Counts) {
     }
     for _ in 0..1 + random.below(6) {
         let n = state.n;
-        state = if random.chance(8) {
-            reduce(&state, counts)
-        } else {
-            eliminate(&state, 1 + random.below(n), 1 + random.below(n), counts)
+        state = match random.below(8) {
+            0 => reduce(&state, counts),
+            1 | 2 => add_table(&state, &any_table(&state, random), counts),
+            _ => eliminate(&state, 1 + random.below(n), 1 + random.below(n), counts),
         };
         counts.input(STEPPED_STATE);
         calls(&state, &sheet.build, random, counts);

@@ -1,5 +1,5 @@
 //! How long each call takes in the proved library and in plain Rust: nanoseconds, medians, both in one run by turns.
-use bench::inputs::{sheet_in, Random, Sheet, FAMILIES};
+use bench::inputs::{half_table, sheet_in, Random, Sheet, Table, FAMILIES};
 use bench::plain;
 use bench::proved::{self, State};
 use std::hint::black_box;
@@ -16,9 +16,12 @@ struct Case {
     reduced: State,
     /// The lowest legal step, or else one that is refused.
     step: (usize, usize),
+    /// For the first option and the last, and for the last and the second.
+    table: Table,
+    turned: Table,
 }
 
-fn case(sheet: Sheet) -> Case {
+fn case(sheet: Sheet, random: &mut Random) -> Case {
     let mut fresh = State::ZERO;
     proved::read(&sheet.bytes, &mut fresh);
     let mut reduced = fresh;
@@ -26,7 +29,13 @@ fn case(sheet: Sheet) -> Case {
     let n = fresh.n;
     let pairs = || (1..=n).flat_map(|i| (1..=n).map(move |j| (i, j)));
     let lowest = |number| pairs().find(|&(i, j)| proved::eliminate(&mut fresh.clone(), i, j).number == number);
+    let mut table = |first: usize, second: usize| {
+        let value = |option: usize| sheet.build[option - 1] as usize;
+        half_table(first, second, &fresh.sizes, value(first), value(second), random)
+    };
     Case {
+        table: table(1, n),
+        turned: table(n, 2),
         step: lowest(0).or_else(|| lowest(13)).unwrap_or((1, 2)),
         sheet,
         fresh,
@@ -34,54 +43,87 @@ fn case(sheet: Sheet) -> Case {
     }
 }
 
-/// A call on a case, with a scratch state as just read and a buffer.
+/// A call on a case, with a scratch state and a buffer.
 type Call = fn(&Case, &mut State, &mut [u8]);
 
-/// Each call in the proved library and in plain Rust. Both are lent the state, and work in place.
-const CALLS: [(&str, Call, Call); 10] = [
+/// The scratch state of a call, as just read or reduced.
+type Start = fn(&Case) -> &State;
+
+const AS_READ: Start = |case| &case.fresh;
+const REDUCED: Start = |case| &case.reduced;
+
+/// Each call in the proved library and in plain Rust. Both are lent the state, and work in place. "led" adds a table to a reduced state, whose options may
+/// follow others.
+const CALLS: [(&str, Start, Call, Call); 12] = [
     (
         "read",
+        AS_READ,
         |c, s, _| look(proved::read(&c.sheet.bytes, s)),
         |c, s, _| look(plain::read(&c.sheet.bytes, s)),
     ),
     (
         "sound",
+        AS_READ,
         |c, _, _| look(proved::is_sound(&c.fresh)),
         |c, _, _| look(plain::is_sound(&c.fresh)),
     ),
     (
         "eliminate",
+        AS_READ,
         |c, s, _| look(proved::eliminate(s, c.step.0, c.step.1)),
         |c, s, _| look(plain::eliminate(s, c.step.0, c.step.1)),
     ),
-    ("reduce", |_, s, _| look(proved::reduce(s)), |_, s, _| look(plain::reduce(s))),
+    (
+        "reduce",
+        AS_READ,
+        |_, s, _| look(proved::reduce(s)),
+        |_, s, _| look(plain::reduce(s)),
+    ),
+    (
+        "add",
+        AS_READ,
+        |c, s, _| look(proved::add_table(s, c.table.first, c.table.second, &c.table.rows)),
+        |c, s, _| look(plain::add_table(s, c.table.first, c.table.second, &c.table.rows)),
+    ),
+    (
+        "led",
+        REDUCED,
+        |c, s, _| look(proved::add_table(s, c.turned.first, c.turned.second, &c.turned.rows)),
+        |c, s, _| look(plain::add_table(s, c.turned.first, c.turned.second, &c.turned.rows)),
+    ),
     (
         "verdict",
+        AS_READ,
         |c, _, _| look(proved::verdict(&c.reduced)),
         |c, _, _| look(plain::verdict(&c.reduced)),
     ),
     (
         "complete",
+        AS_READ,
         |c, _, b| look(proved::complete(&c.reduced, build(c, b))),
         |c, _, b| look(plain::complete(&c.reduced, build(c, b))),
     ),
     (
         "test",
+        AS_READ,
         |c, _, _| look(proved::test(&c.fresh, &c.sheet.build)),
         |c, _, _| look(plain::test(&c.fresh, &c.sheet.build)),
     ),
     (
         "write",
+        AS_READ,
         |c, _, b| look(proved::write(&c.fresh, c.sheet.bytes[0] as usize, b)),
         |c, _, b| look(plain::write(&c.fresh, c.sheet.bytes[0] as usize, b)),
     ),
     (
         "cut",
+        AS_READ,
         |c, s, _| look(proved::cut(&c.sheet.bytes, s)),
         |c, s, _| look(plain::cut(&c.sheet.bytes, s)),
     ),
     (
         "text",
+        AS_READ,
         |c, _, _| look(proved::text(&c.sheet.bytes)),
         |c, _, b| look(plain::text(&c.sheet.bytes, b.first_chunk_mut().unwrap())),
     ),
@@ -100,17 +142,17 @@ fn build<'a>(case: &Case, buffer: &'a mut [u8]) -> &'a mut [u8] {
 }
 
 /// The time of one call over all cases: each scratch state is set anew outside the time that is taken.
-fn timed(cases: &[Case], scratch: &mut [State], buffer: &mut [u8], call: Call) -> f64 {
+fn timed(cases: &[Case], start: Start, scratch: &mut [State], buffer: &mut [u8], call: Call) -> f64 {
     let mut total = 0;
     for _ in 0..REPEATS {
         for (case, state) in cases.iter().zip(scratch.iter_mut()) {
-            *state = case.fresh;
+            *state = *start(case);
         }
-        let start = Instant::now();
+        let clock = Instant::now();
         for (case, state) in cases.iter().zip(scratch.iter_mut()) {
             call(black_box(case), state, buffer);
         }
-        total += start.elapsed().as_nanos();
+        total += clock.elapsed().as_nanos();
     }
     total as f64 / (REPEATS * cases.len()) as f64
 }
@@ -121,13 +163,13 @@ fn median(mut times: Vec<f64>) -> f64 {
 }
 
 /// Both by turns; the medians.
-fn both(cases: &[Case], one: Call, other: Call) -> (f64, f64) {
+fn both(cases: &[Case], start: Start, one: Call, other: Call) -> (f64, f64) {
     let mut scratch = vec![State::ZERO; cases.len()];
     let mut buffer = vec![0u8; 15621];
     let (mut ones, mut others) = (Vec::new(), Vec::new());
     for _ in 0..ROUNDS {
-        ones.push(timed(cases, &mut scratch, &mut buffer, one));
-        others.push(timed(cases, &mut scratch, &mut buffer, other));
+        ones.push(timed(cases, start, &mut scratch, &mut buffer, one));
+        others.push(timed(cases, start, &mut scratch, &mut buffer, other));
     }
     (median(ones), median(others))
 }
@@ -153,13 +195,16 @@ fn main() {
         for family in FAMILIES {
             let mut random = Random(values as u64);
             let cases: Vec<Case> = (0..SHEETS)
-                .map(|_| case(sheet_in(version, family, &vec![values; options], &mut random)))
+                .map(|_| {
+                    let sheet = sheet_in(version, family, &vec![values; options], &mut random);
+                    case(sheet, &mut random)
+                })
                 .collect();
-            for (call, &(name, one, other)) in CALLS.iter().enumerate() {
+            for (call, &(name, start, one, other)) in CALLS.iter().enumerate() {
                 if only.as_deref().is_some_and(|word| word != name) {
                     continue;
                 }
-                let (proved, plain) = both(&cases, one, other);
+                let (proved, plain) = both(&cases, start, one, other);
                 let ratio = proved / plain;
                 let (across, family) = (format!("{options}x{values}"), format!("{family:?}"));
                 println!("{name:9} {version:7} {across:6} {family:9} {proved:9.0} {plain:9.0} {ratio:6.2}");

@@ -46,6 +46,10 @@ pub enum Cause {
     PairOrder = 19,
     /// "the pair is not after the one before"
     PairSequence = 20,
+    /// added table: "two equal options"
+    SameOptions = 21,
+    /// added table: "a wrong count of rows or a bit at or above the size"
+    TableRows = 22,
     /// writer: "an unknown version or a size above 16 in version 1"
     NotInVersion = 24,
     /// version 3 "forbids an all-zero row": in a sheet, or in a state to be written
@@ -56,7 +60,7 @@ use Cause::*;
 
 impl Cause {
     /// All causes, in the order of their numbers.
-    pub const ALL: [Cause; 22] = [
+    pub const ALL: [Cause; 24] = [
         Length,
         Version,
         OptionCount,
@@ -77,6 +81,8 @@ impl Cause {
         NotAsRead,
         PairOrder,
         PairSequence,
+        SameOptions,
+        TableRows,
         NotInVersion,
         BlankRow,
     ];
@@ -118,6 +124,8 @@ impl fmt::Display for Cause {
             NotAsRead => "an option follows another, or a list is not full",
             PairOrder => "the first option of a table is not below its second",
             PairSequence => "a table's pair is not after the one before",
+            SameOptions => "the table is for one option and itself",
+            TableRows => "the table does not have a row for each value of its first option, or a row allows a value at or above the size of its second",
             NotInVersion => "the version to write is unknown, or a size is above what it can hold",
             BlankRow => "a row is all-zero, which version 3 forbids",
         })

@@ -13,6 +13,8 @@
 //! let verdict = sheet::verdict(&state);
 //! assert_eq!(verdict.kind, sheet::BUILT);
 //! assert_eq!(verdict.build[..3], [0, 0, 1]);
+//! assert_eq!(sheet::add_table(&mut state, 3, 2, &[0x0004, 0x0006]).number, 0);
+//! assert_eq!(sheet::verdict(&state).build[..3], [1, 2, 0]);
 //!
 //! let short = sheet::read(&case_a[..4], &mut state);
 //! assert_eq!((short.number, short.place), (1, 0));
@@ -72,6 +74,18 @@ extern "C" {
         leaders: &mut [u8; MOST_OPTIONS],
         stated: &mut [u32; MOST_OPTIONS],
         rows: &mut Rows,
+    ) -> Stepped;
+    fn sheet_add_table_parts(
+        n: usize,
+        sizes: &[u8; MOST_OPTIONS],
+        lists: &mut [u32; MOST_OPTIONS],
+        leaders: &mut [u8; MOST_OPTIONS],
+        stated: &mut [u32; MOST_OPTIONS],
+        rows: &mut Rows,
+        first: usize,
+        second: usize,
+        table: *const u32,
+        length: usize,
     ) -> Stepped;
     fn sheet_test_parts(
         n: usize,
@@ -198,6 +212,30 @@ pub fn eliminate(state: &mut State, leader: usize, follower: usize) -> Stepped {
 pub fn reduce(state: &mut State) -> Stepped {
     let s = state;
     unsafe { sheet_reduce_parts(s.n, &s.sizes, &mut s.lists, &mut s.leaders, &mut s.stated, &mut s.rows) }
+}
+
+/// Adds a table for the options `first` and `second`, live or not: a row for each value of the first, value 0 first; bit v of a row
+/// says that value v of the second is allowed. The first may have the higher number. Answers 0 steps.
+///
+/// Numbers 9, 10, 21, 22, tested in this order; 22 goes by the sizes of the two options named. A refusal leaves the state as it was.
+/// Of the builds of the state exactly those stay that keep to the table.
+#[inline]
+pub fn add_table(state: &mut State, first: usize, second: usize, table: &[u32]) -> Stepped {
+    let s = state;
+    unsafe {
+        sheet_add_table_parts(
+            s.n,
+            &s.sizes,
+            &mut s.lists,
+            &mut s.leaders,
+            &mut s.stated,
+            &mut s.rows,
+            first,
+            second,
+            table.as_ptr(),
+            table.len(),
+        )
+    }
 }
 
 /// The tester, on n bytes, a value for each option: "yes exactly when each value is in its option's list and each stated pair

@@ -20,8 +20,10 @@ use Rattle.state.specs.View.{Shaped, soundState}
 use Rattle.state.specs.Answers.{ReadTold, Told}
 use Rattle.state.specs.Steps.{stepped, refused, reducedAs, reduced}
 use Rattle.state.specs.Rules.{StepsByRules}
+use Rattle.state.specs.Tables.{tableAdded, TablesByRules}
 use Rattle.state.specs.Worked.{workedTold}
 use Rattle.state.proofs.Rules.{step-rules}
+use Rattle.state.proofs.Tables.{table-rules}
 use Rattle.state.proofs.Steps.{StateKept, reduced-done, reduced-refused}
 use Rattle.state.specs.Cut.{CutTold}
 use Rattle.capi.specs.declared.sheets.SheetRead.{SheetRead}
@@ -110,16 +112,20 @@ module _ (n : ℕ) (sizes lists leaders stated rows lists′ leaders′ stated�
       let steps : r .steps ≡ t .steps = L .steps-are ∙ ap (λ (u : Told). u .steps) told in
       λ i. record { number = numbers i; state = state i; steps = steps i }
 
--- Neither moves n or a size,
-pub kept-same : (s t : State) → Shaped s → StateKept s t → (t .n ≡ s .n) × (t .sizes ≡ s .sizes)
+-- None of the three moves n or a size,
+pub kept-same : (s t : State) (p : (ℕ → ℕ) → Bool) → Shaped s → StateKept s t p → (t .n ≡ s .n) × (t .sizes ≡ s .sizes)
 unfolding held
-kept-same s t h k =
+kept-same s t p h k =
     (k .kept-n, same-array 16 (2 ^ 8) (t .sizes) (s .sizes) (k .kept-shaped .head-shaped .sizes-array) (h .head-shaped .sizes-array) (k .kept-size))
 
 -- and a refused one hands back what it was given.
 pub stepped-back : (s : State) → Shaped s → (l f : ℕ) → (stepped s l f .number ≡ 0 → ⊥) → stepped s l f .state ≡ s
 unfolding StepsByRules
 stepped-back s h l f = step-rules s h l f .handed-back
+
+pub table-back : (s : State) → Shaped s → (x y : ℕ) (table : List ℕ) → (tableAdded s x y table .number ≡ 0 → ⊥) → tableAdded s x y table .state ≡ s
+unfolding TablesByRules
+table-back s h x y table = table-rules s h x y table .handed-back
 
 pub reduced-back : (s : State) → (reduced s .number ≡ 0 → ⊥) → reduced s .state ≡ s
 unfolding reducedAs refused

@@ -6,20 +6,22 @@ use answers::outcome_number;
 use head::Rows;
 use head::VARIABLES;
 use state::Worked;
+use state::add_parts;
 use state::eliminate_parts;
 use state::reduce_parts;
 ghost use mathlib.Core.Path.{_≡_};
 ghost use Rattle.state.specs.Steps.{stepped, reduced};
+ghost use Rattle.state.specs.Tables.{tableAdded};
 ghost use Rattle.capi.specs.Answers.{stateWith, leftAs, Left};
 
-// A step or a reduction: the number that refuses, and how many steps were taken.
+// A step, a reduction or a table added: the number that refuses, and how many steps were taken.
 #[repr(C)]
 pub struct SheetStepped {
     pub number: u8,
     pub steps: usize,
 }
 
-// Stores what a step or a reduction that is not refused has made of a head, and tells its number and count.
+// Stores what a call that is not refused has made of a head, and tells its number and count.
 fn left(
     worked: Worked,
     lists: &mut [u32; VARIABLES],
@@ -85,5 +87,35 @@ pub extern "C" fn sheet_reduce_parts(
     let given = *rows;
     whole(given);
     let worked = reduce_parts(head_of(n, sizes, lists, leaders, stated), rows);
+    left(worked, lists, leaders, stated)
+}
+
+// Adds a table in place for two options, counted from 1: a row for each value of the first.
+#[no_mangle]
+pub extern "C" fn sheet_add_table_parts(
+    n: usize,
+    sizes: &[u8; VARIABLES],
+    lists: &mut [u32; VARIABLES],
+    leaders: &mut [u8; VARIABLES],
+    stated: &mut [u32; VARIABLES],
+    rows: &mut Rows,
+    first: usize,
+    second: usize,
+    table: &[u32],
+) -> SheetStepped
+    ensures { λ r. ⌜
+        leftAs (stateWith n (now (sizes .entry)) (now (lists .exit)) (now (leaders .exit)) (now (stated .exit)) (now (rows .exit))) r
+        ≡ tableAdded (stateWith n (now (sizes .entry)) (now (lists .entry)) (now (leaders .entry)) (now (stated .entry)) (now (rows .entry))) first second (now (table .entry))
+        ⌝ }
+{
+    let given = *rows;
+    whole(given);
+    let worked = add_parts(
+        head_of(n, sizes, lists, leaders, stated),
+        rows,
+        first,
+        second,
+        table,
+    );
     left(worked, lists, leaders, stated)
 }

@@ -7,6 +7,7 @@ mod look;
 mod sheets;
 
 pub use change::SheetStepped;
+pub use change::sheet_add_table_parts;
 pub use change::sheet_eliminate_parts;
 pub use change::sheet_reduce_parts;
 pub use look::SheetTested;

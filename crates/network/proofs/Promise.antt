@@ -6,7 +6,7 @@ use Prim.Native.Nat.{ℕ, _<_}
 use Rattle.network.specs.Network.{Network}
 use Rattle.network.specs.Sound.{Sound}
 use Rattle.network.specs.Completion.{completed, shown}
-use Rattle.network.specs.Calls.{Call, after}
+use Rattle.network.specs.Calls.{Call, after, addedBy, keepsTo}
 use Rattle.network.specs.Promise.{Keeps, Promised, OneLive}
 use Rattle.network.proofs.Completion.{completed-keeps, accepted, completed-solves, completed-only, exhausted-none, verdict-none, one-live-decided, decided-none, decided-built}
 use Rattle.network.proofs.Count.{keeps-count}
@@ -34,12 +34,12 @@ keeps-promise N M p k =
           (b .0, sym (k .same-solutions (shown M)) ∙ b .1);
     }
 
--- For every sound network and every list of calls.
-pub promise : (N : Network) → Sound N → (cs : List Call) → Promised N (after N cs) (λ (f : ℕ → ℕ). true)
+-- For every sound network and every list of calls, with the tables that they added.
+pub promise : (N : Network) → Sound N → (cs : List Call) → Promised N (after N cs) (keepsTo (addedBy N cs))
 promise N s cs = keeps-promise N (after N cs) _ (after-keeps N s cs)
 
 -- and with one live option, as document 01 has it.
-pub one-live : (N : Network) → Sound N → (cs : List Call) → OneLive N (after N cs) (λ (f : ℕ → ℕ). true)
+pub one-live : (N : Network) → Sound N → (cs : List Call) → OneLive N (after N cs) (keepsTo (addedBy N cs))
 one-live N s cs =
     let P = promise N s cs in
     let decides = one-live-decided (after N cs) (after-keeps N s cs .still-sound) in

@@ -10,7 +10,7 @@ use Rattle.network.specs.Reduction.{freeCount}
 use Rattle.network.specs.Completion.{completed, allowedChoice, completeRefusal, NONE, BUILT, verdict, decided, shown}
 use Rattle.network.specs.Count.{solutionCount, choiceCount}
 
--- M stands for N with the added constraint p: what a list of calls keeps. Calls of today add nothing: p is true everywhere.
+-- M stands for N with the added constraint p: what a list of calls keeps. p says that a solution keeps to the tables that the calls added.
 pub record Keeps (N M : Network) (p : (ℕ → ℕ) → Bool) : Type 0 where
   pub same-n : M .n ≡ N .n
   pub same-size : (i : ℕ) → M .size i ≡ N .size i

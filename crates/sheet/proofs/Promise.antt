@@ -1,6 +1,6 @@
 -- Demand 3: of every accepted sheet, for every list of calls.
 use mathlib.Core.Bool.{Bool, true, false}
-use mathlib.Core.List.{List, [], _∷_}
+use mathlib.Core.List.{List, [], _∷_, _++_}
 use mathlib.Core.Logic.{_↔_}
 use mathlib.Core.Path.{_≡_, refl, sym, ap, ap₂, _∙_, fun-ext}
 use Prim.Native.Nat.{ℕ, _≤_, _<_}
@@ -11,35 +11,35 @@ use lib.Seq.{length-take-le, getD-take}
 use borrow.Author.Tests.{eq-eqb, eqb-true}
 use Rattle.bounded.specs.Bool.{and, bit}
 use Rattle.bounded.specs.Table.{tabulate}
-use Rattle.bounded.proofs.Bool.{not-true→false, clash, and-i, and-l, and-r, and-true}
+use Rattle.bounded.proofs.Bool.{not-true→false, clash, and-i, and-l, and-r, and-assoc, and-true}
 use Rattle.bounded.proofs.Table.{length-tabulate, getD-tabulate, is-table}
 use Rattle.network.specs.Network.{Network, free, solves}
 use Rattle.network.specs.Sound.{Sound}
 use Rattle.network.specs.Completion.{NONE, BUILT, allowedChoice, completed, verdict, decided, shown}
 use Rattle.network.specs.Count.{countTuples, sumTuples, choiceCount, solutionCount}
-use Rattle.network.specs.Sheet.{Sheet, networkOf}
-use Rattle.network.specs.Calls.{Call, follow-step, full-reduction, answer, after}
+use Rattle.network.specs.Sheet.{Table, Sheet, networkOf}
+use Rattle.network.specs.Calls.{Call, answer, after, addedBy, keepsTo, tableless}
 use Rattle.network.specs.Promise.{Promised}
 use Rattle.network.proofs.Completion.{solves-cong, one-live-decided}
 use Rattle.network.proofs.Count.{sumTuples-sizes}
-use Rattle.network.proofs.Calls.{after-keeps}
+use Rattle.network.proofs.Calls.{after-keeps, keeps-to-none, tableless-adds}
 use Rattle.network.proofs.Promise as network
 use Rattle.pairs.specs.Pairs.{variables}
 use Rattle.head.specs.Held.{headOf}
 use Rattle.head.proofs.Held.{Packed}
 use Rattle.format.specs.Parse.{Octets, parse}
-use Rattle.format.specs.Builds.{options, isBuildOf}
+use Rattle.format.specs.Builds.{options, isBuild, isBuildOf}
 use Rattle.format.proofs.Builds.{builds-solve, builds-are-solutions, options-are, option-sizes-are}
 use Rattle.state.specs.declared.state.State.{State}
 use Rattle.state.specs.View.{view, pack, soundState}
 use Rattle.answers.specs.Answers.{says, rules}
 use Rattle.state.specs.Read.{readSheet}
 use Rattle.state.specs.Solutions.{valuesOf, tested, completeNumber, completedBuffer, verdictOf}
-use Rattle.sheet.specs.Promise.{handedBack, stateAfter, adds, addedBy, keepsTo, networkRead, ruledAs, lastState, lastNetwork, buildOfSheet, buildCount, Promise, OneLive, Demand3}
+use Rattle.sheet.specs.Promise.{stateAfter, tablesAdded, networkRead, ruledAs, lastState, lastNetwork, lastTables, buildOfSheet, buildCount, Promise, WithoutTables, OneLive, Demand3}
 use Rattle.state.proofs.View.{Shaped, pack-view, packed-view, packed-state, packed-shaped}
 use Rattle.state.proofs.Keep.{after-packed}
 use Rattle.state.proofs.Steps.{answer-packed}
-use Rattle.sheet.proofs.Calls.{call-answers, ruled-as}
+use Rattle.sheet.proofs.Calls.{call-answers, call-adds, ruled-as}
 use Rattle.state_read.proofs.RoundTrip.{Accepted, accepted, read-sound}
 use Rattle.state.proofs.Solutions.{tested-yes, yes-solves, complete-accepted, completed-buffer, verdict-of}
 
@@ -53,16 +53,16 @@ after-answers s h t (c ∷ cs) =
     ∙ after-answers (pack (answer (view s) c)) (packed-shaped P) (packed-state P) cs
     ∙ ap (λ (N : Network). pack (after N cs)) (packed-view P)
 
--- The calls of today add no table.
-pub nothing-added : (s : State) (cs : List Call) → addedBy s cs ≡ []
-unfolding addedBy adds
-nothing-added s [] = refl
-nothing-added s (follow-step l f ∷ cs) = nothing-added (handedBack s (follow-step l f)) cs
-nothing-added s (full-reduction ∷ cs) = nothing-added (handedBack s full-reduction) cs
-
-keeps-to-none : (f : ℕ → ℕ) → keepsTo [] f ≡ true
-unfolding keepsTo
-keeps-to-none f = refl
+-- And what they add to the sheet is what they add to that network.
+pub tables-answer : (s : State) → Shaped s → soundState s ≡ true → (cs : List Call) → tablesAdded s cs ≡ addedBy (view s) cs
+unfolding tablesAdded addedBy
+tables-answer s h t [] = refl
+tables-answer s h t (c ∷ cs) =
+    let P = answer-packed s h t c in
+    ap₂ (λ (ts us : List Table). ts ++ us) (call-adds s t c)
+    (ap (λ (u : State). tablesAdded u cs) (call-answers s h t c)
+    ∙ tables-answer (pack (answer (view s) c)) (packed-shaped P) (packed-state P) cs
+    ∙ ap (λ (N : Network). addedBy N cs) (packed-view P))
 
 take-tabulate : (n m : ℕ) (f : ℕ → ℕ) → n ≤ m → take n (tabulate m f) ≡ tabulate n f
 take-tabulate n m f h =
@@ -77,41 +77,42 @@ countTuples-cong n m s t p q e sizes tests =
     ∙ ap (λ (k : ℕ). sumTuples k t (λ (f : ℕ → ℕ). bit (p f)) (λ (i : ℕ). 0)) e
     ∙ ap (λ (r : (ℕ → ℕ) → Bool). sumTuples m t (λ (f : ℕ → ℕ). bit (r f)) (λ (i : ℕ). 0)) (fun-ext tests)
 
--- The state t holds the network M, which keeps the promise for the network N; and the builds, of n bytes, are the solutions of N.
-record Serves (N M : Network) (t : State) (n : ℕ) (build : List ℕ → Bool) : Type 0 where
+-- The state t holds the network M, which keeps the promise for the network N with p added; and the builds, of n bytes, are the solutions of M.
+record Serves (N M : Network) (p : (ℕ → ℕ) → Bool) (t : State) (n : ℕ) (build : List ℕ → Bool) : Type 0 where
   shaped : Shaped t
   sound : soundState t ≡ true
   holds : view t ≡ M
-  promised : Promised N M (λ (f : ℕ → ℕ). true)
+  promised : Promised N M p
   state-n : t .n ≡ n
-  network-n : N .n ≡ n
+  given-n : N .n ≡ n
+  network-n : M .n ≡ n
   at-most : n ≤ variables
-  builds-are : (b : List ℕ) → build b ≡ and (eqb (length b) n) (solves N (valuesOf b))
+  builds-are : (b : List ℕ) → build b ≡ and (eqb (length b) n) (solves M (valuesOf b))
 
 -- Then every sentence of demand 3 but the count holds of t and the builds.
-module _ (N M : Network) (t : State) (n : ℕ) (build : List ℕ → Bool) (S : Serves N M t n build) where
-  build-i : (b : List ℕ) → length b ≡ n → solves N (valuesOf b) ≡ true → build b ≡ true
+module _ (N M : Network) (p : (ℕ → ℕ) → Bool) (t : State) (n : ℕ) (build : List ℕ → Bool) (S : Serves N M p t n build) where
+  build-i : (b : List ℕ) → length b ≡ n → solves M (valuesOf b) ≡ true → build b ≡ true
   build-i b e k = S .builds-are b ∙ and-i _ _ (eq-eqb _ _ e) k
 
   build-length : (b : List ℕ) → build b ≡ true → length b ≡ n
   build-length b x = eqb-true _ _ (and-l _ _ (sym (S .builds-are b) ∙ x))
 
-  build-solves : (b : List ℕ) → build b ≡ true → solves N (valuesOf b) ≡ true
+  build-solves : (b : List ℕ) → build b ≡ true → solves M (valuesOf b) ≡ true
   build-solves b x = and-r _ _ (sym (S .builds-are b) ∙ x)
 
-  build-table : (f : ℕ → ℕ) → solves N f ≡ true → build (tabulate n f) ≡ true
+  build-table : (f : ℕ → ℕ) → solves M f ≡ true → build (tabulate n f) ≡ true
   unfolding valuesOf
   build-table f k =
       build-i (tabulate n f) (length-tabulate n f)
-      (solves-cong N (valuesOf (tabulate n f)) f (λ i l. getD-tabulate n f i 0 (rw (S .network-n) at l)) ∙ k)
+      (solves-cong M (valuesOf (tabulate n f)) f (λ i l. getD-tabulate n f i 0 (rw (S .network-n) at l)) ∙ k)
 
-  same-solutions : (f : ℕ → ℕ) → solves (view t) f ≡ solves N f
-  same-solutions f = ap (λ (L : Network). solves L f) (S .holds) ∙ S .promised .tester f ∙ and-true (solves N f)
+  state-solves : (f : ℕ → ℕ) → solves (view t) f ≡ solves M f
+  state-solves f = ap (λ (L : Network). solves L f) (S .holds)
 
   tester-says : (b : List ℕ) → (tested t b ≡ says true) ↔ (build b ≡ true)
   tester-says b = (
-    λ y. let p = yes-solves t (S .shaped .head-shaped) (S .sound) b y in build-i b (p .0 ∙ S .state-n) (sym (same-solutions (valuesOf b)) ∙ p .1),
-    λ x. tested-yes t (S .shaped .head-shaped) (S .sound) b (build-length b x ∙ sym (S .state-n)) (same-solutions (valuesOf b) ∙ build-solves b x),
+    λ y. let p = yes-solves t (S .shaped .head-shaped) (S .sound) b y in build-i b (p .0 ∙ S .state-n) (sym (state-solves (valuesOf b)) ∙ p .1),
+    λ x. tested-yes t (S .shaped .head-shaped) (S .sound) b (build-length b x ∙ sym (S .state-n)) (state-solves (valuesOf b) ∙ build-solves b x),
   )
 
   -- Buffers of n bytes that are an allowed choice.
@@ -129,23 +130,23 @@ module _ (N M : Network) (t : State) (n : ℕ) (build : List ℕ → Bool) (S : 
     keeps-live i l k = rw buffer-is (getD-tabulate n _ i 0 l ∙ S .promised .keeps (valuesOf b) i k)
 
     gives-build : build (completedBuffer t b) ≡ true
-    gives-build = rw buffer-is (build-table (completed M (valuesOf b)) (sym (and-true _) ∙ S .promised .completes (valuesOf b) a))
+    gives-build = rw buffer-is (build-table (completed M (valuesOf b)) (S .promised .tester _ ∙ S .promised .completes (valuesOf b) a))
 
     only-build : (c : List ℕ) → build c ≡ true → ((i : ℕ) → i < n → free M i ≡ true → getD c i 0 ≡ getD b i 0) → c ≡ completedBuffer t b
     unfolding valuesOf
     only-build c x live =
         is-table n _ c 0 (build-length c x)
-        (λ k l. S .promised .only (valuesOf b) (valuesOf c) a (and-true _ ∙ build-solves c x)
-        (λ i m q. live i (rw (S .network-n) at m) q) k (rw (S .network-n) l))
+        (λ k l. S .promised .only (valuesOf b) (valuesOf c) a (sym (S .promised .tester _) ∙ build-solves c x)
+        (λ i m q. live i (rw (S .given-n) at m) q) k (rw (S .given-n) l))
         ∙ sym buffer-is
 
   rules-none : ruledAs NONE (verdictOf t) ↔ (verdict M ≡ NONE)
   rules-none = rw (S .holds) at (ruled-as t (S .sound) NONE)
 
-  no-build : ((f : ℕ → ℕ) → and (solves N f) true ≡ false) ↔ ((b : List ℕ) → build b ≡ false)
+  no-build : ((f : ℕ → ℕ) → and (solves N f) (p f) ≡ false) ↔ ((b : List ℕ) → build b ≡ false)
   no-build = (
-    λ none b. not-true→false _ (λ x. clash (and-true _ ∙ build-solves b x) (none (valuesOf b))),
-    λ none f. not-true→false _ (λ k. clash (build-table f (sym (and-true _) ∙ k)) (none (tabulate n f))),
+    λ none b. not-true→false _ (λ x. clash (sym (S .promised .tester _) ∙ build-solves b x) (none (valuesOf b))),
+    λ none f. not-true→false _ (λ k. clash (build-table f (S .promised .tester f ∙ k)) (none (tabulate n f))),
   )
 
   shows-build : decided M ≡ true → (ruledAs NONE (verdictOf t) → ⊥)
@@ -154,7 +155,7 @@ module _ (N M : Network) (t : State) (n : ℕ) (build : List ℕ → Bool) (S : 
       let b = S .promised .built d (λ v. not-none (rules-none .1 v)) in (
         tabulate 16 (shown M),
         verdict-of t (S .sound) ∙ rw (S .holds, b .0),
-        rw (take-tabulate n 16 (shown M) (S .at-most)) (build-table (shown M) (sym (and-true _) ∙ b .1)),
+        rw (take-tabulate n 16 (shown M) (S .at-most)) (build-table (shown M) (S .promised .tester _ ∙ b .1)),
       )
 
 -- An accepted sheet, and any list of calls.
@@ -192,24 +193,33 @@ module _ (bytes : List ℕ) (octets : Octets bytes) (h : readSheet bytes .number
       ap (λ (t : State). t .n) last-state
       ∙ ap (λ (N : Network). N .n) last-network ∙ after-keeps (networkOf s) (A .sheet-sound) cs .same-n ∙ n-options
 
-  keeps-to-added : (f : ℕ → ℕ) → keepsTo (addedBy (readSheet bytes .state) cs) f ≡ true
-  keeps-to-added f = rw (nothing-added (readSheet bytes .state) cs) (keeps-to-none f)
+  -- The tables that the calls added to the sheet are those that they added to its network.
+  last-tables : lastTables bytes cs ≡ addedBy (networkOf s) cs
+  unfolding lastTables
+  last-tables =
+      let r = read-sound bytes octets h in
+      tables-answer (readSheet bytes .state) (r .read-shaped) (r .is-sound) cs ∙ ap (λ (N : Network). addedBy N cs) (A .view-is)
 
-  sheet-builds : (b : List ℕ) → buildOfSheet bytes cs b ≡ and (eqb (length b) (options bytes)) (solves (networkOf s) (valuesOf b))
+  promised : Promised (networkOf s) (lastNetwork bytes cs) (keepsTo (lastTables bytes cs))
+  promised = rw (last-network, last-tables) (network.promise (networkOf s) (A .sheet-sound) cs)
+
+  sheet-builds : (b : List ℕ) → buildOfSheet bytes cs b ≡ and (eqb (length b) (options bytes)) (solves (lastNetwork bytes cs) (valuesOf b))
   unfolding buildOfSheet valuesOf
   sheet-builds b =
-      ap (and (isBuildOf bytes b)) (keeps-to-added (valuesOf b)) ∙ and-true _
-      ∙ builds-are-solutions bytes octets s (length bytes) (A .got-sheet) b ∙ rw n-options
+      ap (λ (x : Bool). and x (keepsTo (lastTables bytes cs) (valuesOf b)))
+      (builds-are-solutions bytes octets s (length bytes) (A .got-sheet) b ∙ rw n-options)
+      ∙ and-assoc _ _ _ ∙ ap (and (eqb (length b) (options bytes))) (sym (promised .tester (valuesOf b)))
 
-  serves : Serves (networkOf s) (lastNetwork bytes cs) (lastState bytes cs) (options bytes) (buildOfSheet bytes cs)
+  serves : Serves (networkOf s) (lastNetwork bytes cs) (keepsTo (lastTables bytes cs)) (lastState bytes cs) (options bytes) (buildOfSheet bytes cs)
   serves =
       record {
         shaped = rw last-state (packed-shaped last-packed);
         sound = ap soundState last-state ∙ packed-state last-packed;
         holds = ap view last-state ∙ packed-view last-packed;
-        promised = rw last-network (network.promise (networkOf s) (A .sheet-sound) cs);
+        promised = promised;
         state-n = last-n;
-        network-n = n-options;
+        given-n = n-options;
+        network-n = ap (λ (N : Network). N .n) last-network ∙ after-keeps (networkOf s) (A .sheet-sound) cs .same-n ∙ n-options;
         at-most = rw (← n-options) (A .at-most);
         builds-are = sheet-builds;
       }
@@ -217,31 +227,46 @@ module _ (bytes : List ℕ) (octets : Octets bytes) (h : readSheet bytes .number
   counts : choiceCount (lastNetwork bytes cs) ≡ buildCount bytes cs
   unfolding buildCount solutionCount
   counts =
-      serves .promised .counted
+      promised .counted
       ∙ countTuples-cong _ _ _ _ _ _ n-options
       (λ i l. sym (option-sizes-are bytes octets s (length bytes) (A .got-sheet) i l))
-      (λ f. ap₂ and (sym (builds-solve bytes octets s (length bytes) (A .got-sheet) f)) (sym (keeps-to-added f)))
+      (λ f. ap (λ (x : Bool). and x (keepsTo (lastTables bytes cs) f)) (sym (builds-solve bytes octets s (length bytes) (A .got-sheet) f)))
+
+  -- Follow steps and full reductions add no table.
+  no-tables : tableless cs ≡ true → (f : ℕ → ℕ) → keepsTo (lastTables bytes cs) f ≡ true
+  no-tables e f = rw (last-tables, tableless-adds (networkOf s) cs e) (keeps-to-none f)
 
   promise : Promise bytes cs
   promise =
       let S = serves in
       record {
         packed = last-state;
-        tester = tester-says _ _ _ _ _ S;
-        completer-accepts = not-refused _ _ _ _ _ S;
-        completer-keeps = keeps-live _ _ _ _ _ S;
-        completer-builds = gives-build _ _ _ _ _ S;
-        completer-only = λ b c e a x live. only-build _ _ _ _ _ S b e a c x live;
+        tester = tester-says _ _ _ _ _ _ S;
+        completer-accepts = not-refused _ _ _ _ _ _ S;
+        completer-keeps = keeps-live _ _ _ _ _ _ S;
+        completer-builds = gives-build _ _ _ _ _ _ S;
+        completer-only = λ b c e a x live. only-build _ _ _ _ _ _ S b e a c x live;
         counted = counts;
-        none-only = λ r. no-build _ _ _ _ _ S .0 (S .promised .none-only (rules-none _ _ _ _ _ S .0 r));
-        none-when = λ d none. rules-none _ _ _ _ _ S .1 (S .promised .none-when d (no-build _ _ _ _ _ S .1 none));
-        built = shows-build _ _ _ _ _ S;
+        none-only = λ r. no-build _ _ _ _ _ _ S .0 (S .promised .none-only (rules-none _ _ _ _ _ _ S .0 r));
+        none-when = λ d none. rules-none _ _ _ _ _ _ S .1 (S .promised .none-when d (no-build _ _ _ _ _ _ S .1 none));
+        built = shows-build _ _ _ _ _ _ S;
       }
 
 -- Demand 3, whole.
 pub demand3 : Demand3
 unfolding Demand3
 demand3 bytes octets h cs = let (s, A) = accepted bytes octets h in promise bytes octets h s A cs
+
+-- Without added tables.
+pub tables-none : (bytes : List ℕ) → Octets bytes → readSheet bytes .number ≡ 0 → (cs : List Call) → WithoutTables bytes cs
+unfolding buildOfSheet buildCount
+tables-none bytes octets h cs =
+    let (s, A) = accepted bytes octets h in
+    let none = no-tables bytes octets h s A cs in
+    record {
+      same-builds = λ e b. ap (and (isBuildOf bytes b)) (none e (valuesOf b)) ∙ and-true _;
+      same-count = λ e. countTuples-cong _ _ _ _ _ _ refl (λ i l. refl) (λ f. ap (and (isBuild bytes f)) (none e f) ∙ and-true _);
+    }
 
 -- The same accepted sheets and lists of calls, with one live option.
 pub one-live : (bytes : List ℕ) → ((k : ℕ) → getD bytes k 0 < 256) → readSheet bytes .number ≡ 0 → (cs : List Call) → OneLive bytes cs

@@ -1,19 +1,19 @@
 -- Demand 3: "What demand 3 counts" of document 01, sentence by sentence, with what document 02 adds to it. Together with the contracts of the calls, which cite the same definitions
--- (`readSheet`, `stepped`, `reduced`, `tested`, `completeNumber`, `completedBuffer`, `verdictOf`), it speaks of the code.
+-- (`readSheet`, `stepped`, `reduced`, `tableAdded`, `tested`, `completeNumber`, `completedBuffer`, `verdictOf`), it speaks of the code.
 use mathlib.Core.Bool.{Bool, true, false}
 use mathlib.Core.List.{List, [], _∷_, _++_}
 use mathlib.Core.Logic.{_↔_}
 use mathlib.Core.Path.{_≡_}
-use Prim.Native.Nat.{ℕ, _+_, _-_, _<_}
+use Prim.Native.Nat.{ℕ, _+_, _<_}
+use lib.Dec.{eqb}
 use lib.ListN.{length, getD, take}
-use Rattle.bounded.specs.Bool.{and}
-use Rattle.words.specs.Word.{has}
+use Rattle.bounded.specs.Bool.{and, if}
 use Rattle.network.specs.Network.{Network, free}
 use Rattle.network.specs.Reduction.{freeCount}
 use Rattle.network.specs.Completion.{Verdict, NONE, BUILT, allowedChoice, decided}
 use Rattle.network.specs.Count.{countTuples, choiceCount}
 use Rattle.network.specs.Sheet.{Table, Sheet, networkOf}
-use Rattle.network.specs.Calls.{Call, follow-step, full-reduction, after}
+use Rattle.network.specs.Calls.{Call, follow-step, full-reduction, add-table, after, keepsTo, tableless}
 use Rattle.format.specs.Parse.{Octets, Parse, got, bad, parse}
 use Rattle.format.specs.Builds.{options, optionSize, isBuild, isBuildOf}
 use Rattle.state.specs.declared.state.State.{State}
@@ -21,30 +21,29 @@ use Rattle.state.specs.View.{view, pack, zeroState}
 use Rattle.answers.specs.Answers.{says, VerdictTold, rules}
 use Rattle.state.specs.Read.{readSheet}
 use Rattle.state.specs.Steps.{stepped, reduced}
+use Rattle.state.specs.Tables.{tableAdded}
 use Rattle.state.specs.Solutions.{valuesOf, tested, completeNumber, completedBuffer, verdictOf}
 
 -- "Each call gets the state that the one before it handed back; a refused call hands back what it was given, and nobody else changes it meanwhile."
 unfoldable pub handedBack : State → Call → State
 handedBack s (follow-step l f) = stepped s l f .state
 handedBack s full-reduction = reduced s .state
+handedBack s (add-table x y rows) = tableAdded s x y rows .state
 
 unfoldable pub stateAfter : State → List Call → State
 stateAfter s [] = s
 stateAfter s (c ∷ cs) = stateAfter (handedBack s c) cs
 
--- The tables that a call adds to the sheet: none today.
-unfoldable pub adds : State → Call → List Table
-adds s (follow-step l f) = []
-adds s full-reduction = []
+-- The table that a call adds to the sheet, read off the call and its answer: one that was not refused.
+unfoldable pub addsTo : State → Call → List Table
+addsTo s (follow-step l f) = []
+addsTo s full-reduction = []
+addsTo s (add-table x y rows) = if (eqb (tableAdded s x y rows .number) 0) (record { first = x; second = y; rows = rows } ∷ []) []
 
-unfoldable pub addedBy : State → List Call → List Table
-addedBy s [] = []
-addedBy s (c ∷ cs) = adds s c ++ addedBy (handedBack s c) cs
-
--- f keeps to the added tables.
-unfoldable pub keepsTo : List Table → (ℕ → ℕ) → Bool
-keepsTo [] f = true
-keepsTo (t ∷ ts) f = and (has (getD (t .rows) (f (t .first - 1)) 0) (f (t .second - 1))) (keepsTo ts f)
+-- "the tables that calls not refused added" (document 02)
+unfoldable pub tablesAdded : State → List Call → List Table
+tablesAdded s [] = []
+tablesAdded s (c ∷ cs) = addsTo s c ++ tablesAdded (handedBack s c) cs
 
 -- The network of an accepted sheet.
 unfoldable pub networkRead : Parse Sheet → Network
@@ -64,15 +63,19 @@ module _ (bytes : List ℕ) (cs : List Call) where
   unfoldable pub lastNetwork : Network
   lastNetwork = after (networkRead (parse bytes)) cs
 
-  -- "A build of a sheet is read off its bytes alone", together with the tables that calls added.
+  unfoldable pub lastTables : List Table
+  lastTables = tablesAdded (readSheet bytes .state) cs
+
+  -- "A build of a sheet is read off its bytes alone", and "builds are counted against the accepted sheet together with the tables that calls not refused
+  -- added" (document 02).
   unfoldable pub buildOfSheet : List ℕ → Bool
-  buildOfSheet build = and (isBuildOf bytes build) (keepsTo (addedBy (readSheet bytes .state) cs) (valuesOf build))
+  buildOfSheet build = and (isBuildOf bytes build) (keepsTo lastTables (valuesOf build))
 
   -- "Choices are told apart by the values of live options, builds by their n bytes": builds are counted over all tuples below the sizes.
   unfoldable pub buildCount : ℕ
   buildCount =
       countTuples (options bytes) (λ (i : ℕ). optionSize bytes (i + 1))
-      (λ (f : ℕ → ℕ). and (isBuild bytes f) (keepsTo (addedBy (readSheet bytes .state) cs) f))
+      (λ (f : ℕ → ℕ). and (isBuild bytes f) (keepsTo lastTables f))
 
   -- Two buffers have the same values at the free variables.
   abbrev pub SameFree : List ℕ → List ℕ → Type 0
@@ -108,12 +111,18 @@ module _ (bytes : List ℕ) (cs : List Call) where
     -- and otherwise BUILT, and the first n bytes shown are a build of the sheet."
     pub built : decided lastNetwork ≡ true → (ruledAs NONE (verdictOf lastState) → ⊥) → ShowsBuild
 
+  -- Without added tables builds are those of the sheet's bytes, and all of the promise is document 01's own (`tables-none`).
+  pub record WithoutTables : Type 0 where
+    pub same-builds : tableless cs ≡ true → (b : List ℕ) → buildOfSheet b ≡ isBuildOf bytes b
+    pub same-count : tableless cs ≡ true → buildCount ≡ countTuples (options bytes) (λ (i : ℕ). optionSize bytes (i + 1)) (isBuild bytes)
+
   -- One free variable is such a case, and so document 01's own sentence still holds (`one-live`): "With exactly one live option it is NONE exactly when the
   -- sheet has no build, and otherwise BUILT, and the first n bytes shown are a build of the sheet."
   pub record OneLive : Type 0 where
     pub none-exactly : freeCount lastNetwork ≡ 1 → ruledAs NONE (verdictOf lastState) ↔ ((b : List ℕ) → buildOfSheet b ≡ false)
     pub built-otherwise : freeCount lastNetwork ≡ 1 → (ruledAs NONE (verdictOf lastState) → ⊥) → ShowsBuild
 
--- Demand 3, whole: "Take any accepted sheet. For every list of follow steps and full reductions asked of it, in any order, refused ones included".
+-- Demand 3, whole: "Take any accepted sheet. For every list of follow steps and full reductions asked of it, in any order, refused ones included", and
+-- of added tables: "such calls belong to demand 3's list too, refused ones included" (document 02).
 unfoldable pub Demand3 : Type 0
 Demand3 = (bytes : List ℕ) → Octets bytes → readSheet bytes .number ≡ 0 → (cs : List Call) → Promise bytes cs

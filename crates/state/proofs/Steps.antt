@@ -1,5 +1,5 @@
 -- The follow step and the full reduction on states: what they hand back is sound where what they got is, and has the same solutions.
-use mathlib.Core.Bool.{true, false}
+use mathlib.Core.Bool.{Bool, true, false}
 use mathlib.Core.Path.{_≡_, refl, sym, ap, _∙_}
 use Prim.Native.Nat.{ℕ, suc, pred, _+_, _≤_}
 use native.Mathlib.Omega.{arith}
@@ -12,7 +12,7 @@ use Rattle.network.specs.Network.{Network, free, solves}
 use Rattle.network.specs.Promise.{Keeps}
 use Rattle.network.specs.Step.{refusal, eliminate}
 use Rattle.network.specs.Reduction.{freeCount, reducible, reduce}
-use Rattle.network.specs.Calls.{Call, follow-step, full-reduction, answer}
+use Rattle.network.specs.Calls.{Call, follow-step, full-reduction, answer, adds, keepsTo}
 use Rattle.network.proofs.Calls.{answer-taken, answer-refused, answer-reduced, answer-keeps}
 use Rattle.network.proofs.Reduction.{reduce-count, reduce-taken, reduce-most, reduce-stops}
 use Rattle.state.specs.declared.state.State.{State}
@@ -71,51 +71,54 @@ module _ (s : State) (h : Shaped s) (t : soundState s ≡ true) where
   pub answer-packed : (c : Call) → Packed (answer (view s) c)
   answer-packed c = kept-packed _ _ (h .head-shaped) t (answer (view s) c) _ (answer-keeps (view s) (state-sound s h t) c)
 
--- What every call keeps of a state, refused or not: t, handed back for s, is sound if s is, and has the same variables, sizes and solutions.
-pub record StateKept (s t : State) : Type 0 where
+-- What every call keeps of a state, refused or not: t, handed back for s, is sound if s is, and has the same variables and sizes, and of the solutions those
+-- that p lets pass.
+pub record StateKept (s t : State) (p : (ℕ → ℕ) → Bool) : Type 0 where
   pub kept-shaped : Shaped t
   pub kept-sound : soundState s ≡ true → soundState t ≡ true
   pub kept-n : t .n ≡ s .n
   pub kept-size : (i : ℕ) → view t .size i ≡ view s .size i
-  pub kept-solutions : (g : ℕ → ℕ) → solves (view t) g ≡ solves (view s) g
+  pub kept-solutions : (g : ℕ → ℕ) → solves (view t) g ≡ and (solves (view s) g) (p g)
 
-kept-self : (s : State) → Shaped s → StateKept s s
-kept-self s h =
+-- A refused call keeps all of it.
+pub kept-self : (s : State) → Shaped s → (p : (ℕ → ℕ) → Bool) → ((g : ℕ → ℕ) → p g ≡ true) → StateKept s s p
+kept-self s h p all =
     record {
       kept-shaped = h;
       kept-sound = λ t. t;
       kept-n = refl;
       kept-size = λ i. refl;
-      kept-solutions = λ g. refl;
+      kept-solutions = λ g. sym (and-true _) ∙ ap (and (solves (view s) g)) (sym (all g));
     }
 
-kept-packed-state : (s : State) (M : Network) → Keeps (view s) M (λ (f : ℕ → ℕ). true) → Packed M → StateKept s (pack M)
+pub kept-packed-state : (s : State) (M : Network) (p : (ℕ → ℕ) → Bool) → Keeps (view s) M p → Packed M → StateKept s (pack M) p
 unfolding held headOf pack
-kept-packed-state s M K P =
+kept-packed-state s M p K P =
     record {
       kept-shaped = packed-shaped P;
       kept-sound = λ t. packed-state P;
       kept-n = K .same-n;
       kept-size = λ i. ap (λ (N : Network). N .size i) (packed-view P) ∙ K .same-size i;
-      kept-solutions = λ g. ap (λ (N : Network). solves N g) (packed-view P) ∙ K .same-solutions g ∙ and-true (solves (view s) g);
+      kept-solutions = λ g. ap (λ (N : Network). solves N g) (packed-view P) ∙ K .same-solutions g;
     }
 
-pub answer-kept : (s : State) → Shaped s → soundState s ≡ true → (c : Call) → StateKept s (pack (answer (view s) c))
-answer-kept s h t c = kept-packed-state s (answer (view s) c) (answer-keeps (view s) (state-sound s h t) c) (answer-packed s h t c)
+pub answer-kept : (s : State) → Shaped s → soundState s ≡ true → (c : Call) → StateKept s (pack (answer (view s) c)) (keepsTo (adds (view s) c))
+answer-kept s h t c = kept-packed-state s (answer (view s) c) _ (answer-keeps (view s) (state-sound s h t) c) (answer-packed s h t c)
 
-pub step-keeps : (s : State) → Shaped s → (l f : ℕ) → StateKept s (stepped s l f .state)
-unfolding refused
+-- A step and a reduction keep every solution.
+pub step-keeps : (s : State) → Shaped s → (l f : ℕ) → StateKept s (stepped s l f .state) (λ (g : ℕ → ℕ). true)
+unfolding refused adds keepsTo
 step-keeps s h l f =
     by-cases (soundState s)
     (λ t. rw (step-answers s h t l f) (answer-kept s h t (follow-step l f)))
-    (λ t. rw (stepped-refused s l f 9 (unsound-step s l f t) (omega arith)) (kept-self s h))
+    (λ t. rw (stepped-refused s l f 9 (unsound-step s l f t) (omega arith)) (kept-self s h _ (λ g. refl)))
 
-pub reduced-keeps : (s : State) → Shaped s → StateKept s (reduced s .state)
-unfolding refused
+pub reduced-keeps : (s : State) → Shaped s → StateKept s (reduced s .state) (λ (g : ℕ → ℕ). true)
+unfolding refused adds keepsTo
 reduced-keeps s h =
     by-cases (soundState s)
     (λ t. rw (reduced-answers s h t) (answer-kept s h t full-reduction))
-    (λ t. rw (reduced-refused s t) (kept-self s h))
+    (λ t. rw (reduced-refused s t) (kept-self s h _ (λ g. refl)))
 
 -- The full reduction of a sound state.
 module _ (s : State) (h : Shaped s) (t : soundState s ≡ true) where

@@ -5,6 +5,7 @@ pub mod Read
 pub mod Write
 pub mod Steps
 pub mod Rules
+pub mod Tables
 pub mod Worked
 pub mod Solutions
 pub mod Cut

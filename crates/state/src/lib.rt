@@ -1,7 +1,8 @@
-// The state of a sheet, what each public call on it answers, and the two that hand a state back changed.
+// The state of a sheet, what each public call on it answers, and those that hand a state back changed.
 mod answer;
 mod reduction;
 mod state;
+mod table;
 
 pub use answer::Answer;
 pub use answer::CutAnswer;
@@ -13,3 +14,4 @@ pub use reduction::reduce_sound;
 pub use state::State;
 pub use state::head_in;
 pub use state::state_of;
+pub use table::add_parts;

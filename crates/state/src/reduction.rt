@@ -102,7 +102,7 @@ pub fn reduce_parts(head: Head, rows: &mut Rows) -> Worked
 }
 
 // "It hands back the state and the number of steps".
-fn handed_back(worked: Worked, rows: Rows) -> Answer
+pub fn handed_back(worked: Worked, rows: Rows) -> Answer
     ensures { λ r. ⌜ told r ≡ workedTold worked rows ⌝ }
 {
     let outcome = worked.outcome;

@@ -92,7 +92,7 @@ module _ (bytes : List ℕ) (a : ReadParts) (rows : List ℕ) (e : readPartsTold
     told-reduced = f ∙ sym (reduced-done stateRead (r .is-sound))
 
     -- which the reduction keeps sound,
-    kept : StateKept stateRead (b .state)
+    kept : StateKept stateRead (b .state) (λ (f : ℕ → ℕ). true)
     kept = rw (ap (λ (x : Told). x .state) told-reduced) (reduced-keeps stateRead (r .read-shaped))
 
     pub cut-sound : soundState (b .state) ≡ true

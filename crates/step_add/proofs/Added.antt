@@ -5,7 +5,7 @@ use mathlib.Core.Path.{_≡_, sym, ap, _∙_}
 use Prim.Native.Nat.{ℕ, suc, _<_}
 use native.Mathlib.Omega.{arith}
 use lib.Dec.{eqb}
-use lib.ListN.{getD, set}
+use lib.ListN.{length, getD, set}
 use Rattle.bounded.specs.Bool.{or}
 use Rattle.words.specs.Word.{width, has, word}
 use Rattle.words.proofs.Laws.{word-cong}
@@ -14,16 +14,17 @@ use Rattle.network.specs.Sound.{Sound}
 use Rattle.network.specs.Lists.{narrowed}
 use Rattle.network.specs.Added.{traced, addRefusal, constrained, allowsPartners, added}
 use Rattle.network.proofs.Added.{traced-free, traced-in, traced-is-free}
-use Rattle.network.proofs.Added.{added-one, added-two, table-keeps, add-refuses, not-refused}
+use Rattle.network.proofs.Added.{added-one, added-two, add-refuses, not-refused}
 use Rattle.pairs.specs.Pairs.{variables, rowsOf}
 use Rattle.pairs.specs.Frames.{Stored}
 use Rattle.head.specs.declared.Head.{Head}
 use Rattle.head.specs.Held.{HeadShaped, RowsShaped, held, headOf, soundIn}
-use Rattle.head.proofs.Held.{Packed, kept-packed, rows-of-held, held-sound, held-n}
+use Rattle.head.proofs.Held.{rows-of-held, held-sound, held-n}
 use Rattle.step_add.specs.declared.sides.Side.{Side}
 use Rattle.step_add.specs.Sides.{leaderOf, sideOf, Apart, PartnersIn, cutAt, keptAt}
+use Rattle.step_add.specs.Turned.{Turns}
 use Rattle.step_add.specs.Added.{AddedTo}
-use Rattle.step_add.proofs.Meaning.{cut-is, kept-is, partners-in}
+use Rattle.step_add.proofs.Meaning.{cut-is, kept-is, partners-in, turns}
 use Rattle.step_add.proofs.Stored.{narrowed-head, constrained-head, constrained-rows}
 
 -- What is known of a table that is not refused.
@@ -43,10 +44,6 @@ module _ {h : Head} {rows : List ℕ} {x y : ℕ} {table : List ℕ} (G : Given 
   y-in : y < held h rows .n
   y-in = not-refused (held h rows) (suc x) (suc y) table (G .accepted) .1
 
-  -- The network with the table added has a head and rows, sound, that hold it.
-  pub added-packed : Packed (added (held h rows) x y table)
-  added-packed = kept-packed h rows (G .shaped) (G .is-sound) _ _ (table-keeps (held h rows) x y table S x-in y-in)
-
   in-head : (z : ℕ) → z < held h rows .n → (z < variables) × (leaderOf h z < variables)
   unfolding leaderOf traced free held
   in-head z l =
@@ -60,10 +57,12 @@ module _ {h : Head} {rows : List ℕ} {x y : ℕ} {table : List ℕ} (G : Given 
   pub second-in : (y < variables) × (leaderOf h y < variables)
   second-in = in-head y y-in
 
+  row-for-each : length table ≡ held h rows .size x
+  row-for-each = add-refuses (held h rows) (suc x) (suc y) table .number-0 .0 (G .accepted) .1 .1 .row-count
+
   -- Each value of the first leader has a row.
   pub rows-in : {s : Side} → s ≡ sideOf h x → PartnersIn width rows table s
-  rows-in e =
-      rw e (partners-in h rows (G .shaped) (G .is-sound) x y table (add-refuses (held h rows) (suc x) (suc y) table .number-0 .0 (G .accepted) .1 .1 .row-count))
+  rows-in e = rw e (partners-in h rows (G .shaped) (G .is-sound) x y table (omega (arith, row-for-each)))
 
   -- A leader is free, so that it is led by no other.
   not-led : (u v : ℕ) → (leaderOf h u ≡ leaderOf h v → ⊥) → u ≡ leaderOf h v → ⊥
@@ -114,6 +113,10 @@ module _ {h : Head} {rows : List ℕ} {x y : ℕ} {table : List ℕ} (G : Given 
         rw (se, re)
         (let n : leaderOf h x ≡ leaderOf h y → ⊥ = rw (se, re) at d in
         record { leaders-apart = n; first-apart = not-led x y n; second-apart = not-led y x (λ e. n (sym e)) })
+
+    -- The table may be turned.
+    pub sides-turn : Turns width rows table s r
+    sides-turn = rw (se, re) (turns h rows (G .shaped) (G .is-sound) x y table row-for-each)
 
     pub added-same : Trims s r
     added-same = rw (se, re) trims

@@ -1,4 +1,5 @@
 pub mod Cut
+pub mod Turned
 pub mod Judging
 pub mod Meaning
 pub mod Stored

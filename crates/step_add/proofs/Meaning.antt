@@ -21,6 +21,8 @@ use Rattle.head.specs.declared.Head.{Head}
 use Rattle.head.specs.Held.{HeadShaped, held, soundIn}
 use Rattle.head.proofs.Held.{held-sound, held-size}
 use Rattle.step_add.specs.Sides.{leaderOf, sideOf, partnerAt, PartnersIn, toldAt, reachAt, cutAt, keptAt}
+use Rattle.step_add.specs.Turned.{turnedOf, Turns}
+use Rattle.step_add.proofs.Turned.{columns-length, turned-allows}
 
 and-swap : (a b c : Bool) → and (and a b) c ≡ and (and a c) b
 and-swap a b c = and-assoc a b c ∙ ap (and a) (and-comm b c) ∙ sym (and-assoc a c b)
@@ -104,6 +106,34 @@ module _ (h : Head) (rows : List ℕ) (S : HeadShaped h) (t : soundIn h rows ≡
     kept-is a e = and-cong _ _ _ (λ d. reach-is a a d (rw e at d))
 
     -- Each value of the first leader has a row of a table with a row for each value of x.
-    pub partners-in : length table ≡ N .size x → PartnersIn width rows table (sideOf h x)
+    pub partners-in : N .size x ≤ length table → PartnersIn width rows table (sideOf h x)
     unfolding sideOf leaderOf traced free held
-    partners-in e a d = rw (partner-is x a d, e) (sound .domain-in x _ (partner-in x a d))
+    partners-in e a d = rw (partner-is x a d) (omega (arith, sound .domain-in x _ (partner-in x a d)))
+
+  -- From its other side the table says the same of the leaders' values.
+  module _ (x y : ℕ) (table : List ℕ) where
+    partner-fits : (z a : ℕ) → N .domain (traced N z) a ≡ true → partnerIn N z a < width
+    partner-fits z a d = omega (arith, sound .domain-in z _ (partner-in z a d), size-fits z)
+
+    reach-turns : (a b : ℕ) → N .domain (traced N x) a ≡ true → N .domain (traced N y) b ≡ true
+        → reachAt width rows (turnedOf width (sideOf h y .domain) table) (sideOf h y) (sideOf h x) b a ≡ reachAt width rows table (sideOf h x) (sideOf h y) a b
+    unfolding allowsPartners sideOf held
+    reach-turns a b da db =
+        reach-is y x (turnedOf width (sideOf h y .domain) table) b a db da
+        ∙ turned-allows width _ table _ _ (partner-fits x a da) (partner-fits y b db) (partner-in y b db)
+        ∙ sym (reach-is x y table a b da db)
+
+    cut-turns : (was : Bool) (a b : ℕ)
+        → cutAt width rows (turnedOf width (sideOf h y .domain) table) (sideOf h y) (sideOf h x) was b a ≡ cutAt width rows table (sideOf h x) (sideOf h y) was a b
+    unfolding cutAt sideOf leaderOf traced free held
+    cut-turns was a b =
+        and-cong _ _ _ (λ d. ap₂ and (reach-turns a b (and-r _ _ d) (and-l _ _ d)) (ap (implies was) (allows-alike width rows _ _ b a)))
+        ∙ ap₂ and (and-comm _ _) refl
+
+    pub turns : length table ≡ N .size x → Turns width rows table (sideOf h x) (sideOf h y)
+    turns e =
+        record {
+          rows-few = omega (arith, size-fits x);
+          columns-in = partners-in y x (turnedOf width (sideOf h y .domain) table) (omega (arith, size-fits y, columns-length width (sideOf h y .domain) table));
+          cut-same = cut-turns;
+        }

@@ -2,6 +2,7 @@
 mod judge;
 mod sides;
 mod table;
+mod turn;
 
 pub use judge::TableJudgement;
 pub use judge::judge_table;

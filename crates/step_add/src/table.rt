@@ -2,6 +2,7 @@
 use crate::sides::Side;
 use crate::sides::reach;
 use crate::sides::side_of;
+use crate::turn::turned;
 use head::Head;
 use pairs::Rows;
 use words::WIDTH;
@@ -18,12 +19,13 @@ ghost use Rattle.network.specs.Added.{addRefusal};
 ghost use Rattle.pairs.specs.Frames.{Stored};
 ghost use Rattle.head.specs.Held.{RowsShaped, held, soundIn};
 ghost use Rattle.step_add.specs.Sides.{Placed, Apart, PartnersIn, keptAt, cutAt};
+ghost use Rattle.step_add.specs.Turned.{Turns};
 ghost use Rattle.step_add.specs.Added.{AddedTo};
 
-// The leaders differ: the values of the second leader that go with value `a` of the first. A value outside its domain has none, and a pair that was stated
+// The first leader is lower: the values of the second leader that go with value `a` of the first. A value outside its domain has none, and a pair that was stated
 // bars what it barred.
 fn cut_row(rows: &Rows, table: &[u32], first: Side, second: Side, was: bool, a: usize) -> u32
-    requires { ⌜ Placed first × Placed second × Apart first second × (a < width) × PartnersIn width (now rows) (now table) first ⌝ }
+    requires { ⌜ Placed first × Placed second × Apart first second × (first .leader < second .leader) × (a < width) × PartnersIn width (now rows) (now table) first ⌝ }
     ensures { λ r. ⌜ r ≡ word width (cutAt width (now (rows .entry)) (now (table .entry)) first second was a) ⌝ }
 {
     let p = first.leader;
@@ -35,20 +37,34 @@ fn cut_row(rows: &Rows, table: &[u32], first: Side, second: Side, was: bool, a: 
     if !was {
         return row;
     }
-    both(row, pairs::row(rows, p, q, a))
+    both(row, pairs::stored_row(rows, p, q, a))
 }
 
-// The same for all values, each stored where it is, whichever leader is lower.
+// The same for all values, each stored where it is.
 fn cut_pair(rows: &mut Rows, table: &[u32], first: Side, second: Side, was: bool)
-    requires { ⌜ Placed first × Placed second × Apart first second × PartnersIn width (now rows) (now table) first × (length (now rows) ≡ 3840) ⌝ }
+    requires { ⌜ Placed first × Placed second × Apart first second × (first .leader < second .leader) × PartnersIn width (now rows) (now table) first × (length (now rows) ≡ 3840) ⌝ }
     ensures { λ _. ⌜ Stored width (now (rows .entry)) (now (rows .exit)) (first .leader) (second .leader) (cutAt width (now (rows .entry)) (now (table .entry)) first second was) width ⌝ }
 {
     let p = first.leader;
     let q = second.leader;
     for a in 0..WIDTH {
         let row = cut_row(rows, table, first, second, was, a);
-        pairs::put(rows, p, q, a, row);
+        pairs::put_row(rows, p, q, a, row);
     }
+}
+
+// The same whichever leader is lower. A pair is held from the lower one: where that is the second, the table is turned once, so that whole rows are read
+// and stored.
+fn cut(rows: &mut Rows, table: &[u32], first: Side, second: Side, was: bool)
+    requires { ⌜ Placed first × Placed second × Apart first second × PartnersIn width (now rows) (now table) first × Turns width (now rows) (now table) first second × (length (now rows) ≡ 3840) ⌝ }
+    ensures { λ _. ⌜ Stored width (now (rows .entry)) (now (rows .exit)) (first .leader) (second .leader) (cutAt width (now (rows .entry)) (now (table .entry)) first second was) width ⌝ }
+{
+    if first.leader < second.leader {
+        cut_pair(rows, table, first, second, was);
+        return;
+    }
+    let columns = turned(table, second.domain);
+    cut_pair(rows, &columns, second, first, was);
 }
 
 // One leader: its value `a` stays where the table allows its partners.
@@ -88,7 +104,7 @@ pub fn add(mut head: Head, rows: &mut Rows, x: usize, y: usize, table: &[u32]) -
         return head;
     }
     let mut stated = head.stated;
-    cut_pair(rows, table, first, second, member(stated[p], q));
+    cut(rows, table, first, second, member(stated[p], q));
     stated[p] = either(stated[p], single(q));
     stated[q] = either(stated[q], single(p));
     head.stated = stated;

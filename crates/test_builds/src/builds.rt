@@ -1,4 +1,4 @@
-// The tester, the completer and the verdict against the builds of the sheet, read off its bytes alone.
+// The tester, the completer and the verdict against the builds of the sheet together with the tables added, read off its bytes and these alone.
 use crate::draws;
 use state::State;
 use test_calls::calls;
@@ -14,8 +14,10 @@ use test_inputs::random;
 use test_oracle::brute;
 use test_oracle::choices;
 use test_oracle::fields;
+use test_oracle::tables::Tables;
+use test_oracle::tables::is_build;
 
-// How many builds the sheet has, and how many choices the state allows.
+// How many builds there are, and how many choices the state allows.
 struct Totals {
     builds: u64,
     choices: u64,
@@ -35,21 +37,33 @@ fn yes_or_no(is_build: bool) -> u8 {
     NO
 }
 
-// The tester says yes exactly to the sheet's builds.
-fn check_test(bytes: &[u8], state: State, tuple: [u8; 16], tally: &mut Counts) -> bool {
-    let is_build = brute::is_build(bytes, &tuple);
+// The tester says yes exactly to the builds.
+fn check_test(
+    bytes: &[u8],
+    tables: &Tables,
+    state: State,
+    tuple: [u8; 16],
+    tally: &mut Counts,
+) -> bool {
+    let is_build = is_build(bytes, tables, &tuple);
     let answer = calls::test(state, tuple, state.n);
     tally::expect(tally, tally::TESTS, answer == yes_or_no(is_build));
     is_build
 }
 
 // An allowed choice becomes a build that keeps it.
-fn check_completed(bytes: &[u8], state: State, buffer: [u8; 16], tally: &mut Counts) {
+fn check_completed(
+    bytes: &[u8],
+    tables: &Tables,
+    state: State,
+    buffer: [u8; 16],
+    tally: &mut Counts,
+) {
     let n = state.n;
     let done = calls::complete(state, buffer, n);
     let after = done.buffer;
     let is_kept = choices::are_kept(n, states::free(state), &buffer, &after);
-    let is_build = brute::is_build(bytes, &after);
+    let is_build = is_build(bytes, tables, &after);
     let is_right = (done.number == 0) & is_kept & is_build;
     tally::expect(tally, tally::COMPLETIONS, is_right);
 }
@@ -57,6 +71,7 @@ fn check_completed(bytes: &[u8], state: State, buffer: [u8; 16], tally: &mut Cou
 // The completer, with any bytes at the followers: an allowed choice becomes a build, any other is refused.
 fn check_complete(
     bytes: &[u8],
+    tables: &Tables,
     state: State,
     tuple: [u8; 16],
     seed: &mut u64,
@@ -66,7 +81,7 @@ fn check_complete(
     let buffer = draws::with_garbage(states::free(state), &tuple, seed);
     let expected = states::choice_number(state, buffer);
     if expected == 0 {
-        check_completed(bytes, state, buffer, tally);
+        check_completed(bytes, tables, state, buffer, tally);
         return true;
     }
     let is_left = calls::is_completed(state, buffer, n, expected, buffer);
@@ -77,6 +92,7 @@ fn check_complete(
 // Of the tuples that agree at the live options, one is completed. Answers whether it is an allowed choice.
 fn check_choice(
     bytes: &[u8],
+    tables: &Tables,
     state: State,
     tuple: [u8; 16],
     seed: &mut u64,
@@ -85,19 +101,20 @@ fn check_choice(
     if !choices::is_choice(states::free(state), &tuple) {
         return false;
     }
-    check_complete(bytes, state, tuple, seed, tally)
+    check_complete(bytes, tables, state, tuple, seed, tally)
 }
 
 fn check_tuple(
     bytes: &[u8],
+    tables: &Tables,
     state: State,
     tuple: [u8; 16],
     totals: Totals,
     seed: &mut u64,
     tally: &mut Counts,
 ) -> Totals {
-    let is_build = check_test(bytes, state, tuple, tally);
-    let is_allowed = check_choice(bytes, state, tuple, seed, tally);
+    let is_build = check_test(bytes, tables, state, tuple, tally);
+    let is_allowed = check_choice(bytes, tables, state, tuple, seed, tally);
     Totals {
         builds: with_one(totals.builds, is_build),
         choices: with_one(totals.choices, is_allowed),
@@ -105,7 +122,13 @@ fn check_tuple(
 }
 
 // Every tuple of a sheet that has at most 1,024.
-fn check_tuples(bytes: &[u8], state: State, seed: &mut u64, tally: &mut Counts) -> Totals {
+fn check_tuples(
+    bytes: &[u8],
+    tables: &Tables,
+    state: State,
+    seed: &mut u64,
+    tally: &mut Counts,
+) -> Totals {
     let mut totals = Totals {
         builds: 0,
         choices: 0,
@@ -116,7 +139,7 @@ fn check_tuples(bytes: &[u8], state: State, seed: &mut u64, tally: &mut Counts) 
         if tuple.rest != 0 {
             return totals;
         }
-        totals = check_tuple(bytes, state, values, totals, seed, tally);
+        totals = check_tuple(bytes, tables, state, values, totals, seed, tally);
     }
     totals
 }
@@ -142,11 +165,11 @@ fn count_apart(state: State, verdict: u8, tally: &mut Counts) {
     }
 }
 
-// The build shown is a build of the sheet, each live option at its lowest value, zero past n; with NONE or OPEN it is all zero.
-fn is_shown(bytes: &[u8], state: State, verdict: u8, solution: &[u8; 16]) -> bool {
+// The build shown is a build, each live option at its lowest value, zero past n; with NONE or OPEN it is all zero.
+fn is_shown(bytes: &[u8], tables: &Tables, state: State, verdict: u8, solution: &[u8; 16]) -> bool {
     if verdict == BUILT {
         let is_lowest = choices::are_lowest(states::free(state), &state.domains, solution);
-        return brute::is_build(bytes, solution)
+        return is_build(bytes, tables, solution)
             & is_lowest
             & fields::is_zero_from(solution, state.n);
     }
@@ -154,10 +177,10 @@ fn is_shown(bytes: &[u8], state: State, verdict: u8, solution: &[u8; 16]) -> boo
 }
 
 // The verdict, which it hands back.
-pub fn check_verdict(bytes: &[u8], state: State, tally: &mut Counts) -> u8 {
+pub fn check_verdict(bytes: &[u8], tables: &Tables, state: State, tally: &mut Counts) -> u8 {
     let expected = expected_verdict(state);
     let answer = calls::verdict(state);
-    let is_shown = is_shown(bytes, state, expected, &answer.solution);
+    let is_shown = is_shown(bytes, tables, state, expected, &answer.solution);
     let is_same = answer.verdict == expected;
     tally::expect(tally, tally::VERDICTS, is_same & is_shown);
     count_apart(state, expected, tally);
@@ -179,11 +202,11 @@ fn check_totals(totals: Totals, tally: &mut Counts) {
     tally::add(tally, tally::BUILDS, totals.builds);
 }
 
-// All that is claimed of the builds of a sheet, for the state that a list of calls came to.
-pub fn check_all(bytes: &[u8], state: State, seed: &mut u64, tally: &mut Counts) {
-    let totals = check_tuples(bytes, state, seed, tally);
+// All that is claimed of the builds of a sheet and the tables added, for the state that a list of calls came to.
+pub fn check_all(bytes: &[u8], tables: &Tables, state: State, seed: &mut u64, tally: &mut Counts) {
+    let totals = check_tuples(bytes, tables, state, seed, tally);
     check_totals(totals, tally);
-    let verdict = check_verdict(bytes, state, tally);
+    let verdict = check_verdict(bytes, tables, state, tally);
     tally::hold(tally, is_borne_out(verdict, totals.builds));
 }
 
@@ -219,15 +242,22 @@ pub fn check_refusals(bytes: &[u8], state: State, seed: &mut u64, tally: &mut Co
     check_refused_completions(bytes, state, seed, tally);
 }
 
-fn check_drawn(bytes: &[u8], state: State, seed: &mut u64, tally: &mut Counts) {
+fn check_drawn(bytes: &[u8], tables: &Tables, state: State, seed: &mut u64, tally: &mut Counts) {
     let tuple = draws::drawn(bytes, seed);
-    check_test(bytes, state, tuple, tally);
-    check_complete(bytes, state, tuple, seed, tally);
+    check_test(bytes, tables, state, tuple, tally);
+    check_complete(bytes, tables, state, tuple, seed, tally);
 }
 
 // Some tuples of a sheet that has too many to try all.
-pub fn check_some(bytes: &[u8], state: State, times: usize, seed: &mut u64, tally: &mut Counts) {
+pub fn check_some(
+    bytes: &[u8],
+    tables: &Tables,
+    state: State,
+    times: usize,
+    seed: &mut u64,
+    tally: &mut Counts,
+) {
     for _ in 0..times {
-        check_drawn(bytes, state, seed, tally);
+        check_drawn(bytes, tables, state, seed, tally);
     }
 }

@@ -1,5 +1,5 @@
-// What a sheet comes to after reading, the full reduction and the verdict, as a text: the number of steps, the verdict's first letter, and three digits
-// for each option: its leader, its list where it is live, and its value in the build shown.
+// What a state comes to, as a text: the number of steps taken, the verdict's first letter, and three digits for each option: its leader, its list where it
+// is live, and its value in the build shown.
 use state::State;
 use test_calls::calls;
 use test_calls::calls::BUILT;
@@ -52,10 +52,13 @@ fn are_options<'a>(
     true
 }
 
-fn is_reduced(state: State, expected: &[u8]) -> bool {
+// The state, after so many steps, is what is expected.
+pub fn is_outcome(state: State, steps: usize, expected: &[u8]) -> bool {
     let judged = calls::verdict(state);
+    let is_counted = digit(expected, 0) as usize == steps;
     let is_judged = letter(judged.verdict) == brute::byte(expected, 1);
-    is_judged & are_options(expected, &state.leaders, &state.domains, &judged.solution)
+    let are_as_expected = are_options(expected, &state.leaders, &state.domains, &judged.solution);
+    is_counted & is_judged & are_as_expected
 }
 
 // The sheet is accepted and comes to what is expected.
@@ -63,6 +66,5 @@ pub fn is_cut(bytes: &[u8], expected: &[u8]) -> bool {
     let reading = calls::read(bytes);
     let answer = calls::reduce(reading.state);
     let is_done = (reading.number == 0) & (answer.number == 0);
-    let is_counted = digit(expected, 0) as usize == answer.steps;
-    is_done & is_counted & is_reduced(answer.state, expected)
+    is_done & is_outcome(answer.state, answer.steps, expected)
 }

@@ -8,6 +8,8 @@ use state::State;
 use test_inputs::families::ROOM;
 use test_inputs::families::first;
 use test_inputs::families::first_room;
+use test_inputs::tables::Table;
+use test_inputs::tables::first_words;
 use test_oracle::fields::same_bytes;
 
 // What the tester and the verdict say, past the numbers of the causes.
@@ -27,7 +29,7 @@ pub struct Reading {
     pub state: State,
 }
 
-// What a step or a reduction answers.
+// What a step, a reduction or an added table answers.
 pub struct Stepping {
     pub number: u8,
     pub steps: usize,
@@ -73,6 +75,13 @@ fn stepped(answer: Answer) -> Stepping {
 // A follow step, options counted from 1.
 pub fn eliminate(state: State, leader: usize, follower: usize) -> Stepping {
     stepped(state.eliminate(leader, follower))
+}
+
+// A table added for two options, counted from 1: the first `count` of the rows.
+pub fn add_table(state: State, table: Table) -> Stepping {
+    let rows = table.rows;
+    let given = first_words(&rows, table.count);
+    stepped(state.add_table(table.first, table.second, given))
 }
 
 // A refusal with this number, which hands back the state given and took no step.

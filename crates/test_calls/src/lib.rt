@@ -4,7 +4,7 @@
 pub mod calls;
 // Sound states with one fault.
 pub mod faults;
-// Whole states: compared, and stepped and reduced by the rules.
+// Whole states: compared, stepped and reduced by the rules, and with a table added.
 pub mod states;
 // How often each thing was tried, and how often it came out wrong.
 pub mod tally;

@@ -1,5 +1,9 @@
-// Whole states: compared, and stepped and reduced by the rules.
+// Whole states: compared, stepped and reduced by the rules, and with a table added.
 use state::State;
+use test_inputs::tables::Table;
+use test_inputs::tables::first_words;
+use test_oracle::added;
+use test_oracle::added::Sides;
 use test_oracle::brute::index_of;
 use test_oracle::choices::are_allowed;
 use test_oracle::choices::are_listed;
@@ -137,4 +141,55 @@ pub fn reduced_by_steps(state: State) -> State {
 // As many steps were taken as live options went.
 pub fn is_counted(before: State, after: State, steps: usize) -> bool {
     free_count(before) == std::num::wrapping_add_usize(free_count(after), steps)
+}
+
+// What an added table is to be refused with, 0 where it is not.
+pub fn table_refusal(state: State, table: Table) -> u8 {
+    let rows = table.rows;
+    let given = first_words(&rows, table.count);
+    added::refusal(state.n, &state.sizes, table.first, table.second, given)
+}
+
+// The two options of a table, and the leaders that they are traced to.
+pub fn sides(state: State, table: Table) -> Sides {
+    added::sides_of(&state.leaders, table.first, table.second)
+}
+
+// The list of the one leader is trimmed.
+fn with_list(state: State, sides: Sides, table: Table) -> State {
+    let rows = table.rows;
+    let given = first_words(&rows, table.count);
+    let mut after = state;
+    let i = sides.first_leader;
+    if i < 16 {
+        after.domains[i] = added::trimmed(&state.domains, &state.rows, given, sides);
+    }
+    after
+}
+
+// The pair of the two leaders is stated and cut.
+fn with_pair(state: State, sides: Sides, table: Table) -> State {
+    let rows = table.rows;
+    let given = first_words(&rows, table.count);
+    let n = state.n;
+    let sizes = state.sizes;
+    let domains = state.domains;
+    let leaders = state.leaders;
+    State {
+        n,
+        sizes,
+        domains,
+        leaders,
+        stated: added::stated_after(&state.stated, sides.first_leader, sides.second_leader),
+        rows: added::rows_after(&state.domains, &state.stated, &state.rows, given, sides),
+    }
+}
+
+// The state after an added table that is not refused.
+pub fn with_table(state: State, table: Table) -> State {
+    let sides = sides(state, table);
+    if sides.first_leader == sides.second_leader {
+        return with_list(state, sides, table);
+    }
+    with_pair(state, sides, table)
 }

@@ -1,7 +1,7 @@
 // How often each thing was tried, and how often it came out wrong.
 
 // One more than the greatest of the kinds that are counted.
-pub const KINDS: usize = 36;
+pub const KINDS: usize = 44;
 
 pub type Counts = [u64; KINDS];
 
@@ -54,6 +54,23 @@ pub const SOUND: usize = 33;
 pub const CUTS: usize = 34;
 // Verdicts that show a build with two or more live options.
 pub const APART: usize = 35;
+// Added tables: all that are not refused, those for a follower where the two leaders differ, for two followers of one leader, and for a follower and its
+// leader.
+pub const TABLES: usize = 36;
+
+pub const TABLES_LED: usize = 37;
+
+pub const TABLES_OF_FOLLOWERS: usize = 38;
+
+pub const TABLES_WITH_LEADER: usize = 39;
+// Refused ones, by number.
+pub const TABLES_UNSOUND: usize = 40;
+
+pub const TABLES_NUMBER: usize = 41;
+
+pub const TABLES_SAME: usize = 42;
+
+pub const TABLES_ROWS: usize = 43;
 
 // One more of the kind `k`.
 pub fn count(tally: &mut Counts, k: usize) {
@@ -114,7 +131,10 @@ pub fn print_checks(tally: &Counts) {
         b"damaged states\nsheets with all tuples tried\nbuilds\nreads accepted\nreads refused\n\
         steps taken\nsteps refused\nreductions\ntests\ntests refused\ncompletions\n\
         completions refused\nverdicts\nwrites\nwrites refused\ncalls on unsound states\n\
-        states called sound\ncuts\nbuilt with two or more live options\n",
+        states called sound\ncuts\nbuilt with two or more live options\n\
+        tables added\ntables added for a follower and another leader's option\n\
+        tables added for two followers of one leader\ntables added for a follower and its leader\n\
+        tables refused with 9\ntables refused with 10\ntables refused with 21\ntables refused with 22\n",
         DAMAGED_STATES,
         tally,
     );

@@ -129,6 +129,17 @@ fn check_in(bytes: &[u8], state: State, version: u8, tally: &mut Counts) {
     tally::hold(tally, states::same(reading.state, state));
 }
 
+// A state to which tables were added and in which no option follows is written as a sheet, which is read as the same state.
+pub fn check_with_tables(state: State, seed: &mut u64, tally: &mut Counts) {
+    let written = calls::write(state, 2, [UNTOUCHED; ROOM], ROOM);
+    let buffer = written.buffer;
+    let bytes = families::first(&buffer, written.length);
+    tally::hold(tally, written.number == 0);
+    let reading = check(bytes, tally);
+    tally::hold(tally, states::same(reading.state, state));
+    check_round_trip(bytes, state, seed, tally);
+}
+
 // A sheet that was read is written back byte for byte, and in the other versions. In no other.
 pub fn check_round_trip(bytes: &[u8], state: State, seed: &mut u64, tally: &mut Counts) {
     check_written(bytes, state, tally);

@@ -1,6 +1,6 @@
 // Fixed states, and follow steps on them.
-use crate::lists::Run;
 use crate::lists::check_step;
+use crate::lists::start;
 use state::State;
 use test_calls::calls;
 use test_calls::tally;
@@ -65,7 +65,7 @@ fn expect_steps(
 ) {
     let is_right = are_steps(state, leader, follower, number, second);
     tally::expect(tally, tally::EXAMPLES, is_right);
-    check_step(Run { state, steps: 0 }, leader, follower, tally);
+    check_step(start(state), leader, follower, tally);
 }
 
 // The state's name, leader, follower, and the two answers. Answers the place after them.

@@ -8,6 +8,7 @@ use test_calls::tally;
 use test_calls::tally::Counts;
 use test_inputs::families::ROOM;
 use test_inputs::random;
+use test_inputs::tables;
 use test_oracle::fields;
 
 fn check_test(state: State, tuple: [u8; 16], length: usize, tally: &mut Counts) {
@@ -43,6 +44,13 @@ fn check_step(state: State, seed: &mut u64, tally: &mut Counts) {
     tally::expect(tally, tally::UNSOUND, is_refused);
 }
 
+// Whatever the table is.
+fn check_table(state: State, seed: &mut u64, tally: &mut Counts) {
+    let table = tables::drawn(random::from(seed, 1, 17), &state.sizes, seed);
+    let is_refused = calls::is_refused(state, calls::add_table(state, table), 9);
+    tally::expect(tally, tally::TABLES_UNSOUND, is_refused);
+}
+
 fn check_reduction(state: State, tally: &mut Counts) {
     let is_refused = calls::is_refused(state, calls::reduce(state), 9);
     tally::expect(tally, tally::UNSOUND, is_refused);
@@ -58,6 +66,7 @@ fn check_calls(state: State, seed: &mut u64, tally: &mut Counts) {
     check_write(state, seed, tally);
     check_step(state, seed, tally);
     check_reduction(state, tally);
+    check_table(state, seed, tally);
 }
 
 // Every call on the state with one fault.

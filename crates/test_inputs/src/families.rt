@@ -184,7 +184,7 @@ pub fn within(size: u8) -> u32 {
 }
 
 // One value below `size`.
-fn one_value(drawn: usize, size: u8) -> u32 {
+pub(crate) fn one_value(drawn: usize, size: u8) -> u32 {
     if size == 0 {
         return 0;
     }
@@ -201,7 +201,7 @@ fn one_or_none(r: u32, q: u32, size: u8) -> u32 {
 }
 
 // The row of value `v`, from two words that are drawn for it.
-fn row(kind: u8, r: u32, q: u32, shift: u8, v: usize, size: u8) -> u32 {
+pub(crate) fn row(kind: u8, r: u32, q: u32, shift: u8, v: usize, size: u8) -> u32 {
     match kind {
         SPARSE => r & q & within(size),
         CHAINS => one_value(r as usize, size),

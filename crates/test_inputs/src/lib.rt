@@ -6,3 +6,5 @@ pub mod damage;
 pub mod families;
 // A fixed stream of numbers.
 pub mod random;
+// Tables for calls to add.
+pub mod tables;

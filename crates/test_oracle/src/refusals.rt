@@ -4,7 +4,7 @@ use crate::fields::has;
 use crate::fields::row_at;
 use crate::fields::word_at;
 
-fn is_option(n: usize, number: usize) -> bool {
+pub(crate) fn is_option(n: usize, number: usize) -> bool {
     (number != 0) & (number <= n)
 }
 

@@ -45,7 +45,7 @@ fn is_joined<'a>(
 }
 
 // "if i, k was stated before, it allowed (a, c) before"
-fn was_allowed<'a>(
+pub(crate) fn was_allowed<'a>(
     stated: &'a [u32; 16],
     rows: &'a [u32; 3840],
     i: usize,
@@ -139,7 +139,7 @@ fn row_after<'a>(
 }
 
 // Stores the row of value `a` of `p` against `q`, where `p` is the lower one.
-fn put_row(rows: &mut [u32; 3840], p: usize, q: usize, a: usize, row: u32) {
+pub(crate) fn put_row(rows: &mut [u32; 3840], p: usize, q: usize, a: usize, row: u32) {
     let at = place(p, q, a);
     if at < ROWS {
         rows[at] = row;

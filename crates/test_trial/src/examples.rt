@@ -1,12 +1,15 @@
-// Fixed examples, each with what it must come to: sheets, refused bytes, steps, and answers on sheet A.
+// Fixed examples, each with what it must come to: sheets, refused bytes, steps, answers on sheet A, and added tables.
 use crate::lists;
 use crate::lists::expect_text;
 use crate::sheets::check_sheet;
 use test_calls::calls;
+use test_calls::states;
 use test_calls::tally;
 use test_calls::tally::Counts;
 use test_checks::rows::expect_refused;
 use test_inputs::families;
+use test_inputs::tables::ROOM;
+use test_inputs::tables::Table;
 
 // Sheets A to F of document 01:
 // sizes 2,3,2; (1,2) 0001 0004; (2,3) 0002 0001 0001
@@ -389,6 +392,80 @@ fn written_blank(seed: &mut u64, tally: &mut Counts) {
     );
 }
 
+// Tables added to reduced sheets:
+// sheet A; (3,2) 0004 0006
+// sheet A; (1,2) 0006 0003
+// sizes 2,2,1; (1,2) 0003 0003; (2,3) 0000 0001; then (2,1) 0000 0001
+fn added_to_reduced(seed: &mut u64, tally: &mut Counts) {
+    lists::run(
+        b"K\x16\x01\x00\x13\x03\x02\x03\x02\x02\x01\x02\x00\x01\x00\x04\x02\x03\x00\x02\x00\x01\x00\x01\
+        \x15ra\x03\x02\x02\x04\x06\x00o\x0b2B021102100\
+        K\x16\x01\x00\x13\x03\x02\x03\x02\x02\x01\x02\x00\x01\x00\x04\x02\x03\x00\x02\x00\x01\x00\x01\
+        \x15ra\x01\x02\x02\x06\x03\x00o\x0b2N000100100\
+        K\x14\x01\x00\x11\x03\x02\x02\x01\x02\x01\x02\x00\x03\x00\x03\x02\x03\x00\x00\x00\x01\
+        \x15ra\x02\x01\x02\x00\x01\x00o\x0b2B010101100",
+        seed,
+        tally,
+    );
+}
+
+// A table that forbids nothing states its pair, and values that no list has lose their rows:
+// sheet H; (1,2) 0003 0003
+// sizes 2,1,2; (1,2) 0001 0000; (1,3) 0003 0003; 2 follows 1, then (1,3) 0003 0003
+fn added_with_all(seed: &mut u64, tally: &mut Counts) {
+    lists::run(
+        b"K\x07\x01\x00\x04\x02\x02\x02\x00\
+        \x1bo\x080B030030a\x01\x02\x02\x03\x03\x00o\x080O030030\
+        K\x14\x01\x00\x11\x03\x02\x01\x02\x02\x01\x02\x00\x01\x00\x00\x01\x03\x00\x03\x00\x03\
+        \x26e\x01\x02w\x01\x03\x01\x03a\x01\x03\x02\x03\x03\x00w\x01\x03\x00\x03w\x01\x03\x01\x00o\x0b1O010100030",
+        seed,
+        tally,
+    );
+}
+
+// Sizes 3,2,2,3; (1,2) 0001 0002 0002; (3,4) 0004 0002; reduced. (4,2) with two rows, and with a bit too high, by the sizes of 4 and 2 and not of their
+// leaders: 22. (0,0) and (5,5): 10, before 21. (2,2) without rows: 21, before 22. Then (4,2) 0003 0001 0002.
+fn added_to_followers(seed: &mut u64, tally: &mut Counts) {
+    lists::run(
+        b"K\x17\x01\x00\x14\x04\x03\x02\x02\x03\x02\x01\x02\x00\x01\x00\x02\x00\x02\x03\x04\x00\x04\x00\x02\
+        \x67ra\x04\x02\x02\x03\x01\x16a\x04\x02\x03\x03\x01\x04\x16a\x00\x00\x00\x0aa\x05\x05\x00\x0aa\x02\x02\x00\x15\
+        o\x0e2B070100030302a\x04\x02\x03\x03\x01\x02\x00w\x01\x03\x00\x02w\x01\x03\x01\x01w\x01\x03\x02\x01\
+        o\x0e2O070100030300ro\x0e3B070100101101",
+        seed,
+        tally,
+    );
+}
+
+// The first example of source document 001: (1,2) 0001 0002 0004 and 2 follows 1, (3,4) 0001 0004 0002 and 4 follows 3, (1,3) 0001 0002 0004 and 3 follows
+// 1; then (2,4) as sheets C, D, E and F have it.
+fn added_as_in_001(seed: &mut u64, tally: &mut Counts) {
+    lists::run(
+        b"K\x09\x01\x00\x06\x04\x03\x03\x03\x03\x00\
+        \x49a\x01\x02\x03\x01\x02\x04\x00e\x01\x02a\x03\x04\x03\x01\x04\x02\x00e\x03\x04a\x01\x03\x03\x01\x02\x04\x00e\x01\x03o\x0e3B070100100100a\x02\x04\x03\x01\x04\x02\x00o\x0e3B070100100100\
+        K\x09\x01\x00\x06\x04\x03\x03\x03\x03\x00\
+        \x49a\x01\x02\x03\x01\x02\x04\x00e\x01\x02a\x03\x04\x03\x01\x04\x02\x00e\x03\x04a\x01\x03\x03\x01\x02\x04\x00e\x01\x03o\x0e3B070100100100a\x02\x04\x03\x01\x02\x04\x00o\x0e3B010100100100\
+        K\x09\x01\x00\x06\x04\x03\x03\x03\x03\x00\
+        \x49a\x01\x02\x03\x01\x02\x04\x00e\x01\x02a\x03\x04\x03\x01\x04\x02\x00e\x03\x04a\x01\x03\x03\x01\x02\x04\x00e\x01\x03o\x0e3B070100100100a\x02\x04\x03\x02\x04\x01\x00o\x0e3B021101101102\
+        K\x09\x01\x00\x06\x04\x03\x03\x03\x03\x00\
+        \x49a\x01\x02\x03\x01\x02\x04\x00e\x01\x02a\x03\x04\x03\x01\x04\x02\x00e\x03\x04a\x01\x03\x03\x01\x02\x04\x00e\x01\x03o\x0e3B070100100100a\x02\x04\x03\x02\x01\x04\x00o\x0e3N000100100100",
+        seed,
+        tally,
+    );
+}
+
+// On a state that is not sound 9 comes before 10.
+fn added_to_unsound(tally: &mut Counts) {
+    let state = states::zero();
+    let table = Table {
+        first: 0,
+        second: 0,
+        rows: [0; ROOM],
+        count: 0,
+    };
+    let is_refused = calls::is_refused(state, calls::add_table(state, table), 9);
+    tally::expect(tally, tally::EXAMPLES, is_refused);
+}
+
 // One byte more than a sheet has, with the count right.
 fn with_byte(sheet: families::Sheet) -> families::Sheet {
     let mut bytes = sheet.bytes;
@@ -444,6 +521,14 @@ fn run_refused(seed: &mut u64, tally: &mut Counts) {
     refused_long(tally);
 }
 
+fn run_tables(seed: &mut u64, tally: &mut Counts) {
+    added_to_reduced(seed, tally);
+    added_with_all(seed, tally);
+    added_to_followers(seed, tally);
+    added_as_in_001(seed, tally);
+    added_to_unsound(tally);
+}
+
 // All examples.
 pub(crate) fn run(seed: &mut u64, tally: &mut Counts) {
     run_sheets(seed, tally);
@@ -453,4 +538,5 @@ pub(crate) fn run(seed: &mut u64, tally: &mut Counts) {
     replies_as_read(seed, tally);
     replies_reduced(seed, tally);
     run_versions(seed, tally);
+    run_tables(seed, tally);
 }

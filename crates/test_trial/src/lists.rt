@@ -1,4 +1,5 @@
-// Lists of rows: those of `test_checks`, and two kinds more.
+// Lists of rows: those of `test_checks`, and three kinds more.
+use crate::scripts;
 use crate::sheets::check_sheet;
 use test_builds::outcomes;
 use test_calls::tally;
@@ -47,10 +48,18 @@ fn text_at(list: &[u8], at: usize, tally: &mut Counts) -> usize {
     end_of(list, text)
 }
 
+// Two parts: a sheet, and a script of calls on it. Answers the place after them.
+fn script_at(list: &[u8], at: usize, seed: &mut u64, tally: &mut Counts) -> usize {
+    let script = end_of(list, at);
+    scripts::check(part(list, at), part(list, script), seed, tally);
+    end_of(list, script)
+}
+
 fn run_at(list: &[u8], at: usize, seed: &mut u64, tally: &mut Counts) -> usize {
     match byte(list, at) {
         b'S' => sheet_at(list, past(at, 1), seed, tally),
         b'P' => text_at(list, past(at, 1), tally),
+        b'K' => script_at(list, past(at, 1), seed, tally),
         _ => rows::check_at(list, at, tally),
     }
 }

@@ -7,6 +7,8 @@ use test_calls::tally::KINDS;
 mod examples;
 // Lists of rows of examples.
 mod lists;
+// Lists of calls with what they must come to.
+mod scripts;
 // One input, and a list of calls on it.
 mod sheets;
 // One random input after the other.

@@ -5,35 +5,44 @@ use test_builds::cuts;
 use test_calls::tally;
 use test_calls::tally::Counts;
 use test_checks::lists;
+use test_checks::lists::Run;
 use test_checks::reads;
 use test_checks::unsound;
 use test_checks::versions;
 use test_inputs::families;
 use test_inputs::random;
 
-// The writer takes a state back exactly when no step was taken since it was read.
-fn check_writer(bytes: &[u8], state: State, steps: usize, seed: &mut u64, tally: &mut Counts) {
-    if steps == 0 {
-        reads::check_round_trip(bytes, state, seed, tally);
+// The writer takes a state back exactly when no step was taken since it was read: byte for byte where no table was added.
+fn check_writer(bytes: &[u8], run: Run, seed: &mut u64, tally: &mut Counts) {
+    let state = run.state;
+    if run.steps != 0 {
+        reads::check_refused(state, versions::any(seed), 18, tally);
         return;
     }
-    reads::check_refused(state, versions::any(seed), 18, tally);
+    if run.added != 0 {
+        reads::check_with_tables(state, seed, tally);
+        return;
+    }
+    reads::check_round_trip(bytes, state, seed, tally);
 }
 
 // All tuples of a sheet of a small family, some of another.
-fn check_builds(family: u8, bytes: &[u8], state: State, seed: &mut u64, tally: &mut Counts) {
+fn check_builds(family: u8, bytes: &[u8], run: Run, seed: &mut u64, tally: &mut Counts) {
+    let state = run.state;
+    let tables = run.tables;
     if family < families::LARGE {
-        builds::check_all(bytes, state, seed, tally);
+        builds::check_all(bytes, &tables, state, seed, tally);
         return;
     }
-    builds::check_some(bytes, state, 20, seed, tally);
-    builds::check_verdict(bytes, state, tally);
+    builds::check_some(bytes, &tables, state, 20, seed, tally);
+    builds::check_verdict(bytes, &tables, state, tally);
 }
 
 // What holds whatever the family: refused calls, writing back, and a state with a fault.
-fn check_last(bytes: &[u8], state: State, steps: usize, seed: &mut u64, tally: &mut Counts) {
+fn check_last(bytes: &[u8], run: Run, seed: &mut u64, tally: &mut Counts) {
+    let state = run.state;
     builds::check_refusals(bytes, state, seed, tally);
-    check_writer(bytes, state, steps, seed, tally);
+    check_writer(bytes, run, seed, tally);
     unsound::check(state, seed, tally);
 }
 
@@ -41,9 +50,8 @@ fn check_last(bytes: &[u8], state: State, steps: usize, seed: &mut u64, tally: &
 fn check_run(family: u8, bytes: &[u8], state: State, seed: &mut u64, tally: &mut Counts) {
     let calls = random::index(seed, 8);
     let run = lists::check_list(state, calls, seed, tally);
-    let last = run.state;
-    check_last(bytes, last, run.steps, seed, tally);
-    check_builds(family, bytes, last, seed, tally);
+    check_last(bytes, run, seed, tally);
+    check_builds(family, bytes, run, seed, tally);
 }
 
 // Bytes that are read, and a list of calls where they are a sheet, which it answers.

@@ -26,7 +26,7 @@ returns c =
     let a = c .before .before .before .before in
     let h = a .before .before in
     left-as _ _ _ _ _ _ _ _ _ _ _ _ _ (rw (h .head-of .ensures) at (a .eliminate-parts .ensures)) (c .left .ensures)
-    (kept-same _ _ (shaped h) (step-keeps _ (shaped h) _ _)) (stepped-back _ (shaped h) _ _)
+    (kept-same _ _ _ (shaped h) (step-keeps _ (shaped h) _ _)) (stepped-back _ (shaped h) _ _)
 
 pub sheet-eliminate-parts-spec : {M : Type 1} → statement M
 sheet-eliminate-parts-spec =

@@ -26,7 +26,7 @@ returns c =
     let a = c .before .before .before .before in
     let h = a .before .before in
     left-as _ _ _ _ _ _ _ _ _ _ _ _ _ (rw (h .head-of .ensures) at (a .reduce-parts .ensures)) (c .left .ensures)
-    (kept-same _ _ (shaped h) (reduced-keeps _ (shaped h))) (reduced-back _)
+    (kept-same _ _ _ (shaped h) (reduced-keeps _ (shaped h))) (reduced-back _)
 
 pub sheet-reduce-parts-spec : {M : Type 1} → statement M
 sheet-reduce-parts-spec =

@@ -1,7 +1,7 @@
 -- The variables and their leaders are within the arrays, and each way leaves the network with the table added: `added-same`, `added-apart`.
 use borrow.Author.Needs.{needs}
 use Rattle.head.proofs.Held.{shape}
-use Rattle.step_add.proofs.Added.{Given, first-in, second-in, rows-in, sides-apart, added-same, added-apart}
+use Rattle.step_add.proofs.Added.{Given, first-in, second-in, rows-in, sides-apart, sides-turn, added-same, added-apart}
 use Rattle.step_add.proofs.table.add.Statement.{statement}
 use Rattle.step_add.proofs.table.add.Tie as tie
 
@@ -29,8 +29,8 @@ returns c =
     let first = second .before in
     added-same (given (first .before)) (first .side-of .ensures .0) (second .side-of2 .ensures .0) _ (one .if1 .taken) (c .kept .ensures)
 
-cut-pair-requires : tie.Need-cut-pair-requires
-cut-pair-requires c κs =
+cut-requires : tie.Need-cut-requires
+cut-requires c κs =
     let two = c .before .before .before in
     let second = two .before in
     let first = second .before in
@@ -39,6 +39,7 @@ cut-pair-requires c κs =
       second .side-of2 .ensures .1,
       sides-apart g (first .side-of .ensures .0) (second .side-of2 .ensures .0) (two .if1 .left),
       rows-in g (first .side-of .ensures .0),
+      sides-turn g (first .side-of .ensures .0) (second .side-of2 .ensures .0),
       g .rows-shaped .array-length,
     )
 
@@ -51,7 +52,7 @@ returns-2 c =
     let second = two .before in
     let first = second .before in
     added-apart (given (first .before)) (first .side-of .ensures .0) (second .side-of2 .ensures .0) _ _ _ _ _ _ (two .if1 .left)
-    (was .member .ensures) (cut .cut-pair .ensures) (one .before .single .ensures) (one .either .ensures) (c .before .single2 .ensures) (c .either2 .ensures)
+    (was .member .ensures) (cut .cut .ensures) (one .before .single .ensures) (one .either .ensures) (c .before .single2 .ensures) (c .either2 .ensures)
 
 pub add-spec : {M : Type 1} → statement M
 add-spec =
@@ -66,7 +67,7 @@ add-spec =
     (λ c. search needs)
     (λ c. search needs)
     (λ c κs. search needs)
-    cut-pair-requires
+    cut-requires
     (λ c. search needs)
     (λ c. search needs)
     (λ c κs. search needs)

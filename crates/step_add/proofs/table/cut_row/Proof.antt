@@ -15,7 +15,7 @@ in-domain : (c : tie.Else1) → has (c .before .before .before .args .first .val
 in-domain c = sym (c .before .member .ensures) ∙ not-false _ (c .if1 .left)
 
 reach-requires : tie.Need-reach-requires
-reach-requires c κs = let p = c .before .before .before .pre in (p .0, p .1, p .3, p .4 _ (in-domain c))
+reach-requires c κs = let p = c .before .before .before .pre in (p .0, p .1, p .4, p .5 _ (in-domain c))
 
 returns-2 : tie.Need-returns-2
 returns-2 c =
@@ -27,7 +27,7 @@ returns-3 c =
     let e = c .before .before in
     let r = e .before .before in
     cut-stated 32 _ _ _ _ _ _ _ (in-domain (r .before)) (r .reach .ensures) (e .before .both .ensures) _ _ _
-    (not-false _ (e .if2 .left)) (c .before .row .ensures) (c .both2 .ensures)
+    (not-false _ (e .if2 .left)) (c .before .stored-row .ensures) (c .both2 .ensures)
 
 pub cut-row-spec : {M : Type 1} → statement M
 cut-row-spec =

@@ -5,10 +5,10 @@ use Rattle.test_builds.proofs.builds.check_some.Statement.{statement}
 use Rattle.test_builds.proofs.builds.check_some.Tie as tie
 
 abbrev Inv-loop : tie.InvT-loop
-Inv-loop bytes state times seed₀ tally₀ counter₀ seed tally counter = Unit
+Inv-loop bytes tables state times seed₀ tally₀ counter₀ seed tally counter = Unit
 
 abbrev μ-loop : tie.MeasureT-loop
-μ-loop bytes state times seed₀ tally₀ counter₀ seed tally counter = times - counter
+μ-loop bytes tables state times seed₀ tally₀ counter₀ seed tally counter = times - counter
 
 pub check-some-spec : {M : Type 1} → statement M
 check-some-spec =
