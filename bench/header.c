@@ -206,6 +206,56 @@ static void check_sound_and_verdict(void) {
     CHECK(answer.number == SHEET_CAUSE_NOT_SOUND && answer.kind == SHEET_NO_VERDICT && all_zero(answer.build, 16));
 }
 
+/* Options of so many values each, with the tables that `allow` then states. */
+static struct sheet_state sized(size_t n, uint8_t size) {
+    struct sheet_state state = zero;
+    state.n = n;
+    for (size_t i = 0; i < n; i++) state.sizes[i] = size, state.lists[i] = size == 32 ? UINT32_MAX : ((uint32_t)1 << size) - 1;
+    return state;
+}
+
+/* Any two of the options 1 to n differ. */
+static void all_differ(struct sheet_state *state, int n) {
+    for (int j = 2; j <= n; j++) {
+        for (int i = 1; i < j; i++) {
+            for (int a = 0; a < state->sizes[i - 1]; a++) {
+                for (int b = 0; b < state->sizes[j - 1]; b++) {
+                    if (a != b) allow(state, i, a, j, b);
+                }
+            }
+        }
+    }
+}
+
+static bool searched(const struct sheet_state *state, int number, int kind) {
+    struct sheet_verdict_answer answer = sheet_search(state);
+    return answer.number == number && answer.kind == kind && (kind == SHEET_BUILT || all_zero(answer.build, 16));
+}
+
+static void check_search(void) {
+    static const uint8_t first[16] = {0, 0, 1}, different[16] = {0, 1, 2};
+    for (int k = 0; k < 3; k++) {
+        struct sheet_verdict_answer answer = sheet_search(k == 0 ? &fresh : k == 1 ? &stepped : &reduced);
+        CHECK(answer.number == 0 && answer.kind == SHEET_BUILT && memcmp(answer.build, first, 16) == 0);
+    }
+    struct sheet_state s = sized(3, 3);
+    all_differ(&s, 3);
+    struct sheet_verdict_answer answer = sheet_search(&s);
+    CHECK(answer.number == 0 && answer.kind == SHEET_BUILT && memcmp(answer.build, different, 16) == 0);
+    s = sized(4, 3);
+    all_differ(&s, 4);
+    CHECK(searched(&s, 0, SHEET_NONE));
+    s = sized(6, 10);
+    CHECK(searched(&s, 0, SHEET_BUILT)); /* 1,000,000 choices */
+    s = sized(4, 32);
+    CHECK(searched(&s, SHEET_CAUSE_TOO_MANY_CHOICES, SHEET_NO_VERDICT) && sheet_verdict(&s).kind == SHEET_BUILT);
+    s = sized(16, 16);
+    CHECK(searched(&s, SHEET_CAUSE_TOO_MANY_CHOICES, SHEET_NO_VERDICT));
+    s.lists[15] = 0; /* "an empty list makes that product 0" */
+    CHECK(searched(&s, 0, SHEET_NONE));
+    CHECK(searched(&zero, SHEET_CAUSE_NOT_SOUND, SHEET_NO_VERDICT));
+}
+
 static void tested(const struct sheet_state *state, const uint8_t *build, size_t length, int number, bool is_build) {
     struct sheet_test_answer answer = sheet_test(state, build, length);
     CHECK(answer.number == number && answer.is_build == is_build);
@@ -337,7 +387,7 @@ static void check_texts(void) {
             CHECK(strcmp(sheet_cause_text(one), sheet_cause_text(other)) != 0);
         }
     }
-    CHECK(causes == 25);
+    CHECK(causes == 26);
     CHECK(strcmp(sheet_cause_text(SHEET_CAUSE_NOT_SOUND), "the state is not sound") == 0);
     CHECK(strcmp(sheet_cause_text(255), sheet_cause_text(SHEET_GREATEST_CAUSE + 1)) == 0);
 }
@@ -346,6 +396,7 @@ static void check_texts(void) {
 static uint8_t stack[16 * SHEET_STACK_BYTES];
 static uint8_t bytes[LENGTH_A];
 static struct sheet_state held;
+static struct sheet_state deep; /* of all but its last option the last value goes */
 static ucontext_t outer, inner;
 
 static void read_it(void) { sheet_read(CASE_A, LENGTH_A, &held); }
@@ -360,6 +411,7 @@ static void reduce_it(void) { held = fresh, sheet_reduce(&held); }
 static void test_it(void) { bytes[0] = sheet_test(&reduced, bytes, 3).number; }
 static void complete_it(void) { memset(bytes, 0, 3), sheet_complete(&reduced, bytes, 3); }
 static void verdict_it(void) { bytes[0] = sheet_verdict(&reduced).kind; }
+static void search_it(void) { bytes[0] = sheet_search(&deep).kind; }
 static void cut_it(void) { sheet_cut(CASE_A, LENGTH_A, &held); }
 static void text_it(void) { bytes[0] = (uint8_t)sheet_text(CASE_A, LENGTH_A).length; }
 
@@ -374,8 +426,12 @@ static void run_on_own_stack(void (*call)(void)) {
 }
 
 static void check_stack(void) {
+    deep = sized(4, 31);
+    for (int k = 1; k < 4; k++) {
+        for (int b = 0; b < 31; b++) allow(&deep, k, 30, k + 1, b);
+    }
     static void (*const calls[])(void) = {read_it, write_it,    sound_it,   follow_it, reduce_it, add_it,
-                                          test_it, complete_it, verdict_it, cut_it,    text_it};
+                                          test_it, complete_it, verdict_it, search_it, cut_it,    text_it};
     for (size_t k = 0; k < sizeof calls / sizeof *calls; k++) {
         size_t untouched = 0;
         run_on_own_stack(calls[k]);
@@ -390,6 +446,7 @@ int main(void) {
     check_steps();
     check_tables();
     check_sound_and_verdict();
+    check_search();
     check_builds();
     check_writing();
     check_blank_row();

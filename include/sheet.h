@@ -40,7 +40,7 @@
 /* The version of these declarations: MAJOR rises where a caller has to be changed or compiled anew, MINOR where something is
  * added. The version in byte 0 of a sheet is another number. */
 #define SHEET_VERSION_MAJOR 3
-#define SHEET_VERSION_MINOR 2
+#define SHEET_VERSION_MINOR 3
 
 #define SHEET_LARGEST_BYTES 15621 /* "The largest version 2 sheet has 15,621 bytes, which is the limit in number 1" */
 #define SHEET_MOST_OPTIONS 16    /* length of the arrays that hold something for each option */
@@ -79,6 +79,7 @@ enum sheet_cause {
     SHEET_CAUSE_PAIR_SEQUENCE = 20,     /* "the pair is not after the one before" */
     SHEET_CAUSE_SAME_OPTIONS = 21,      /* added table: "two equal options" */
     SHEET_CAUSE_TABLE_ROWS = 22,        /* added table: "a wrong count of rows or a bit at or above the size" */
+    SHEET_CAUSE_TOO_MANY_CHOICES = 23,  /* search: "the product of the live list sizes exceeds 1,000,000" */
     SHEET_CAUSE_NOT_IN_VERSION = 24,    /* writer: "an unknown version or a size above 16 in version 1" */
     SHEET_CAUSE_BLANK_ROW = 26          /* version 3 "forbids an all-zero row": in a sheet, or in a state to be written */
 };
@@ -111,6 +112,7 @@ static inline const char *sheet_cause_text(unsigned number) {
     case SHEET_CAUSE_PAIR_SEQUENCE: return "a table's pair is not after the one before";
     case SHEET_CAUSE_SAME_OPTIONS: return "the table is for one option and itself";
     case SHEET_CAUSE_TABLE_ROWS: return "the table does not have a row for each value of its first option, or a row allows a value at or above the size of its second";
+    case SHEET_CAUSE_TOO_MANY_CHOICES: return "the lists of the live options have more than 1,000,000 choices";
     case SHEET_CAUSE_NOT_IN_VERSION: return "the version to write is unknown, or a size is above what it can hold";
     case SHEET_CAUSE_BLANK_ROW: return "a row is all-zero, which version 3 forbids";
     default: return "no cause has this number";
@@ -166,10 +168,10 @@ struct sheet_test_answer {
     bool is_build;
 };
 
-/* What a verdict can be. 0 goes with a refusal. */
+/* What a verdict or a search can say, a search never OPEN. 0 goes with a refusal. */
 enum sheet_verdict_kind { SHEET_NO_VERDICT = 0, SHEET_NONE = 1, SHEET_BUILT = 2, SHEET_OPEN = 3 };
 
-/* The verdict. */
+/* The verdict or the search. */
 struct sheet_verdict_answer {
     uint8_t number;
     uint8_t kind;                       /* one of enum sheet_verdict_kind */
@@ -224,6 +226,10 @@ struct sheet_verdict_answer sheet_verdict_parts(size_t n, const uint8_t sizes[SH
                                                 const uint32_t lists[SHEET_MOST_OPTIONS],
                                                 const uint8_t leaders[SHEET_MOST_OPTIONS],
                                                 const uint32_t stated[SHEET_MOST_OPTIONS], const uint32_t rows[SHEET_ROWS]);
+struct sheet_verdict_answer sheet_search_parts(size_t n, const uint8_t sizes[SHEET_MOST_OPTIONS],
+                                               const uint32_t lists[SHEET_MOST_OPTIONS],
+                                               const uint8_t leaders[SHEET_MOST_OPTIONS],
+                                               const uint32_t stated[SHEET_MOST_OPTIONS], const uint32_t rows[SHEET_ROWS]);
 struct sheet_cut_answer sheet_cut_parts(const uint8_t *bytes, size_t length, size_t *n, uint8_t sizes[SHEET_MOST_OPTIONS],
                                         uint32_t lists[SHEET_MOST_OPTIONS], uint8_t leaders[SHEET_MOST_OPTIONS],
                                         uint32_t stated[SHEET_MOST_OPTIONS], uint32_t rows[SHEET_ROWS]);
@@ -301,6 +307,15 @@ static inline uint8_t sheet_complete(const struct sheet_state *state, uint8_t *b
  * Number 9. A refusal answers SHEET_NO_VERDICT and no build. */
 static inline struct sheet_verdict_answer sheet_verdict(const struct sheet_state *state) {
     return sheet_verdict_parts(state->n, state->sizes, state->lists, state->leaders, state->stated, state->rows);
+}
+
+/* The search, which settles what the verdict leaves OPEN: it "finds the first build, live options compared in ascending number and
+ * lower values first, or says there is none". SHEET_BUILT comes with that build, and SHEET_NONE is said exactly when the state has
+ * no build. It does not reduce first: reducing leaves fewer live options, and which build is the first goes by those.
+ * Numbers 9 and 23, tested in this order: 23 "when the product of the live list sizes exceeds 1,000,000; an empty list makes that
+ * product 0". A refusal answers SHEET_NO_VERDICT and no build. */
+static inline struct sheet_verdict_answer sheet_search(const struct sheet_state *state) {
+    return sheet_search_parts(state->n, state->sizes, state->lists, state->leaders, state->stated, state->rows);
 }
 
 /* What sheet_read, sheet_reduce and sheet_verdict answer one after the other; the reduced state is stored in `state`.

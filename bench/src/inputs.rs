@@ -145,12 +145,80 @@ pub fn sheet_in(version: u8, family: Family, sizes: &[u8], random: &mut Random) 
             }
         }
     }
-    let mut bytes = vec![version, 0, 0, n as u8];
+    Sheet {
+        bytes: bytes_of(version, sizes, count, &tables),
+        build,
+    }
+}
+
+fn bytes_of(version: u8, sizes: &[u8], count: u8, tables: &[u8]) -> Vec<u8> {
+    let mut bytes = vec![version, 0, 0, sizes.len() as u8];
     bytes.extend(sizes);
     bytes.push(count);
     bytes.extend(tables);
     mend(&mut bytes);
-    Sheet { bytes, build }
+    bytes
+}
+
+/// Sheets without a build that keep a search long: the table of the last two options is empty, and
+#[derive(Clone, Copy, PartialEq, Eq, Debug)]
+pub enum Hard {
+    /// any other two differ.
+    Differ,
+    /// each option leaves the next most of its values.
+    Chain,
+    /// each value of an option takes one value of the last, another where it has enough.
+    Last,
+    /// every other table has most of its bits set.
+    Most,
+    /// every other table has half of its bits set.
+    Half,
+}
+
+/// Sizes whose product is near 1,000,000, and not above it.
+pub const NEAR_MILLION: [&[u8]; 6] = [
+    &[31; 4],
+    &[15; 5],
+    &[10; 6],
+    &[4; 9],
+    &[3; 12],
+    &[2, 2, 2, 2, 2, 2, 2, 2, 2, 2, 2, 2, 2, 2, 2, 30],
+];
+
+pub const HARD: [Hard; 5] = [Hard::Differ, Hard::Chain, Hard::Last, Hard::Most, Hard::Half];
+
+/// The row of value `v` of option `a` against option `b`; none where they have no table.
+fn hard_row(hard: Hard, a: usize, b: usize, v: usize, sizes: &[u8], random: &mut Random) -> Option<u32> {
+    let (last, size) = (sizes.len() - 1, sizes[b] as usize);
+    let all = ((1u64 << size) - 1) as u32;
+    let without = |value: usize| all & !(1 << value % size);
+    match hard {
+        _ if a + 1 == last && b == last => Some(0),
+        Hard::Chain if b != a + 1 => None,
+        Hard::Last if b != last => None,
+        Hard::Differ | Hard::Chain => Some(without(v)),
+        Hard::Last => Some(without(v + a * sizes[a] as usize)),
+        Hard::Most => Some(without(random.below(size))),
+        Hard::Half => Some(random.next() as u32 & all),
+    }
+}
+
+/// The bytes of such a sheet, in version 2.
+pub fn hard_sheet(hard: Hard, sizes: &[u8], random: &mut Random) -> Vec<u8> {
+    let last = sizes.len() - 1;
+    let (mut tables, mut count) = (Vec::new(), 0);
+    for a in 0..last {
+        for b in a + 1..=last {
+            let rows: Option<Vec<u32>> = (0..sizes[a] as usize)
+                .map(|v| hard_row(hard, a, b, v, sizes, random))
+                .collect();
+            let Some(rows) = rows else { continue };
+            count += 1;
+            tables.extend([a as u8 + 1, b as u8 + 1]);
+            tables.extend(rows.iter().flat_map(|row| row.to_be_bytes()));
+        }
+    }
+    bytes_of(2, sizes, count, &tables)
 }
 
 /// Sizes for some options, each from 1 to 32.

@@ -617,6 +617,59 @@ pub fn verdict(s: &State) -> Verdict {
     Verdict { number: 0, kind, build }
 }
 
+/// The most choices that are searched.
+const MOST_CHOICES: usize = 1_000_000;
+
+/// Chooses values of the options in `left`, lowest option and lowest value first, from the lists as the options before have narrowed
+/// them. Where a value narrows no list and the rest can not be chosen, no other value is tried.
+fn choose(s: &State, lists: &[u32; 16], left: u32, build: &mut [u8; 16]) -> bool {
+    if left == 0 {
+        return true;
+    }
+    let k = left.trailing_zeros() as usize & 15;
+    let left = left & (left - 1);
+    for v in members(lists[k]) {
+        let mut later = *lists;
+        let mut narrowed = false;
+        for j in members(s.stated[k] & left) {
+            let j = j & 15;
+            let list = later[j] & s.rows[place(k, j) + v];
+            narrowed |= list != later[j];
+            later[j] = list;
+        }
+        if choose(s, &later, left, build) {
+            build[k] = v as u8;
+            return true;
+        }
+        if !narrowed {
+            return false;
+        }
+    }
+    false
+}
+
+/// The search: the first build, or that there is none.
+pub fn search(s: &State) -> Verdict {
+    let answer = |number, kind, build| Verdict { number, kind, build };
+    if !is_sound(s) {
+        return answer(9, NO_VERDICT, [0; 16]);
+    }
+    let live = live(s);
+    // capped at each factor, so that a 0 counts
+    let choices = members(live).fold(1, |product, i| {
+        (product * s.lists[i].count_ones() as usize).min(MOST_CHOICES + 1)
+    });
+    if choices > MOST_CHOICES {
+        return answer(23, NO_VERDICT, [0; 16]);
+    }
+    let mut build = [0; 16];
+    if choices == 0 || !choose(s, &s.lists, live, &mut build) {
+        return answer(0, NONE, [0; 16]);
+    }
+    follow(s, &mut build);
+    answer(0, BUILT, build)
+}
+
 /// Each stated pair of two options of `among` allows its two values, which are below 32.
 #[inline(always)]
 fn pairs_allow(s: &State, among: u32, build: &[u8]) -> bool {

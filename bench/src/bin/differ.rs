@@ -11,7 +11,7 @@ struct Counts {
     differences: usize,
 }
 
-const CALLS: [&str; 11] = [
+const CALLS: [&str; 12] = [
     "read",
     "write",
     "sound",
@@ -23,6 +23,7 @@ const CALLS: [&str; 11] = [
     "cut",
     "text",
     "add_table",
+    "search",
 ];
 /// The numbers that a call can answer: 0, which stands for "not refused", and those of the causes.
 const NUMBERS: usize = Cause::GREATEST as usize + 1;
@@ -140,6 +141,8 @@ fn calls(state: &State, build: &[u8], random: &mut Random, counts: &mut Counts) 
     counts.note(2, if sound { 0 } else { 9 }, &sound, &plain::is_sound(state));
     let one = proved::verdict(state);
     counts.note(7, one.number, &one, &plain::verdict(state));
+    let one = proved::search(state);
+    counts.note(11, one.number, &one, &plain::search(state));
     let n = state.n.min(16);
     for _ in 0..2 {
         let (leader, follower) = (random.below(n + 2), random.below(n + 2));
@@ -234,6 +237,14 @@ fn round(at: usize, random: &mut Random, counts: &mut Counts) {
     }
     if at % 200 == 0 || sheet.bytes.len() < 60 && at % 20 == 1 {
         damaged(&sheet.bytes, random, counts);
+    }
+    if at % 400 == 0 {
+        let sizes = NEAR_MILLION[random.below(NEAR_MILLION.len())];
+        let bytes = hard_sheet(HARD[at / 400 % HARD.len()], sizes, random);
+        counts.input(SHEET);
+        let state = read(&bytes, &State::ZERO, counts);
+        counts.input(READ_STATE);
+        calls(&state, &vec![0; sizes.len()], random, counts);
     }
     counts.input(RANDOM_BYTES);
     let state = random_state(random);

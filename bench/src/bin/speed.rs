@@ -1,5 +1,5 @@
 //! How long each call takes in the proved library and in plain Rust: nanoseconds, medians, both in one run by turns.
-use bench::inputs::{half_table, sheet_in, Random, Sheet, Table, FAMILIES};
+use bench::inputs::{half_table, hard_sheet, sheet_in, Random, Sheet, Table, FAMILIES, HARD, NEAR_MILLION};
 use bench::plain;
 use bench::proved::{self, State};
 use std::hint::black_box;
@@ -54,7 +54,7 @@ const REDUCED: Start = |case| &case.reduced;
 
 /// Each call in the proved library and in plain Rust. Both are lent the state, and work in place. "led" adds a table to a reduced state, whose options may
 /// follow others.
-const CALLS: [(&str, Start, Call, Call); 12] = [
+const CALLS: [(&str, Start, Call, Call); 13] = [
     (
         "read",
         AS_READ,
@@ -126,6 +126,12 @@ const CALLS: [(&str, Start, Call, Call); 12] = [
         AS_READ,
         |c, _, _| look(proved::text(&c.sheet.bytes)),
         |c, _, b| look(plain::text(&c.sheet.bytes, b.first_chunk_mut().unwrap())),
+    ),
+    (
+        "search",
+        AS_READ,
+        |c, _, _| look(proved::search(&c.reduced)),
+        |c, _, _| look(plain::search(&c.reduced)),
     ),
 ];
 
@@ -213,6 +219,9 @@ fn main() {
         }
     }
     summary(&ratios);
+    if only.is_none_or(|word| word == "search") {
+        searches();
+    }
 }
 
 /// The lowest and the highest ratio over the families, for each call and size.
@@ -230,4 +239,37 @@ fn summary(ratios: &[Ratio]) {
         }
         println!();
     }
+}
+
+/// The search of states as read, near 1,000,000 choices and without a build: milliseconds, both by turns, medians.
+fn searches() {
+    println!("\n{:6} {:9} {:>9} {:>9} {:>6}", "size", "hard", "proved", "plain", "ratio");
+    let mut random = Random(1);
+    for sizes in NEAR_MILLION {
+        for hard in HARD {
+            let mut state = State::ZERO;
+            let bytes = hard_sheet(hard, sizes, &mut random);
+            assert_eq!(proved::read(&bytes, &mut state).number, 0);
+            let (mut ones, mut others) = (Vec::new(), Vec::new());
+            for _ in 0..ROUNDS {
+                ones.push(one_search(&state, proved::search));
+                others.push(one_search(&state, plain::search));
+            }
+            let (proved, plain) = (median(ones), median(others));
+            let (across, hard) = (format!("{}x{}", sizes.len(), sizes[0]), format!("{hard:?}"));
+            println!("{across:6} {hard:9} {proved:9.4} {plain:9.4} {:6.2}", proved / plain);
+        }
+    }
+}
+
+/// The time of one search, over enough of them to be measured.
+fn one_search(state: &State, search: fn(&State) -> proved::Verdict) -> f64 {
+    let start = Instant::now();
+    let mut times = 0;
+    while times < 1000 && start.elapsed().as_micros() < 200 {
+        let answer = black_box(search(black_box(state)));
+        assert_eq!((answer.number, answer.kind), (0, proved::NONE));
+        times += 1;
+    }
+    start.elapsed().as_secs_f64() * 1000.0 / times as f64
 }

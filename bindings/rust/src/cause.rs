@@ -50,6 +50,8 @@ pub enum Cause {
     SameOptions = 21,
     /// added table: "a wrong count of rows or a bit at or above the size"
     TableRows = 22,
+    /// search: "the product of the live list sizes exceeds 1,000,000"
+    TooManyChoices = 23,
     /// writer: "an unknown version or a size above 16 in version 1"
     NotInVersion = 24,
     /// version 3 "forbids an all-zero row": in a sheet, or in a state to be written
@@ -60,7 +62,7 @@ use Cause::*;
 
 impl Cause {
     /// All causes, in the order of their numbers.
-    pub const ALL: [Cause; 24] = [
+    pub const ALL: [Cause; 25] = [
         Length,
         Version,
         OptionCount,
@@ -83,6 +85,7 @@ impl Cause {
         PairSequence,
         SameOptions,
         TableRows,
+        TooManyChoices,
         NotInVersion,
         BlankRow,
     ];
@@ -126,6 +129,7 @@ impl fmt::Display for Cause {
             PairSequence => "a table's pair is not after the one before",
             SameOptions => "the table is for one option and itself",
             TableRows => "the table does not have a row for each value of its first option, or a row allows a value at or above the size of its second",
+            TooManyChoices => "the lists of the live options have more than 1,000,000 choices",
             NotInVersion => "the version to write is unknown, or a size is above what it can hold",
             BlankRow => "a row is all-zero, which version 3 forbids",
         })

@@ -115,6 +115,14 @@ extern "C" {
         stated: &[u32; MOST_OPTIONS],
         rows: &Rows,
     ) -> Verdict;
+    fn sheet_search_parts(
+        n: usize,
+        sizes: &[u8; MOST_OPTIONS],
+        lists: &[u32; MOST_OPTIONS],
+        leaders: &[u8; MOST_OPTIONS],
+        stated: &[u32; MOST_OPTIONS],
+        rows: &Rows,
+    ) -> Verdict;
     fn sheet_cut_parts(
         bytes: *const u8,
         length: usize,
@@ -290,6 +298,18 @@ pub fn complete(state: &State, build: &mut [u8]) -> u8 {
 pub fn verdict(state: &State) -> Verdict {
     let s = state;
     unsafe { sheet_verdict_parts(s.n, &s.sizes, &s.lists, &s.leaders, &s.stated, &s.rows) }
+}
+
+/// The search, which settles what the verdict leaves OPEN: it "finds the first build, live options compared in ascending number and
+/// lower values first, or says there is none". [`BUILT`] comes with that build, and [`NONE`] is said exactly when the state has no
+/// build. It does not reduce first: reducing leaves fewer live options, and which build is the first goes by those.
+///
+/// Numbers 9 and 23, tested in this order: 23 "when the product of the live list sizes exceeds 1,000,000; an empty list makes that
+/// product 0". A refusal answers [`NO_VERDICT`] and no build.
+#[inline]
+pub fn search(state: &State) -> Verdict {
+    let s = state;
+    unsafe { sheet_search_parts(s.n, &s.sizes, &s.lists, &s.leaders, &s.stated, &s.rows) }
 }
 
 /// What [`read`], [`reduce`] and [`verdict`] answer one after the other; the reduced state is stored.

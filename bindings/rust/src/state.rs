@@ -96,7 +96,7 @@ pub struct Tested {
     pub is_build: bool,
 }
 
-/// The kinds of a verdict: none, with a refusal;
+/// What a verdict or a search can say, a search never OPEN: nothing, with a refusal;
 pub const NO_VERDICT: u8 = 0;
 /// there is no build;
 pub const NONE: u8 = 1;
@@ -105,7 +105,7 @@ pub const BUILT: u8 = 2;
 /// or two live options are stated together.
 pub const OPEN: u8 = 3;
 
-/// What [`verdict`](crate::verdict) answers.
+/// What [`verdict`](crate::verdict) and [`search`](crate::search) answer.
 #[repr(C)]
 #[derive(Clone, Copy, PartialEq, Eq, Debug)]
 pub struct Verdict {

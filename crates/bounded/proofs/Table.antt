@@ -3,8 +3,8 @@ use mathlib.Core.List.{List}
 use mathlib.Core.Path.{_≡_, refl, sym, _∙_, ap}
 use Prim.Native.Nat.{ℕ, zero, suc, _≤_, _<_}
 use native.Mathlib.Omega.{arith}
-use lib.ListN.{length, getD, set, List·getD-eq-default}
-use lib.Seq.{ext-getD, getD-set-same, getD-set-other}
+use lib.ListN.{length, getD, take, set, List·getD-eq-default}
+use lib.Seq.{ext-getD, length-take-le, getD-take, getD-set-same, getD-set-other}
 use lib.Dec.{eqb}
 use borrow.Author.Tests.{eqb-true, eqb-false}
 use Rattle.bounded.specs.Bool.{if}
@@ -37,6 +37,12 @@ module _ {A : Type 0} where
   unfolding tabulate
   tabulate-cong zero f g h = refl
   tabulate-cong (suc n) f g h = rw (h zero (omega arith), tabulate-cong n (λ (k : ℕ). f (suc k)) (λ (k : ℕ). g (suc k)) (λ k m. h (suc k) (omega arith)))
+
+-- The first n of a longer table.
+pub take-tabulate : (n m : ℕ) (f : ℕ → ℕ) → n ≤ m → take n (tabulate m f) ≡ tabulate n f
+take-tabulate n m f h =
+    is-table n f (take n (tabulate m f)) 0 (length-take-le n (tabulate m f) (omega (arith, length-tabulate m f)))
+    (λ k l. getD-take n (tabulate m f) k 0 l ∙ getD-tabulate m f k 0 (omega arith))
 
 -- What stands at k after a store at i.
 pub getD-set : (l : List ℕ) (i k v d : ℕ) → i < length l → getD (set l i v) k d ≡ if (eqb k i) v (getD l k d)

@@ -1,4 +1,4 @@
-// The calls that look at a state: whether it is sound, whether values are a solution of it, what its followers' values are, and the verdict.
+// The calls that look at a state: whether it is sound, whether values are a solution of it, what its followers' values are, the verdict, and the search.
 // Each takes the state apart: its head goes by value, its rows are lent.
 use answers::Outcome;
 use answers::TestAnswer;
@@ -6,13 +6,14 @@ use answers::VerdictAnswer;
 use soundness::sound_parts;
 use state::State;
 use state::head_in;
+use state_search::search_parts;
 use state_solutions::complete_parts;
 use state_solutions::test_parts;
 use state_verdict::verdict_parts;
 ghost use mathlib.Core.Path.{_≡_};
 ghost use Rattle.answers.specs.Answers.{testTold, outcomeNumber, verdictTold};
 ghost use Rattle.state.specs.View.{soundState};
-ghost use Rattle.state.specs.Solutions.{tested, completeNumber, completedBuffer, verdictOf};
+ghost use Rattle.state.specs.Solutions.{tested, completeNumber, completedBuffer, verdictOf, searchOf};
 
 // "A state is sound when": every sentence holds of it.
 pub fn is_sound(state: State) -> bool
@@ -40,4 +41,11 @@ pub fn verdict(state: State) -> VerdictAnswer
     ensures { λ r. ⌜ verdictTold (r .verdict) (r .solution) ≡ verdictOf state ⌝ }
 {
     verdict_parts(head_in(state), &state.rows)
+}
+
+// The search "finds the first build, live options compared in ascending number and lower values first, or says there is none". It does not reduce first.
+pub fn search(state: State) -> VerdictAnswer
+    ensures { λ r. ⌜ verdictTold (r .verdict) (r .solution) ≡ searchOf state ⌝ }
+{
+    search_parts(head_in(state), &state.rows)
 }

@@ -15,6 +15,7 @@ pub use look::SheetVerdict;
 pub use look::SheetWritten;
 pub use look::sheet_complete_parts;
 pub use look::sheet_is_sound_parts;
+pub use look::sheet_search_parts;
 pub use look::sheet_test_parts;
 pub use look::sheet_verdict_parts;
 pub use look::sheet_write_parts;

@@ -1,5 +1,6 @@
 // The calls that only look at a state: what they are lent of it is read, and nothing is stored in it.
 use crate::lent::head_of;
+use answers::VerdictAnswer;
 use answers::outcome_number;
 use answers::test_agrees;
 use answers::test_number;
@@ -10,9 +11,10 @@ use answers::write_number;
 use head::Rows;
 use head::VARIABLES;
 ghost use mathlib.Core.Path.{_≡_};
+ghost use Rattle.answers.specs.Answers.{verdictTold};
 ghost use Rattle.state.specs.View.{soundState};
 ghost use Rattle.state.specs.Write.{writeSheet};
-ghost use Rattle.state.specs.Solutions.{tested, completeNumber, completedBuffer, verdictOf};
+ghost use Rattle.state.specs.Solutions.{tested, completeNumber, completedBuffer, verdictOf, searchOf};
 ghost use Rattle.capi.specs.Answers.{stateWith, writtenOut, testedOut, verdictOut};
 
 // Writing: the number that refuses, and how many bytes the sheet has.
@@ -29,7 +31,8 @@ pub struct SheetTested {
     pub agrees: bool,
 }
 
-// The verdict: the number that refuses; 1 for NONE, 2 for BUILT, 3 for OPEN, 0 with a refusal; and the build shown, all zero unless BUILT.
+// The verdict, or what the search says: the number that refuses; 1 for NONE, 2 for BUILT, 3 for OPEN, 0 with a refusal; and the build shown, all zero unless
+// BUILT. The search never says OPEN.
 #[repr(C)]
 pub struct SheetVerdict {
     pub number: u8,
@@ -120,6 +123,19 @@ pub extern "C" fn sheet_complete_parts<'a>(
     outcome_number(state_solutions::complete_parts(head, rows, solution))
 }
 
+// What a verdict or a search tells.
+fn told(answer: VerdictAnswer) -> SheetVerdict
+    ensures { λ r. ⌜ r ≡ verdictOut (verdictTold (answer .verdict) (answer .solution)) ⌝ }
+{
+    let verdict = answer.verdict;
+    let solution = answer.solution;
+    SheetVerdict {
+        number: verdict_number(verdict),
+        kind: verdict_kind(verdict),
+        solution,
+    }
+}
+
 // The verdict of a state as it is.
 #[no_mangle]
 pub extern "C" fn sheet_verdict_parts<'a>(
@@ -133,12 +149,21 @@ pub extern "C" fn sheet_verdict_parts<'a>(
     ensures { λ r. ⌜ r ≡ verdictOut (verdictOf (stateWith n (now (sizes .entry)) (now (lists .entry)) (now (leaders .entry)) (now (stated .entry)) (now (rows .entry)))) ⌝ }
 {
     let head = head_of(n, sizes, lists, leaders, stated);
-    let answer = state_verdict::verdict_parts(head, rows);
-    let verdict = answer.verdict;
-    let solution = answer.solution;
-    SheetVerdict {
-        number: verdict_number(verdict),
-        kind: verdict_kind(verdict),
-        solution,
-    }
+    told(state_verdict::verdict_parts(head, rows))
+}
+
+// The search: NONE, or BUILT with the first build.
+#[no_mangle]
+pub extern "C" fn sheet_search_parts<'a>(
+    n: usize,
+    sizes: &'a [u8; VARIABLES],
+    lists: &'a [u32; VARIABLES],
+    leaders: &'a [u8; VARIABLES],
+    stated: &'a [u32; VARIABLES],
+    rows: &'a Rows,
+) -> SheetVerdict
+    ensures { λ r. ⌜ r ≡ verdictOut (searchOf (stateWith n (now (sizes .entry)) (now (lists .entry)) (now (leaders .entry)) (now (stated .entry)) (now (rows .entry)))) ⌝ }
+{
+    let head = head_of(n, sizes, lists, leaders, stated);
+    told(state_search::search_parts(head, rows))
 }

@@ -33,6 +33,8 @@ pub enum Cause {
     // A table to be added: of one variable, or rows that do not fit the two.
     SameVariables,
     TableRows,
+    // A search over more choices than are tried.
+    TooManyChoices,
     // The version to write is unknown, or a size is above its limit.
     NotInVersion,
     // Version 3: a row of no values, read or to be written.
@@ -66,6 +68,7 @@ pub fn number(cause: Cause) -> u8
         Cause::NotFresh => 18,
         Cause::SameVariables => 21,
         Cause::TableRows => 22,
+        Cause::TooManyChoices => 23,
         Cause::NotInVersion => 24,
         Cause::BlankRow => 26,
     }

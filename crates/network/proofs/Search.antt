@@ -15,11 +15,11 @@ use Rattle.bounded.proofs.Fold.{below-suc, every-i, every-e, some-i, some-e, no
 use Rattle.bounded.proofs.Fold.{count-none, count-pos, count-cong, count-one, first-some, first-passes, first-below}
 use Rattle.network.specs.Network.{Network, free, solves}
 use Rattle.network.specs.Sound.{Sound}
-use Rattle.network.specs.Completion.{completed, choiceInDomains, allowedChoice, lowest, exhausted, lowestSolution}
+use Rattle.network.specs.Completion.{NONE, BUILT, completed, choiceInDomains, allowedChoice, lowest, exhausted, lowestSolution}
 use Rattle.network.specs.Count.{put, sumTuples, countTuples, choiceSize}
 use Rattle.network.specs.Promise.{Keeps}
 use Rattle.network.specs.Search.{sameBelow, precedes, IsFirst, Sought, none, found, orElse, firstFound, searchFrom, searched}
-use Rattle.network.specs.Search.{returned, sought, openValues, choiceProduct, searchRefusal, Settles, Settled, AsVerdict}
+use Rattle.network.specs.Search.{returned, saidOf, sought, openValues, choiceProduct, searchRefusal, Settles, Settled, AsVerdict}
 use Rattle.network.proofs.Sound.{free-or-led, leader-n, leader-is-free}
 use Rattle.network.proofs.Step.{here, past}
 use Rattle.network.proofs.Completion.{allowed-domain, allowedChoice-cong, solves-allowed, solves-cong, completed-keeps, completed-led, completed-solves}
@@ -323,6 +323,15 @@ module _ (N : Network) (S : Sound N) where
       sought-case (searched N)
       (λ e. clash (F .is-allowed) (searched-settles .none-exactly .0 e f))
       (λ g e. u g e (first-same N g f (searched-first g e) F))
+
+-- What is said of it.
+pub said-none : (r : Sought) → r ≡ none → saidOf r ≡ NONE
+unfolding saidOf
+said-none r e = rw e
+
+pub said-found : (r : Sought) → (r ≡ none → ⊥) → saidOf r ≡ BUILT
+unfolding saidOf
+said-found r d = sought-case r (λ e. absurd (d e)) (λ f e. rw e)
 
 -- "A build is returned as the verdict's is, zero past n, and all zero with none."
 module _ (N : Network) where

@@ -8,7 +8,7 @@ use lib.Dec.{eqb, ltb}
 use Rattle.bounded.specs.Bool.{and, implies, if}
 use Rattle.bounded.specs.Fold.{every, some, product, count}
 use Rattle.network.specs.Network.{Network, free, solves}
-use Rattle.network.specs.Completion.{completed, allowedChoice, NONE, BUILT, verdict, shown}
+use Rattle.network.specs.Completion.{completed, allowedChoice, Verdict, NONE, BUILT, verdict, shown}
 use Rattle.network.specs.Count.{put}
 
 -- f and g have the same values at the free variables below x.
@@ -56,6 +56,11 @@ searched N = searchFrom N (N .n) 0 (λ (i : ℕ). 0)
 unfoldable pub returned : Network → Sought → ℕ → ℕ
 returned N none i = 0
 returned N (found f) i = if (ltb i (N .n)) (completed N f i) 0
+
+-- What is said, in the words of the verdict: that there is none, or that one is built.
+unfoldable pub saidOf : Sought → Verdict
+saidOf none = NONE
+saidOf (found f) = BUILT
 
 unfoldable pub sought : Network → ℕ → ℕ
 sought N = returned N (searched N)

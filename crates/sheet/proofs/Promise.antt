@@ -1,21 +1,21 @@
 -- Demand 3: of every accepted sheet, for every list of calls.
 use mathlib.Core.Bool.{Bool, true, false}
 use mathlib.Core.List.{List, [], _∷_, _++_}
-use mathlib.Core.Logic.{_↔_}
-use mathlib.Core.Path.{_≡_, refl, sym, ap, ap₂, _∙_, fun-ext}
+use mathlib.Core.Logic.{_↔_, Iff·trans}
+use mathlib.Core.Path.{_≡_, refl, sym, ap, ap₂, subst, _∙_, fun-ext}
 use Prim.Native.Nat.{ℕ, _≤_, _<_}
 use native.Mathlib.Omega.{arith}
 use lib.Dec.{eqb}
-use lib.ListN.{length, getD, take}
-use lib.Seq.{length-take-le, getD-take}
+use lib.ListN.{length, getD, take, replicate}
 use borrow.Author.Tests.{eq-eqb, eqb-true}
 use Rattle.bounded.specs.Bool.{and, bit}
 use Rattle.bounded.specs.Table.{tabulate}
 use Rattle.bounded.proofs.Bool.{not-true→false, clash, and-i, and-l, and-r, and-assoc, and-true}
-use Rattle.bounded.proofs.Table.{length-tabulate, getD-tabulate, is-table}
+use Rattle.bounded.proofs.Table.{length-tabulate, getD-tabulate, is-table, take-tabulate}
 use Rattle.network.specs.Network.{Network, free, solves}
 use Rattle.network.specs.Sound.{Sound}
 use Rattle.network.specs.Completion.{NONE, BUILT, allowedChoice, completed, verdict, decided, shown}
+use Rattle.network.specs.Search.{precedes}
 use Rattle.network.specs.Count.{countTuples, sumTuples, choiceCount, solutionCount}
 use Rattle.network.specs.Sheet.{Table, Sheet, networkOf}
 use Rattle.network.specs.Calls.{Call, answer, after, addedBy, keepsTo, tableless}
@@ -34,7 +34,9 @@ use Rattle.state.specs.declared.state.State.{State}
 use Rattle.state.specs.View.{view, pack, soundState}
 use Rattle.answers.specs.Answers.{says, rules}
 use Rattle.state.specs.Read.{readSheet}
-use Rattle.state.specs.Solutions.{valuesOf, tested, completeNumber, completedBuffer, verdictOf}
+use Rattle.state.specs.Solutions.{valuesOf, tested, completeNumber, completedBuffer, verdictOf, searchNumber, searchOf}
+use Rattle.state_search.specs.Searches.{Build, FirstBuild, SearchesEvery}
+use Rattle.state_search.proofs.Searches.{searches, not-too-many}
 use Rattle.sheet.specs.Promise.{stateAfter, tablesAdded, networkRead, ruledAs, lastState, lastNetwork, lastTables, buildOfSheet, buildCount, Promise, WithoutTables, OneLive, Demand3}
 use Rattle.state.proofs.View.{Shaped, pack-view, packed-view, packed-state, packed-shaped}
 use Rattle.state.proofs.Keep.{after-packed}
@@ -63,11 +65,6 @@ tables-answer s h t (c ∷ cs) =
     (ap (λ (u : State). tablesAdded u cs) (call-answers s h t c)
     ∙ tables-answer (pack (answer (view s) c)) (packed-shaped P) (packed-state P) cs
     ∙ ap (λ (N : Network). addedBy N cs) (packed-view P))
-
-take-tabulate : (n m : ℕ) (f : ℕ → ℕ) → n ≤ m → take n (tabulate m f) ≡ tabulate n f
-take-tabulate n m f h =
-    is-table n f (take n (tabulate m f)) 0 (length-take-le n (tabulate m f) (omega (arith, length-tabulate m f)))
-    (λ k l. getD-take n (tabulate m f) k 0 l ∙ getD-tabulate m f k 0 (omega arith))
 
 countTuples-cong : (n m : ℕ) (s t : ℕ → ℕ) (p q : (ℕ → ℕ) → Bool) → n ≡ m → ((i : ℕ) → i < n → s i ≡ t i) → ((f : ℕ → ℕ) → p f ≡ q f)
     → countTuples n s p ≡ countTuples m t q
@@ -157,6 +154,32 @@ module _ (N M : Network) (p : (ℕ → ℕ) → Bool) (t : State) (n : ℕ) (bui
         verdict-of t (S .sound) ∙ rw (S .holds, b .0),
         rw (take-tabulate n 16 (shown M) (S .at-most)) (build-table (shown M) (S .promised .tester _ ∙ b .1)),
       )
+
+  -- A build of the state is a build, and the other way round.
+  no-state-build : ((b : List ℕ) → Build t b → ⊥) ↔ ((b : List ℕ) → build b ≡ false)
+  no-state-build = (
+    λ none b. not-true→false _ (λ x. none b (tester-says b .1 x)),
+    λ none b y. clash (tester-says b .0 y) (none b),
+  )
+
+  -- The search, where it does not refuse.
+  module _ (q : searchNumber t ≡ 0) where
+    search-none-exactly : (searchOf t ≡ rules NONE (replicate 16 0)) ↔ ((b : List ℕ) → build b ≡ false)
+    unfolding SearchesEvery
+    search-none-exactly = Iff·trans (searches t (S .shaped) .none-exactly (S .sound) (not-too-many t (S .sound) q)) no-state-build
+
+    finds-first : (searchOf t ≡ rules NONE (replicate 16 0) → ⊥)
+        → (shows : List ℕ) × (searchOf t ≡ rules BUILT shows) × (build (take n shows) ≡ true)
+        × ((c : List ℕ) → build c ≡ true → precedes M (valuesOf c) (valuesOf (take n shows)) ≡ false)
+    unfolding SearchesEvery
+    finds-first not-none =
+        let (shows, F) = searches t (S .shaped) .found-first (S .sound) (not-too-many t (S .sound) q) not-none in
+        let first : FirstBuild t (take n shows) = subst (λ (m : ℕ). FirstBuild t (take m shows)) (S .state-n) (F .first-build) in (
+          shows,
+          F .says-built,
+          tester-says (take n shows) .0 (first .is-build),
+          λ c x. ap (λ (L : Network). precedes L (valuesOf c) (valuesOf (take n shows))) (sym (S .holds)) ∙ first .none-before c (tester-says c .1 x),
+        )
 
 -- An accepted sheet, and any list of calls.
 module _ (bytes : List ℕ) (octets : Octets bytes) (h : readSheet bytes .number ≡ 0) (s : Sheet) (A : Accepted bytes s)
@@ -250,6 +273,8 @@ module _ (bytes : List ℕ) (octets : Octets bytes) (h : readSheet bytes .number
         none-only = λ r. no-build _ _ _ _ _ _ S .0 (S .promised .none-only (rules-none _ _ _ _ _ _ S .0 r));
         none-when = λ d none. rules-none _ _ _ _ _ _ S .1 (S .promised .none-when d (no-build _ _ _ _ _ _ S .1 none));
         built = shows-build _ _ _ _ _ _ S;
+        search-none = search-none-exactly _ _ _ _ _ _ S;
+        search-first = finds-first _ _ _ _ _ _ S;
       }
 
 -- Demand 3, whole.

@@ -1,16 +1,17 @@
 -- Demand 3: "What demand 3 counts" of document 01, sentence by sentence, with what document 02 adds to it. Together with the contracts of the calls, which cite the same definitions
--- (`readSheet`, `stepped`, `reduced`, `tableAdded`, `tested`, `completeNumber`, `completedBuffer`, `verdictOf`), it speaks of the code.
+-- (`readSheet`, `stepped`, `reduced`, `tableAdded`, `tested`, `completeNumber`, `completedBuffer`, `verdictOf`, `searchOf`), it speaks of the code.
 use mathlib.Core.Bool.{Bool, true, false}
 use mathlib.Core.List.{List, [], _∷_, _++_}
 use mathlib.Core.Logic.{_↔_}
 use mathlib.Core.Path.{_≡_}
 use Prim.Native.Nat.{ℕ, _+_, _<_}
 use lib.Dec.{eqb}
-use lib.ListN.{length, getD, take}
+use lib.ListN.{length, getD, take, replicate}
 use Rattle.bounded.specs.Bool.{and, if}
 use Rattle.network.specs.Network.{Network, free}
 use Rattle.network.specs.Reduction.{freeCount}
 use Rattle.network.specs.Completion.{Verdict, NONE, BUILT, allowedChoice, decided}
+use Rattle.network.specs.Search.{precedes}
 use Rattle.network.specs.Count.{countTuples, choiceCount}
 use Rattle.network.specs.Sheet.{Table, Sheet, networkOf}
 use Rattle.network.specs.Calls.{Call, follow-step, full-reduction, add-table, after, keepsTo, tableless}
@@ -22,7 +23,7 @@ use Rattle.answers.specs.Answers.{says, VerdictTold, rules}
 use Rattle.state.specs.Read.{readSheet}
 use Rattle.state.specs.Steps.{stepped, reduced}
 use Rattle.state.specs.Tables.{tableAdded}
-use Rattle.state.specs.Solutions.{valuesOf, tested, completeNumber, completedBuffer, verdictOf}
+use Rattle.state.specs.Solutions.{valuesOf, tested, completeNumber, completedBuffer, verdictOf, searchNumber, searchOf}
 
 -- "Each call gets the state that the one before it handed back; a refused call hands back what it was given, and nobody else changes it meanwhile."
 unfoldable pub handedBack : State → Call → State
@@ -85,6 +86,13 @@ module _ (bytes : List ℕ) (cs : List Call) where
   abbrev pub ShowsBuild : Type 0
   ShowsBuild = (build : List ℕ) × (verdictOf lastState ≡ rules BUILT build) × (buildOfSheet (take (options bytes) build) ≡ true)
 
+  -- The search "finds the first build, live options compared in ascending number and lower values first" (document 02).
+  abbrev pub FindsFirst : Type 0
+  FindsFirst =
+      (build : List ℕ) × (searchOf lastState ≡ rules BUILT build)
+      × (buildOfSheet (take (options bytes) build) ≡ true)
+      × ((c : List ℕ) → buildOfSheet c ≡ true → precedes lastNetwork (valuesOf c) (valuesOf (take (options bytes) build)) ≡ false)
+
   pub record Promise : Type 0 where
     -- The state handed back last is the one of that network.
     pub packed : lastState ≡ pack lastNetwork
@@ -110,6 +118,11 @@ module _ (bytes : List ℕ) (cs : List Call) where
     pub none-when : decided lastNetwork ≡ true → ((b : List ℕ) → buildOfSheet b ≡ false) → ruledAs NONE (verdictOf lastState)
     -- and otherwise BUILT, and the first n bytes shown are a build of the sheet."
     pub built : decided lastNetwork ≡ true → (ruledAs NONE (verdictOf lastState) → ⊥) → ShowsBuild
+    -- "It says none exactly when the state has no build, and so, for a state that demand 3's list of calls hands back, the sheet with its added tables has
+    -- none" (document 02): the search, where it does not refuse,
+    pub search-none : searchNumber lastState ≡ 0 → (searchOf lastState ≡ rules NONE (replicate 16 0)) ↔ ((b : List ℕ) → buildOfSheet b ≡ false)
+    -- and otherwise it shows the first build of the sheet with its added tables.
+    pub search-first : searchNumber lastState ≡ 0 → (searchOf lastState ≡ rules NONE (replicate 16 0) → ⊥) → FindsFirst
 
   -- Without added tables builds are those of the sheet's bytes, and all of the promise is document 01's own (`tables-none`).
   pub record WithoutTables : Type 0 where

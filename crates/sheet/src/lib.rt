@@ -10,6 +10,7 @@ pub use call_sheets::read;
 pub use call_sheets::write;
 pub use call_solutions::complete;
 pub use call_solutions::is_sound;
+pub use call_solutions::search;
 pub use call_solutions::test;
 pub use call_solutions::verdict;
 pub use cause::Cause;

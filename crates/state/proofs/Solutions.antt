@@ -1,4 +1,4 @@
--- The tester, the completer and the verdict on states, case by case; and what they mean on a sound state.
+-- The tester, the completer, the verdict and the search on states, case by case; and what they mean on a sound state.
 use mathlib.Core.Bool.{true, false}
 use mathlib.Core.List.{List}
 use mathlib.Core.Path.{_≡_, refl, sym, ap, _∙_}
@@ -13,11 +13,12 @@ use Rattle.bounded.proofs.Fold.{every-i}
 use Rattle.network.specs.Network.{Network, solves, testRefusal}
 use Rattle.network.specs.Sound.{Sound}
 use Rattle.network.specs.Completion.{allowedChoice, completed, verdict, shown}
+use Rattle.network.specs.Search.{searched, sought, saidOf, searchRefusal}
 use Rattle.network.proofs.Completion as completion
 use Rattle.state.specs.declared.state.State.{State}
 use Rattle.state.specs.View.{headIn, view, soundState}
 use Rattle.answers.specs.Answers.{says, refuses, rules, no-verdict}
-use Rattle.state.specs.Solutions.{valuesOf, solutionRefusal, tested, completeNumber, completedBuffer, verdictOf}
+use Rattle.state.specs.Solutions.{valuesOf, solutionRefusal, tested, completeNumber, completedBuffer, verdictOf, searchNumber, searchOf}
 use Rattle.head.specs.Held.{HeadShaped}
 use Rattle.head.proofs.Held.{held-sound}
 
@@ -103,3 +104,21 @@ module _ (s : State) where
   pub verdict-refused : soundState s ≡ false → verdictOf s ≡ no-verdict 9 (replicate 16 0)
   unfolding verdictOf
   verdict-refused t = if-false _ _ _ t
+
+-- The search: 9, 23, and then what it says.
+module _ (s : State) where
+  pub search-unsound : soundState s ≡ false → searchNumber s ≡ 9
+  unfolding searchNumber
+  search-unsound h = if-true _ _ _ (not-i _ h)
+
+  pub search-own : soundState s ≡ true → searchNumber s ≡ searchRefusal (view s)
+  unfolding searchNumber
+  search-own h = if-false _ _ _ (not-false-i _ h)
+
+  pub search-of : searchNumber s ≡ 0 → searchOf s ≡ rules (saidOf (searched (view s))) (tabulate 16 (sought (view s)))
+  unfolding searchOf
+  search-of e = if-true _ _ _ (eq-eqb _ 0 e)
+
+  pub search-refuses : (number : ℕ) → searchNumber s ≡ number → 1 ≤ number → searchOf s ≡ no-verdict number (replicate 16 0)
+  unfolding searchOf
+  search-refuses number e h = if-false _ _ _ (ne-eqb (searchNumber s) 0 (omega arith)) ∙ ap (λ (k : ℕ). no-verdict k (replicate 16 0)) e

@@ -1,4 +1,4 @@
--- The tester, the completer and the verdict on states. A solution is a buffer of bytes, one for each variable.
+-- The tester, the completer, the verdict and the search on states. A solution is a buffer of bytes, one for each variable.
 use mathlib.Core.List.{List}
 use Prim.Native.Nat.{ℕ}
 use lib.Dec.{eqb}
@@ -7,6 +7,7 @@ use Rattle.bounded.specs.Bool.{not, if}
 use Rattle.bounded.specs.Table.{tabulate}
 use Rattle.network.specs.Network.{solves, testRefusal}
 use Rattle.network.specs.Completion.{completeRefusal, completed, verdict, shown}
+use Rattle.network.specs.Search.{searched, sought, saidOf, searchRefusal}
 use Rattle.state.specs.declared.state.State.{State}
 use Rattle.state.specs.View.{view, soundState}
 use Rattle.answers.specs.Answers.{TestTold, says, refuses, VerdictTold, rules, no-verdict}
@@ -40,3 +41,14 @@ verdictOf s =
     if (soundState s)
     (rules (verdict (view s)) (tabulate 16 (shown (view s))))
     (no-verdict 9 (replicate 16 0))
+
+-- The search's number: "It refuses with 9, and then with 23 when the product of the live list sizes exceeds 1,000,000", and else 0,
+unfoldable pub searchNumber : State → ℕ
+searchNumber s = if (not (soundState s)) 9 (searchRefusal (view s))
+
+-- and what it says, NONE or BUILT: "A build is returned as the verdict's is, zero past n, and all zero with none" and with a refusal.
+unfoldable pub searchOf : State → VerdictTold
+searchOf s =
+    if (eqb (searchNumber s) 0)
+    (rules (saidOf (searched (view s))) (tabulate 16 (sought (view s))))
+    (no-verdict (searchNumber s) (replicate 16 0))

@@ -1,4 +1,4 @@
-// The tester, the completer and the verdict against the builds of the sheet together with the tables added, read off its bytes and these alone.
+// The tester, the completer, the verdict and the search against the builds of the sheet together with the tables added, read off its bytes and these alone.
 use crate::draws;
 use state::State;
 use test_calls::calls;
@@ -17,10 +17,23 @@ use test_oracle::fields;
 use test_oracle::tables::Tables;
 use test_oracle::tables::is_build;
 
-// How many builds there are, and how many choices the state allows.
+// How many builds there are, the first of them by the live options of the state, and how many choices the state allows.
 struct Totals {
     builds: u64,
+    first: [u8; 16],
     choices: u64,
+}
+
+// The first build, where the tuple may be one; zero where there is none.
+fn first_of(free: u32, totals: Totals, tuple: [u8; 16], is_build: bool) -> [u8; 16] {
+    let first = totals.first;
+    if !is_build {
+        return first;
+    }
+    if (totals.builds != 0) & !choices::precedes(free, &tuple, &first) {
+        return first;
+    }
+    tuple
 }
 
 fn with_one(total: u64, is_one: bool) -> u64 {
@@ -115,8 +128,10 @@ fn check_tuple(
 ) -> Totals {
     let is_build = check_test(bytes, tables, state, tuple, tally);
     let is_allowed = check_choice(bytes, tables, state, tuple, seed, tally);
+    let first = first_of(states::free(state), totals, tuple, is_build);
     Totals {
         builds: with_one(totals.builds, is_build),
+        first,
         choices: with_one(totals.choices, is_allowed),
     }
 }
@@ -131,6 +146,7 @@ fn check_tuples(
 ) -> Totals {
     let mut totals = Totals {
         builds: 0,
+        first: [0; 16],
         choices: 0,
     };
     for k in 0..1024 {
@@ -196,6 +212,39 @@ fn is_borne_out(verdict: u8, builds: u64) -> bool {
     }
 }
 
+// The search finds the first build of the sheet, or says that there is none.
+fn check_search(state: State, totals: Totals, tally: &mut Counts) {
+    let answer = calls::search(state);
+    let is_first = fields::same_bytes(&answer.solution, &totals.first);
+    let is_none = (answer.verdict == NONE) & (totals.builds == 0);
+    let is_built = (answer.verdict == BUILT) & (totals.builds != 0);
+    tally::expect(tally, tally::SEARCHES, is_first & (is_none | is_built));
+}
+
+// What a search of many choices says: it is refused, or shows a build of the sheet, or says none, which the verdict does not contradict.
+fn is_sought(
+    bytes: &[u8],
+    tables: &Tables,
+    state: State,
+    verdict: u8,
+    solution: &[u8; 16],
+) -> bool {
+    if choices::are_many(states::free(state), &state.domains) {
+        return (verdict == 23) & fields::is_zero_from(solution, 0);
+    }
+    if verdict == BUILT {
+        return is_build(bytes, tables, solution) & fields::is_zero_from(solution, state.n);
+    }
+    (verdict == NONE) & (expected_verdict(state) != BUILT) & fields::is_zero_from(solution, 0)
+}
+
+// The search of a sheet that has too many tuples to try all.
+pub fn check_large_search(bytes: &[u8], tables: &Tables, state: State, tally: &mut Counts) {
+    let answer = calls::search(state);
+    let is_right = is_sought(bytes, tables, state, answer.verdict, &answer.solution);
+    tally::expect(tally, tally::SEARCHES, is_right);
+}
+
 // There are as many allowed choices as builds.
 fn check_totals(totals: Totals, tally: &mut Counts) {
     tally::expect(tally, tally::COUNTED, totals.builds == totals.choices);
@@ -206,6 +255,7 @@ fn check_totals(totals: Totals, tally: &mut Counts) {
 pub fn check_all(bytes: &[u8], tables: &Tables, state: State, seed: &mut u64, tally: &mut Counts) {
     let totals = check_tuples(bytes, tables, state, seed, tally);
     check_totals(totals, tally);
+    check_search(state, totals, tally);
     let verdict = check_verdict(bytes, tables, state, tally);
     tally::hold(tally, is_borne_out(verdict, totals.builds));
 }

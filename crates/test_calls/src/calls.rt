@@ -12,7 +12,7 @@ use test_inputs::tables::Table;
 use test_inputs::tables::first_words;
 use test_oracle::fields::same_bytes;
 
-// What the tester and the verdict say, past the numbers of the causes.
+// What the tester, the verdict and the search say, past the numbers of the causes.
 pub const YES: u8 = 100;
 
 pub const NO: u8 = 101;
@@ -178,6 +178,17 @@ pub fn cut(bytes: &[u8]) -> Cutting {
         place: answers::read_place(outcome),
         steps: answer.steps,
         state,
+        verdict: verdict_number(verdict),
+        solution,
+    }
+}
+
+// The search, with the build beside what it says.
+pub fn search(state: State) -> Judgement {
+    let answer = sheet::search(state);
+    let verdict = answer.verdict;
+    let solution = answer.solution;
+    Judgement {
         verdict: verdict_number(verdict),
         solution,
     }

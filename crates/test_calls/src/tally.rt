@@ -1,7 +1,7 @@
 // How often each thing was tried, and how often it came out wrong.
 
 // One more than the greatest of the kinds that are counted.
-pub const KINDS: usize = 44;
+pub const KINDS: usize = 45;
 
 pub type Counts = [u64; KINDS];
 
@@ -72,6 +72,8 @@ pub const TABLES_SAME: usize = 42;
 
 pub const TABLES_ROWS: usize = 43;
 
+pub const SEARCHES: usize = 44;
+
 // One more of the kind `k`.
 pub fn count(tally: &mut Counts, k: usize) {
     add(tally, k, 1);
@@ -134,7 +136,7 @@ pub fn print_checks(tally: &Counts) {
         states called sound\ncuts\nbuilt with two or more live options\n\
         tables added\ntables added for a follower and another leader's option\n\
         tables added for two followers of one leader\ntables added for a follower and its leader\n\
-        tables refused with 9\ntables refused with 10\ntables refused with 21\ntables refused with 22\n",
+        tables refused with 9\ntables refused with 10\ntables refused with 21\ntables refused with 22\nsearches\n",
         DAMAGED_STATES,
         tally,
     );

@@ -28,12 +28,19 @@ fn check_verdict(state: State, tally: &mut Counts) {
     tally::expect(tally, tally::UNSOUND, (judged.verdict == 9) & is_zero);
 }
 
+fn check_search(state: State, tally: &mut Counts) {
+    let answer = calls::search(state);
+    let is_zero = fields::is_zero_from(&answer.solution, 0);
+    tally::expect(tally, tally::UNSOUND, (answer.verdict == 9) & is_zero);
+}
+
 fn check_solving(state: State, seed: &mut u64, tally: &mut Counts) {
     let tuple = [random::byte(seed) % 4; 16];
     let length = random::index(seed, 17);
     check_test(state, tuple, length, tally);
     check_completion(state, tuple, length, tally);
     check_verdict(state, tally);
+    check_search(state, tally);
 }
 
 fn check_step(state: State, seed: &mut u64, tally: &mut Counts) {

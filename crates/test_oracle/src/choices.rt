@@ -129,3 +129,42 @@ pub fn are_apart(free: u32, stated: &[u32; 16]) -> bool {
     }
     true
 }
+
+fn differ_at(free: u32, one: &[u8; 16], other: &[u8; 16], i: usize) -> bool {
+    has(free, i) & (byte_at(one, i) != byte_at(other, i))
+}
+
+// "live options compared in ascending number and lower values first": the one comes before the other.
+pub fn precedes(free: u32, one: &[u8; 16], other: &[u8; 16]) -> bool {
+    for i in 0..16 {
+        if differ_at(free, one, other, i) {
+            return byte_at(one, i) < byte_at(other, i);
+        }
+    }
+    false
+}
+
+fn wide(x: u32) -> usize {
+    x as usize
+}
+
+// How often a list of a live option goes into `left`; `left` for another.
+fn times_in(left: usize, free: u32, domain: u32, i: usize) -> usize {
+    let count = wide(u32::count_ones(domain));
+    if !has(free, i) {
+        return left;
+    }
+    if count == 0 {
+        return left;
+    }
+    left / count
+}
+
+// The product of the sizes of the live lists exceeds 1,000,000, where none is empty: 1,000,000 divided by each in turn is 0.
+pub fn are_many(free: u32, domains: &[u32; 16]) -> bool {
+    let mut left: usize = 1000000;
+    for i in 0..16 {
+        left = times_in(left, free, domains[i], i);
+    }
+    (left == 0) & !has_empty_list(free, domains)
+}

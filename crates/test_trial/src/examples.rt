@@ -1,6 +1,7 @@
 // Fixed examples, each with what it must come to: sheets, refused bytes, steps, answers on sheet A, and added tables.
 use crate::lists;
 use crate::lists::expect_text;
+use crate::searches::emptied;
 use crate::sheets::check_sheet;
 use test_calls::calls;
 use test_calls::states;
@@ -466,6 +467,26 @@ fn added_to_unsound(tally: &mut Counts) {
     tally::expect(tally, tally::EXAMPLES, is_refused);
 }
 
+// The search. Six options of 10 values without a table have 1,000,000 choices; a seventh of 2 is too much, and so are sixteen of 16. Three options of 3
+// values differ, and four can not. 14 options of 16 values and two of one, (15,16) 0000. Four options of 31 values, and of 32. And which build is the first
+// goes by the live options: sizes 2,3; (1,2) 0006 0001.
+fn searched(seed: &mut u64, tally: &mut Counts) {
+    lists::run(
+        b"F\x0b\x01\x00\x08\x06\x0a\x0a\x0a\x0a\x0a\x0a\x00\x01B\x01B\
+        F\x0c\x01\x00\x09\x07\x0a\x0a\x0a\x0a\x0a\x0a\x02\x00\x01\x17\x01\x17\
+        F\x15\x01\x00\x12\x10\x10\x10\x10\x10\x10\x10\x10\x10\x10\x10\x10\x10\x10\x10\x10\x10\x00\x01\x17\x01\x17\
+        F\x20\x01\x00\x1d\x03\x03\x03\x03\x03\x01\x02\x00\x06\x00\x05\x00\x03\x01\x03\x00\x06\x00\x05\x00\x03\x02\x03\x00\x06\x00\x05\x00\x03\x04B\x00\x01\x02\x04B\x00\x01\x02\
+        F\x39\x01\x00\x36\x04\x03\x03\x03\x03\x06\x01\x02\x00\x06\x00\x05\x00\x03\x01\x03\x00\x06\x00\x05\x00\x03\x01\x04\x00\x06\x00\x05\x00\x03\x02\x03\x00\x06\x00\x05\x00\x03\x02\x04\x00\x06\x00\x05\x00\x03\x03\x04\x00\x06\x00\x05\x00\x03\x01N\x01N\
+        F\x19\x01\x00\x16\x10\x10\x10\x10\x10\x10\x10\x10\x10\x10\x10\x10\x10\x10\x10\x01\x01\x01\x0f\x10\x00\x00\x01\x17\x01N\
+        F\x09\x02\x00\x06\x04\x1f\x1f\x1f\x1f\x00\x01B\x01B\
+        F\x09\x02\x00\x06\x04\x20\x20\x20\x20\x00\x01\x17\x01\x17\
+        F\x0d\x01\x00\x0a\x02\x02\x03\x01\x01\x02\x00\x06\x00\x01\x03B\x00\x01\x03B\x01\x00",
+        seed,
+        tally,
+    );
+    emptied(tally);
+}
+
 // One byte more than a sheet has, with the count right.
 fn with_byte(sheet: families::Sheet) -> families::Sheet {
     let mut bytes = sheet.bytes;
@@ -537,6 +558,7 @@ pub(crate) fn run(seed: &mut u64, tally: &mut Counts) {
     second_steps(seed, tally);
     replies_as_read(seed, tally);
     replies_reduced(seed, tally);
+    searched(seed, tally);
     run_versions(seed, tally);
     run_tables(seed, tally);
 }

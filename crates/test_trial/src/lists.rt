@@ -1,5 +1,6 @@
 // Lists of rows: those of `test_checks`, and three kinds more.
 use crate::scripts;
+use crate::searches;
 use crate::sheets::check_sheet;
 use test_builds::outcomes;
 use test_calls::tally;
@@ -60,6 +61,7 @@ fn run_at(list: &[u8], at: usize, seed: &mut u64, tally: &mut Counts) -> usize {
         b'S' => sheet_at(list, past(at, 1), seed, tally),
         b'P' => text_at(list, past(at, 1), tally),
         b'K' => script_at(list, past(at, 1), seed, tally),
+        b'F' => searches::search_at(list, past(at, 1), tally),
         _ => rows::check_at(list, at, tally),
     }
 }

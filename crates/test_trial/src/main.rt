@@ -9,6 +9,8 @@ mod examples;
 mod lists;
 // Lists of calls with what they must come to.
 mod scripts;
+// The search on fixed sheets.
+mod searches;
 // One input, and a list of calls on it.
 mod sheets;
 // One random input after the other.

@@ -36,6 +36,7 @@ fn check_builds(family: u8, bytes: &[u8], run: Run, seed: &mut u64, tally: &mut 
     }
     builds::check_some(bytes, &tables, state, 20, seed, tally);
     builds::check_verdict(bytes, &tables, state, tally);
+    builds::check_large_search(bytes, &tables, state, tally);
 }
 
 // What holds whatever the family: refused calls, writing back, and a state with a fault.

@@ -1,0 +1,2 @@
+-- What the search promises of a state.
+pub mod Searches
