@@ -27,8 +27,8 @@ static const uint8_t CASE_A[] = {0x01, 0x00, 0x13, 0x03, 0x02, 0x03, 0x02, 0x02,
 static const char TEXT_A[] =
     "OPTIONS 3\nLIVE 1 LIST 00000003\nFOLLOWS 2 OF 1\nFOLLOWS 3 OF 1\nSTEPS 2\nVERDICT BUILT\nBUILD 0 0 1\n";
 
-/* Case A as read, after 2 follows 1, and reduced; and the zero state. */
-static struct sheet_state fresh, stepped, reduced, zero;
+/* Case A as read, after 2 follows 1, and reduced; the zero state; and 16 options of four values. */
+static struct sheet_state fresh, stepped, reduced, zero, flat;
 
 /* Value a of option i goes with value b of the higher option j, options counted from 1. */
 static void allow(struct sheet_state *state, int i, int a, int j, int b) {
@@ -56,6 +56,8 @@ static void make_states(void) {
     stepped.leaders[1] = 1;
     reduced = stepped;
     reduced.leaders[2] = 1;
+    flat.n = 16;
+    for (size_t i = 0; i < 16; i++) flat.sizes[i] = 4, flat.lists[i] = 0x000f;
 }
 
 static bool same(const struct sheet_state *one, const struct sheet_state *other) {
@@ -182,6 +184,48 @@ static void check_tables(void) {
         for (int b = 0; b < 2; b++) allow(&expected, 1, a, 3, b);
     }
     CHECK(same(&s, &expected));
+}
+
+/* The first so many of 16 options of four values. */
+static struct sheet_state flat_meter(size_t n) {
+    struct sheet_state state = flat;
+    state.n = n;
+    for (size_t i = n; i < 16; i++) state.sizes[i] = 0, state.lists[i] = 0;
+    return state;
+}
+
+static void refused_meter(const struct sheet_state *given, int number) {
+    struct sheet_state state = *given;
+    struct sheet_verdict_answer answer = meter_fit(&state);
+    CHECK(answer.number == number && answer.kind == SHEET_NO_VERDICT && all_zero(answer.build, sizeof answer.build) && same(&state, given));
+}
+
+/* Page nine: the pair gets the rows 000C 000E 000F 000F. With "each cell for one interval" stated, 1,200 mAh fails at 8 s and the next cell leads. A
+ * list that is not full is no ground for a refusal, and a size is. */
+static void check_meter(void) {
+    static const uint32_t page_nine[] = {0x000c, 0x000e, 0x000f, 0x000f};
+    struct sheet_state s = flat_meter(2), expected = s;
+    for (int a = 0; a < 4; a++) {
+        for (int b = 0; b < 4; b++) {
+            if (page_nine[a] >> b & 1) allow(&expected, 1, a, 2, b);
+        }
+    }
+    struct sheet_verdict_answer answer = meter_fit(&s);
+    CHECK(answer.number == 0 && answer.kind == SHEET_OPEN && all_zero(answer.build, sizeof answer.build) && same(&s, &expected));
+    s = flat_meter(2);
+    for (int a = 0; a < 4; a++) allow(&s, 1, a, 2, a);
+    answer = meter_fit(&s);
+    CHECK(answer.kind == SHEET_BUILT && answer.build[0] == 1 && answer.build[1] == 1 && all_zero(answer.build + 2, 14));
+    CHECK(s.lists[0] == 0x000e && s.leaders[1] == 1);
+    s = flat_meter(2), s.lists[0] = 0x0001;
+    answer = meter_fit(&s);
+    CHECK(answer.kind == SHEET_BUILT && answer.build[0] == 0 && answer.build[1] == 2);
+    s = flat_meter(1), refused_meter(&s, SHEET_CAUSE_NOT_FLAT_METER);
+    s = flat_meter(2), s.sizes[1] = 5, refused_meter(&s, SHEET_CAUSE_NOT_FLAT_METER);
+    s = flat_meter(3), s.sizes[0] = 3, s.lists[0] = 0x0007, refused_meter(&s, SHEET_CAUSE_NOT_FLAT_METER);
+    s = flat_meter(1), s.n = 17, refused_meter(&s, SHEET_CAUSE_NOT_SOUND);
+    refused_meter(&fresh, SHEET_CAUSE_NOT_FLAT_METER);
+    refused_meter(&zero, SHEET_CAUSE_NOT_SOUND);
 }
 
 static void check_sound_and_verdict(void) {
@@ -366,6 +410,8 @@ static void check_read_only(void) {
     CHECK(sheet_add_table(&held->fresh, 0, 2, NULL, 0).number == SHEET_CAUSE_OPTION_NUMBER);
     CHECK(sheet_add_table(&held->fresh, 2, 2, NULL, 0).number == SHEET_CAUSE_SAME_OPTIONS);
     CHECK(sheet_add_table(&held->fresh, 1, 2, NULL, 0).number == SHEET_CAUSE_TABLE_ROWS);
+    CHECK(meter_fit(&held->zero).number == SHEET_CAUSE_NOT_SOUND);
+    CHECK(meter_fit(&held->fresh).number == SHEET_CAUSE_NOT_FLAT_METER);
     CHECK(sheet_complete(&held->zero, held->bytes, 3) == SHEET_CAUSE_NOT_SOUND);
     CHECK(sheet_complete(&held->fresh, held->bytes, 4) == SHEET_CAUSE_BUILD_LENGTH);
     CHECK(sheet_complete(&held->fresh, held->bytes, 3) == SHEET_CAUSE_VALUES_FORBIDDEN);
@@ -387,7 +433,7 @@ static void check_texts(void) {
             CHECK(strcmp(sheet_cause_text(one), sheet_cause_text(other)) != 0);
         }
     }
-    CHECK(causes == 26);
+    CHECK(causes == 27);
     CHECK(strcmp(sheet_cause_text(SHEET_CAUSE_NOT_SOUND), "the state is not sound") == 0);
     CHECK(strcmp(sheet_cause_text(255), sheet_cause_text(SHEET_GREATEST_CAUSE + 1)) == 0);
 }
@@ -407,6 +453,7 @@ static void add_it(void) {
     static const uint32_t table[] = {0x0004, 0x0006};
     held = fresh, sheet_add_table(&held, 3, 2, table, 2);
 }
+static void meter_it(void) { held = flat, bytes[0] = meter_fit(&held).kind; }
 static void reduce_it(void) { held = fresh, sheet_reduce(&held); }
 static void test_it(void) { bytes[0] = sheet_test(&reduced, bytes, 3).number; }
 static void complete_it(void) { memset(bytes, 0, 3), sheet_complete(&reduced, bytes, 3); }
@@ -431,7 +478,7 @@ static void check_stack(void) {
         for (int b = 0; b < 31; b++) allow(&deep, k, 30, k + 1, b);
     }
     static void (*const calls[])(void) = {read_it, write_it,    sound_it,   follow_it, reduce_it, add_it,
-                                          test_it, complete_it, verdict_it, search_it, cut_it,    text_it};
+                                          test_it, complete_it, verdict_it, search_it, cut_it,    text_it,   meter_it};
     for (size_t k = 0; k < sizeof calls / sizeof *calls; k++) {
         size_t untouched = 0;
         run_on_own_stack(calls[k]);
@@ -445,6 +492,7 @@ int main(void) {
     check_bytes();
     check_steps();
     check_tables();
+    check_meter();
     check_sound_and_verdict();
     check_search();
     check_builds();

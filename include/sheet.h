@@ -40,7 +40,7 @@
 /* The version of these declarations: MAJOR rises where a caller has to be changed or compiled anew, MINOR where something is
  * added. The version in byte 0 of a sheet is another number. */
 #define SHEET_VERSION_MAJOR 3
-#define SHEET_VERSION_MINOR 3
+#define SHEET_VERSION_MINOR 4
 
 #define SHEET_LARGEST_BYTES 15621 /* "The largest version 2 sheet has 15,621 bytes, which is the limit in number 1" */
 #define SHEET_MOST_OPTIONS 16    /* length of the arrays that hold something for each option */
@@ -81,6 +81,7 @@ enum sheet_cause {
     SHEET_CAUSE_TABLE_ROWS = 22,        /* added table: "a wrong count of rows or a bit at or above the size" */
     SHEET_CAUSE_TOO_MANY_CHOICES = 23,  /* search: "the product of the live list sizes exceeds 1,000,000" */
     SHEET_CAUSE_NOT_IN_VERSION = 24,    /* writer: "an unknown version or a size above 16 in version 1" */
+    SHEET_CAUSE_NOT_FLAT_METER = 25,    /* page nine: "fewer than two options or where option 1 or 2 is not of size four" */
     SHEET_CAUSE_BLANK_ROW = 26          /* version 3 "forbids an all-zero row": in a sheet, or in a state to be written */
 };
 
@@ -114,6 +115,7 @@ static inline const char *sheet_cause_text(unsigned number) {
     case SHEET_CAUSE_TABLE_ROWS: return "the table does not have a row for each value of its first option, or a row allows a value at or above the size of its second";
     case SHEET_CAUSE_TOO_MANY_CHOICES: return "the lists of the live options have more than 1,000,000 choices";
     case SHEET_CAUSE_NOT_IN_VERSION: return "the version to write is unknown, or a size is above what it can hold";
+    case SHEET_CAUSE_NOT_FLAT_METER: return "there are fewer than two options, or option 1 or 2 does not have four values";
     case SHEET_CAUSE_BLANK_ROW: return "a row is all-zero, which version 3 forbids";
     default: return "no cause has this number";
     }
@@ -234,6 +236,10 @@ struct sheet_cut_answer sheet_cut_parts(const uint8_t *bytes, size_t length, siz
                                         uint32_t lists[SHEET_MOST_OPTIONS], uint8_t leaders[SHEET_MOST_OPTIONS],
                                         uint32_t stated[SHEET_MOST_OPTIONS], uint32_t rows[SHEET_ROWS]);
 
+struct sheet_verdict_answer meter_fit_parts(size_t n, const uint8_t sizes[SHEET_MOST_OPTIONS],
+                                            uint32_t lists[SHEET_MOST_OPTIONS], uint8_t leaders[SHEET_MOST_OPTIONS],
+                                            uint32_t stated[SHEET_MOST_OPTIONS], uint32_t rows[SHEET_ROWS]);
+
 /* Reads a sheet of version 1, 2 or 3, of any length and contents, into `state`: full lists, no leader, and exactly the tables of the sheet are stated.
  * What the state held before does not matter.
  * Numbers 1 to 8, 19, 20 and 26: "Number 1 is tested first, then 2, then fields in file order; at each field 6 precedes its own number."
@@ -323,6 +329,17 @@ static inline struct sheet_verdict_answer sheet_search(const struct sheet_state 
  * zero state. */
 static inline struct sheet_cut_answer sheet_cut(const uint8_t *bytes, size_t length, struct sheet_state *state) {
     return sheet_cut_parts(bytes, length, &state->n, state->sizes, state->lists, state->leaders, state->stated, state->rows);
+}
+
+/* Page nine of the flat meter. Option 1 is the cell, of 1,200, 1,900, 2,600 or 3,600 mAh, option 2 the sending interval, of 8, 16, 32
+ * or 64 s, which draws 22, 14, 10 or 8 microamperes; values in this order. "A cell and an interval go together exactly when capacity x
+ * 1,000 is at least draw x 87,600": 1,200 mAh not at 8 and 16 s, 1,900 mAh not at 8 s, all others do. Adds this as a table, reduces
+ * fully, in place, and answers the verdict of the state then.
+ * Numbers 9, 25, tested in this order; 25 goes by the sizes of the two options, whatever their lists hold. A refusal leaves the state
+ * as it was and answers SHEET_NO_VERDICT and no build.
+ * Of the builds of the state exactly those stay whose cell and interval go together; no build that it shows breaks page nine. */
+static inline struct sheet_verdict_answer meter_fit(struct sheet_state *state) {
+    return meter_fit_parts(state->n, state->sizes, state->lists, state->leaders, state->stated, state->rows);
 }
 
 /* The text that sheetcut prints for these bytes, which may be a refusal's. No numbers. */

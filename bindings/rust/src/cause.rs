@@ -54,6 +54,8 @@ pub enum Cause {
     TooManyChoices = 23,
     /// writer: "an unknown version or a size above 16 in version 1"
     NotInVersion = 24,
+    /// page nine: "fewer than two options or where option 1 or 2 is not of size four"
+    NotFlatMeter = 25,
     /// version 3 "forbids an all-zero row": in a sheet, or in a state to be written
     BlankRow = 26,
 }
@@ -62,7 +64,7 @@ use Cause::*;
 
 impl Cause {
     /// All causes, in the order of their numbers.
-    pub const ALL: [Cause; 25] = [
+    pub const ALL: [Cause; 26] = [
         Length,
         Version,
         OptionCount,
@@ -87,6 +89,7 @@ impl Cause {
         TableRows,
         TooManyChoices,
         NotInVersion,
+        NotFlatMeter,
         BlankRow,
     ];
 
@@ -131,6 +134,7 @@ impl fmt::Display for Cause {
             TableRows => "the table does not have a row for each value of its first option, or a row allows a value at or above the size of its second",
             TooManyChoices => "the lists of the live options have more than 1,000,000 choices",
             NotInVersion => "the version to write is unknown, or a size is above what it can hold",
+            NotFlatMeter => "there are fewer than two options, or option 1 or 2 does not have four values",
             BlankRow => "a row is all-zero, which version 3 forbids",
         })
     }

@@ -16,6 +16,10 @@
 //! assert_eq!(sheet::add_table(&mut state, 3, 2, &[0x0004, 0x0006]).number, 0);
 //! assert_eq!(sheet::verdict(&state).build[..3], [1, 2, 0]);
 //!
+//! let flat_meter = [1, 0, 25, 3, 4, 4, 2, 2, 1, 2, 0, 1, 0, 2, 0, 4, 0, 8, 1, 3, 0, 1, 0, 1, 0, 2, 0, 2];
+//! assert_eq!(sheet::cut(&flat_meter, &mut state).build[..3], [0, 0, 0]);
+//! assert_eq!(sheet::meter_fit(&mut state).build[..3], [1, 1, 0]);
+//!
 //! let short = sheet::read(&case_a[..4], &mut state);
 //! assert_eq!((short.number, short.place), (1, 0));
 //! assert!(sheet::Cause::of(short.number).unwrap().to_string().ends_with("its count of bytes is wrong"));
@@ -133,6 +137,14 @@ extern "C" {
         stated: &mut [u32; MOST_OPTIONS],
         rows: &mut Rows,
     ) -> Cut;
+    fn meter_fit_parts(
+        n: usize,
+        sizes: &[u8; MOST_OPTIONS],
+        lists: &mut [u32; MOST_OPTIONS],
+        leaders: &mut [u8; MOST_OPTIONS],
+        stated: &mut [u32; MOST_OPTIONS],
+        rows: &mut Rows,
+    ) -> Verdict;
     fn sheet_text(bytes: *const u8, length: usize) -> Text;
 }
 
@@ -331,6 +343,17 @@ pub fn cut(bytes: &[u8], state: &mut State) -> Cut {
             &mut s.rows,
         )
     }
+}
+
+/// Page nine of the flat meter: option 1 is the cell, of 1,200, 1,900, 2,600 or 3,600 mAh, option 2 the sending interval, of 8, 16, 32 or
+/// 64 s. Adds which of them go together as a table, reduces fully, and answers the verdict of the state then.
+///
+/// Numbers 9, 25, tested in this order; 25 goes by the sizes of the two options. A refusal leaves the state as it was and answers
+/// [`NO_VERDICT`] and no build. Of the builds of the state exactly those stay whose cell and interval go together.
+#[inline]
+pub fn meter_fit(state: &mut State) -> Verdict {
+    let s = state;
+    unsafe { meter_fit_parts(s.n, &s.sizes, &mut s.lists, &mut s.leaders, &mut s.stated, &mut s.rows) }
 }
 
 /// The text that sheetcut prints for these bytes, which may be a refusal's. No numbers.

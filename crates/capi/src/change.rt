@@ -22,7 +22,7 @@ pub struct SheetStepped {
 }
 
 // Stores what a call that is not refused has made of a head, and tells its number and count.
-fn left(
+pub(crate) fn left(
     worked: Worked,
     lists: &mut [u32; VARIABLES],
     leaders: &mut [u8; VARIABLES],

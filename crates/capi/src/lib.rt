@@ -2,6 +2,7 @@
 // A state is lent as its arrays, of which any contents are taken, and no state is copied. `include/sheet.h` declares all of this in C, with a call on a
 // pointer to a state over each of these functions.
 mod change;
+mod fit;
 mod lent;
 mod look;
 mod sheets;
@@ -10,6 +11,7 @@ pub use change::SheetStepped;
 pub use change::sheet_add_table_parts;
 pub use change::sheet_eliminate_parts;
 pub use change::sheet_reduce_parts;
+pub use fit::meter_fit_parts;
 pub use look::SheetTested;
 pub use look::SheetVerdict;
 pub use look::SheetWritten;

@@ -5,16 +5,16 @@ use Prim.Native.Nat.{ℕ, _-_, _≤_}
 use native.Mathlib.Omega.{arith}
 use lib.ListN.{getD}
 use Rattle.cause.specs.declared.Cause.{Cause}
-use Rattle.cause.specs.declared.Cause.the-variants.{Length, Version, VariableCount, Size, ConstraintCount, Extent, PairRange, PairOrder, PairRepeated, RowRange, Unsound, VariableNumber, NotTwoFree, NotStated, NotFunctional, SolutionLength, ValueRange, ValuesForbidden, BufferLength, NotFresh, SameVariables, TableRows, TooManyChoices, NotInVersion, BlankRow}
+use Rattle.cause.specs.declared.Cause.the-variants.{Length, Version, VariableCount, Size, ConstraintCount, Extent, PairRange, PairOrder, PairRepeated, RowRange, Unsound, VariableNumber, NotTwoFree, NotStated, NotFunctional, SolutionLength, ValueRange, ValuesForbidden, BufferLength, NotFresh, SameVariables, TableRows, TooManyChoices, NotInVersion, NotFlatMeter, BlankRow}
 use Rattle.cause.specs.Number.{numberOf, greatest}
 
--- The cause of a number, from the causes in the order of their numbers. (No cause has 25.)
+-- The cause of a number, from the causes in the order of their numbers.
 abbrev causeOf : ℕ → Cause
 causeOf k =
     getD
     (Length ∷ Version ∷ VariableCount ∷ Size ∷ ConstraintCount ∷ Extent ∷ PairRange ∷ RowRange ∷ Unsound ∷ VariableNumber
     ∷ NotTwoFree ∷ NotStated ∷ NotFunctional ∷ SolutionLength ∷ ValueRange ∷ ValuesForbidden ∷ BufferLength ∷ NotFresh
-    ∷ PairOrder ∷ PairRepeated ∷ SameVariables ∷ TableRows ∷ TooManyChoices ∷ NotInVersion ∷ Length ∷ BlankRow ∷ [])
+    ∷ PairOrder ∷ PairRepeated ∷ SameVariables ∷ TableRows ∷ TooManyChoices ∷ NotInVersion ∷ NotFlatMeter ∷ BlankRow ∷ [])
     (k - 1) Length
 
 -- Each cause: its number is one of the table's, and gives the cause back.
@@ -43,6 +43,7 @@ numbered SameVariables = (omega arith, refl)
 numbered TableRows = (omega arith, refl)
 numbered TooManyChoices = (omega arith, refl)
 numbered NotInVersion = (omega arith, refl)
+numbered NotFlatMeter = (omega arith, refl)
 numbered BlankRow = (omega arith, refl)
 
 -- "Causes and their numbers": from 1 on. No cause has number 0, which stands for "not refused".

@@ -1,7 +1,7 @@
--- Document 01, "Causes and their numbers"; 7, 19 and 20 are those of document 02, L1, 21 and 22 those of L3, 23 is that of L4, 24 that of L6, and 26 that of L10.
+-- Document 01, "Causes and their numbers"; 7, 19 and 20 are those of document 02, L1, 21 and 22 those of L3, 23 is that of L4, 24 that of L6, 25 that of L7, and 26 that of L10.
 use Prim.Native.Nat.{ℕ}
 use Rattle.cause.specs.declared.Cause.{Cause}
-use Rattle.cause.specs.declared.Cause.the-variants.{Length, Version, VariableCount, Size, ConstraintCount, Extent, PairRange, PairOrder, PairRepeated, RowRange, Unsound, VariableNumber, NotTwoFree, NotStated, NotFunctional, SolutionLength, ValueRange, ValuesForbidden, BufferLength, NotFresh, SameVariables, TableRows, TooManyChoices, NotInVersion, BlankRow}
+use Rattle.cause.specs.declared.Cause.the-variants.{Length, Version, VariableCount, Size, ConstraintCount, Extent, PairRange, PairOrder, PairRepeated, RowRange, Unsound, VariableNumber, NotTwoFree, NotStated, NotFunctional, SolutionLength, ValueRange, ValuesForbidden, BufferLength, NotFresh, SameVariables, TableRows, TooManyChoices, NotInVersion, NotFlatMeter, BlankRow}
 
 abbrev pub numberOf : Cause → ℕ
 numberOf Length = 1  -- under 3 bytes, over 15,621, or not 3 plus the count
@@ -28,6 +28,7 @@ numberOf SameVariables = 21  -- two equal options
 numberOf TableRows = 22  -- a wrong count of rows or a bit at or above the size
 numberOf TooManyChoices = 23  -- the product of the live list sizes exceeds 1,000,000
 numberOf NotInVersion = 24  -- writer: an unknown version or a size above 16 in version 1
+numberOf NotFlatMeter = 25  -- fewer than two options, or option 1 or 2 not of size four
 numberOf BlankRow = 26  -- version 3: an all-zero row; writer: a stated table has one for its lower-numbered option
 
 -- The greatest of these numbers.

@@ -37,6 +37,8 @@ pub enum Cause {
     TooManyChoices,
     // The version to write is unknown, or a size is above its limit.
     NotInVersion,
+    // Page nine: fewer than two variables, or variable 1 or 2 not of size four.
+    NotFlatMeter,
     // Version 3: a row of no values, read or to be written.
     BlankRow,
 }
@@ -70,6 +72,7 @@ pub fn number(cause: Cause) -> u8
         Cause::TableRows => 22,
         Cause::TooManyChoices => 23,
         Cause::NotInVersion => 24,
+        Cause::NotFlatMeter => 25,
         Cause::BlankRow => 26,
     }
 }

@@ -75,16 +75,16 @@ countTuples-cong n m s t p q e sizes tests =
     ∙ ap (λ (r : (ℕ → ℕ) → Bool). sumTuples m t (λ (f : ℕ → ℕ). bit (r f)) (λ (i : ℕ). 0)) (fun-ext tests)
 
 -- The state t holds the network M, which keeps the promise for the network N with p added; and the builds, of n bytes, are the solutions of M.
-record Serves (N M : Network) (p : (ℕ → ℕ) → Bool) (t : State) (n : ℕ) (build : List ℕ → Bool) : Type 0 where
-  shaped : Shaped t
-  sound : soundState t ≡ true
-  holds : view t ≡ M
-  promised : Promised N M p
-  state-n : t .n ≡ n
-  given-n : N .n ≡ n
-  network-n : M .n ≡ n
-  at-most : n ≤ variables
-  builds-are : (b : List ℕ) → build b ≡ and (eqb (length b) n) (solves M (valuesOf b))
+pub record Serves (N M : Network) (p : (ℕ → ℕ) → Bool) (t : State) (n : ℕ) (build : List ℕ → Bool) : Type 0 where
+  pub shaped : Shaped t
+  pub sound : soundState t ≡ true
+  pub holds : view t ≡ M
+  pub promised : Promised N M p
+  pub state-n : t .n ≡ n
+  pub given-n : N .n ≡ n
+  pub network-n : M .n ≡ n
+  pub at-most : n ≤ variables
+  pub builds-are : (b : List ℕ) → build b ≡ and (eqb (length b) n) (solves M (valuesOf b))
 
 -- Then every sentence of demand 3 but the count holds of t and the builds.
 module _ (N M : Network) (p : (ℕ → ℕ) → Bool) (t : State) (n : ℕ) (build : List ℕ → Bool) (S : Serves N M p t n build) where
@@ -137,16 +137,16 @@ module _ (N M : Network) (p : (ℕ → ℕ) → Bool) (t : State) (n : ℕ) (bui
         (λ i m q. live i (rw (S .given-n) at m) q) k (rw (S .given-n) l))
         ∙ sym buffer-is
 
-  rules-none : ruledAs NONE (verdictOf t) ↔ (verdict M ≡ NONE)
+  pub rules-none : ruledAs NONE (verdictOf t) ↔ (verdict M ≡ NONE)
   rules-none = rw (S .holds) at (ruled-as t (S .sound) NONE)
 
-  no-build : ((f : ℕ → ℕ) → and (solves N f) (p f) ≡ false) ↔ ((b : List ℕ) → build b ≡ false)
+  pub no-build : ((f : ℕ → ℕ) → and (solves N f) (p f) ≡ false) ↔ ((b : List ℕ) → build b ≡ false)
   no-build = (
     λ none b. not-true→false _ (λ x. clash (sym (S .promised .tester _) ∙ build-solves b x) (none (valuesOf b))),
     λ none f. not-true→false _ (λ k. clash (build-table f (S .promised .tester f ∙ k)) (none (tabulate n f))),
   )
 
-  shows-build : decided M ≡ true → (ruledAs NONE (verdictOf t) → ⊥)
+  pub shows-build : decided M ≡ true → (ruledAs NONE (verdictOf t) → ⊥)
       → (shows : List ℕ) × (verdictOf t ≡ rules BUILT shows) × (build (take n shows) ≡ true)
   shows-build d not-none =
       let b = S .promised .built d (λ v. not-none (rules-none .1 v)) in (
@@ -233,7 +233,7 @@ module _ (bytes : List ℕ) (octets : Octets bytes) (h : readSheet bytes .number
       (builds-are-solutions bytes octets s (length bytes) (A .got-sheet) b ∙ rw n-options)
       ∙ and-assoc _ _ _ ∙ ap (and (eqb (length b) (options bytes))) (sym (promised .tester (valuesOf b)))
 
-  serves : Serves (networkOf s) (lastNetwork bytes cs) (keepsTo (lastTables bytes cs)) (lastState bytes cs) (options bytes) (buildOfSheet bytes cs)
+  pub serves : Serves (networkOf s) (lastNetwork bytes cs) (keepsTo (lastTables bytes cs)) (lastState bytes cs) (options bytes) (buildOfSheet bytes cs)
   serves =
       record {
         shaped = rw last-state (packed-shaped last-packed);
@@ -259,7 +259,7 @@ module _ (bytes : List ℕ) (octets : Octets bytes) (h : readSheet bytes .number
   no-tables : tableless cs ≡ true → (f : ℕ → ℕ) → keepsTo (lastTables bytes cs) f ≡ true
   no-tables e f = rw (last-tables, tableless-adds (networkOf s) cs e) (keeps-to-none f)
 
-  promise : Promise bytes cs
+  pub promise : Promise bytes cs
   promise =
       let S = serves in
       record {

@@ -1,2 +1,3 @@
--- Demand 3.
+-- Demand 3, and the laws that a layer above the sheets leans on.
 pub mod Promise
+pub mod Laws

@@ -7,6 +7,8 @@ use test_calls::tally::KINDS;
 mod examples;
 // Lists of rows of examples.
 mod lists;
+// Page nine.
+mod meters;
 // Lists of calls with what they must come to.
 mod scripts;
 // The search on fixed sheets.
@@ -20,6 +22,7 @@ fn run_examples() {
     let mut counts = [0u64; KINDS];
     let mut seed: u64 = 88172645463325252;
     examples::run(&mut seed, &mut counts);
+    meters::run(&mut counts);
     tally::print(b"examples\ntexts\n", tally::EXAMPLES, &counts);
     tally::print_checks(&counts);
 }

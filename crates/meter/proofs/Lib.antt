@@ -1,0 +1,3 @@
+pub mod PageNine
+pub mod Fitted
+pub mod Promise
