@@ -29,7 +29,6 @@ use Rattle.network.specs.Added.{Numbered, Fitting, Refuses, Traced, Part
 use Rattle.network.proofs.Sound.{led-not-free, led-pred, free-or-led, leader-n, leader-is-free, partner-some, partner-only, Sound→Bounded}
 use Rattle.network.proofs.Step.{here, past, never, outside-e, outside-i, both-sides}
 use Rattle.network.proofs.Completion.{solves-domain, solves-pair, solves-i, completed-keeps, completed-led, completed-only}
-use Rattle.network.proofs.Reduction.{keeps-then}
 use Rattle.network.proofs.SheetOf.{network-ext}
 use Rattle.network.proofs.Rules.{same-test}
 use Rattle.network.proofs.Lists.{narrowed-i, narrowed-other, narrowed-fewer, lists-free}
@@ -314,10 +313,6 @@ module _ (N : Network) (x y : ℕ) (rows : List ℕ) where
   unfolding narrowed constrained
   added-size i = added-case (λ (M : Network). M .size i ≡ N .size i) (λ e. refl) (λ d. refl)
 
-  pub added-leader : (i : ℕ) → added N x y rows .leader i ≡ N .leader i
-  unfolding narrowed constrained
-  added-leader i = added-case (λ (M : Network). M .leader i ≡ N .leader i) (λ e. refl) (λ d. refl)
-
   module _ (S : Sound N) (x-in : x < N .n) (y-in : y < N .n) where
     pub added-sound : Sound (added N x y rows)
     added-sound =
@@ -347,13 +342,6 @@ module _ (N : Network) (x y : ℕ) (rows : List ℕ) where
     -- One table more is one predicate more.
     pub table-keeps : Keeps N (added N x y rows) (meetsTable x y rows)
     table-keeps = record { same-n = added-n; same-size = added-size; still-sound = added-sound; same-solutions = added-solves }
-
--- What stood for N with p added stands for N with p and the table added.
-pub added-keeps : (N M : Network) (p : (ℕ → ℕ) → Bool) → Keeps N M p → (x y : ℕ) (rows : List ℕ) → x < N .n → y < N .n
-    → Keeps N (added M x y rows) (λ (f : ℕ → ℕ). and (p f) (meetsTable x y rows f))
-added-keeps N M p K x y rows x-in y-in =
-    keeps-then N M (added M x y rows) p (meetsTable x y rows) K
-    (table-keeps M x y rows (K .still-sound) (rw (K .same-n) x-in) (rw (K .same-n) y-in))
 
 -- ---- refusals
 
@@ -438,12 +426,6 @@ not-refused N k l rows h =
     let a = r .0 .0 in
     let b = r .0 .1 in
     (omega (arith, a .from-1, a .to-n), omega (arith, b .from-1, b .to-n))
-
--- The number goes by n and the sizes alone, which no call changes.
-pub refusal-same : (N M : Network) → M .n ≡ N .n → ((i : ℕ) → M .size i ≡ N .size i)
-    → (k l : ℕ) (rows : List ℕ) → addRefusal M k l rows ≡ addRefusal N k l rows
-unfolding addRefusal rowsFit outside
-refusal-same N M e s k l rows = rw (e, s (pred k), s (pred l))
 
 -- ---- the sentences
 

@@ -299,14 +299,6 @@ module _ (N : Network) (S : Sound N) where
       let F = start .found-is f e in
       record { is-allowed = F .is-allowed; none-before = λ g a. F .none-before g a (nothing-below g) }
 
-  -- The choice that is found has 0 where there is nothing to choose.
-  pub searched-zero : (f : ℕ → ℕ) → searched N ≡ found f → (i : ℕ) → and (ltb i (N .n)) (free N i) ≡ false → f i ≡ 0
-  searched-zero f e i h =
-      let F = start .found-is f e in
-      by-cases (free N i)
-      (λ t. F .past i (by-cases (ltb i (N .n)) (λ l. clash (and-i _ _ l t) h) (λ l. ltb-false _ _ l)))
-      (F .eliminated i)
-
   pub searched-settles : Settles N (searched N)
   searched-settles =
       record {

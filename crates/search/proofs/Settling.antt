@@ -102,6 +102,3 @@ module _ (h : Head) (rows : List ℕ) (S : HeadShaped h) (t : soundIn h rows ≡
 module _ (N : Network) (r : Found) (F : FoundIn N r) where
   pub found-none : r .found ≡ false → searched N ≡ none
   found-none q = sought-case (searched N) (λ e. e) (λ f e. clash (F .found-exactly .1 (found-is-not-none (searched N) f e)) q)
-
-  pub found-some : {A : Type 0} → r .found ≡ true → ((f : ℕ → ℕ) → searched N ≡ found f → A) → A
-  found-some q u = sought-case (searched N) (λ e. absurd (F .found-exactly .0 q e)) u
