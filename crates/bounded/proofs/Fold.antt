@@ -68,9 +68,9 @@ none-of n p h k l = not-true→false (p k) (λ t. clash (some-i n p k l t) h)
 
 -- Folds of tests that agree below the bound are equal.
 -- One more test of a run of tests.
-pub test-joins : (p : ℕ → Bool) (r t : Bool) (n : ℕ) → r ≡ every n p → t ≡ p n → r && t ≡ every (n + 1) p
+pub test-joins : (p : ℕ → Bool) {r t : Bool} (n : ℕ) → r ≡ every n p → t ≡ p n → r && t ≡ every (n + 1) p
 unfolding every
-test-joins p r t n e h = rw (e, h, add-one n) (machine-and (every n p) (p n) ∙ and-comm (every n p) (p n))
+test-joins p n e h = rw (e, h, add-one n) (machine-and (every n p) (p n) ∙ and-comm (every n p) (p n))
 
 pub every-cong : (n : ℕ) (p q : ℕ → Bool) → ((k : ℕ) → k < n → p k ≡ q k) → every n p ≡ every n q
 unfolding every

@@ -1,30 +1,19 @@
 -- From what a call tells to the struct that is handed out, and to the arrays as they are left.
-use mathlib.Core.Bool.{Bool, true, false}
+use mathlib.Core.Bool.{Bool}
 use mathlib.Core.List.{List}
 use mathlib.Core.Path.{_≡_, refl, sym, ap, _∙_}
-use Prim.Native.Nat.{ℕ, _^_}
+use Prim.Native.Nat.{ℕ}
 use lib.Dec.{eqb}
-use lib.ListN.{getD}
 use borrow.Author.Tests.{eqb-true, eqb-false}
-use Rattle.bounded.specs.Array.{Array}
 use Rattle.bounded.proofs.Bool.{by-cases}
-use Rattle.bounded.proofs.Table.{is-table}
 use Rattle.answers.specs.declared.Verdict.{Verdict}
 use Rattle.answers.specs.declared.Verdict.the-variants as verdict
-use Rattle.answers.specs.Answers.{outcomeNumber, WriteTold, TestTold, testNumber, testAgrees, VerdictTold, verdictTold, verdictNumber, verdictKind, verdictSolution}
+use Rattle.answers.specs.Answers.{WriteTold, TestTold, testNumber, testAgrees, VerdictTold, verdictTold, verdictNumber, verdictKind, verdictSolution}
 use Rattle.head.specs.declared.Head.{Head}
-use Rattle.head.specs.Held.{held}
 use Rattle.state.specs.declared.state.State.{State}
 use Rattle.state.specs.declared.reduction.Worked.{Worked}
-use Rattle.state.specs.View.{Shaped, soundState}
 use Rattle.state.specs.Answers.{ReadTold, Told}
-use Rattle.state.specs.Steps.{stepped, refused, reducedAs, reduced}
-use Rattle.state.specs.Rules.{StepsByRules}
-use Rattle.state.specs.Tables.{tableAdded, TablesByRules}
 use Rattle.state.specs.Worked.{workedTold}
-use Rattle.state.proofs.Rules.{step-rules}
-use Rattle.state.proofs.Tables.{table-rules}
-use Rattle.state.proofs.Steps.{StateKept, reduced-done, reduced-refused}
 use Rattle.state.specs.Cut.{CutTold}
 use Rattle.capi.specs.declared.sheets.SheetRead.{SheetRead}
 use Rattle.capi.specs.declared.change.SheetStepped.{SheetStepped}
@@ -78,12 +67,8 @@ pub head-stored : (h : Head) {lists leaders stated : List ℕ} → (lists ≡ h 
     → headWith (h .n) (h .sizes) lists leaders stated ≡ h
 head-stored h e = λ i. headWith (h .n) (h .sizes) (e .0 i) (e .1 i) (e .2 i)
 
--- Two arrays that have the same elements are the same.
-same-array : (n b : ℕ) (l m : List ℕ) → Array n b l → Array n b m → ((i : ℕ) → getD l i 0 ≡ getD m i 0) → l ≡ m
-same-array n b l m A B h = is-table n (λ (i : ℕ). getD m i 0) l 0 (A .array-length) (λ i _. h i) ∙ sym (is-table n (λ (i : ℕ). getD m i 0) m 0 (B .array-length) (λ i _. refl))
-
 -- What is stored, with what a step or a reduction leaves as it was, is the state told.
-module _ (n : ℕ) (sizes lists leaders stated rows lists′ leaders′ stated′ rows′ : List ℕ) (w : Worked) (r : SheetStepped) (t : Told)
+module _ {n : ℕ} {sizes lists leaders stated rows lists′ leaders′ stated′ rows′ : List ℕ} {w : Worked} {r : SheetStepped} {t : Told}
     (told : workedTold w rows′ ≡ t) (L : Left w r lists leaders stated lists′ leaders′ stated′)
     (kept : (t .state .n ≡ n) × (t .state .sizes ≡ sizes))
     (handed : (t .number ≡ 0 → ⊥) → t .state ≡ stateWith n sizes lists leaders stated rows) where
@@ -111,25 +96,3 @@ module _ (n : ℕ) (sizes lists leaders stated rows lists′ leaders′ stated�
       by-cases (eqb (r .number) 0) (λ e. done (eqb-true _ _ e)) (λ e. not-done (eqb-false _ _ e)) in
       let steps : r .steps ≡ t .steps = L .steps-are ∙ ap (λ (u : Told). u .steps) told in
       λ i. record { number = numbers i; state = state i; steps = steps i }
-
--- None of the three moves n or a size,
-pub kept-same : (s t : State) (p : (ℕ → ℕ) → Bool) → Shaped s → StateKept s t p → (t .n ≡ s .n) × (t .sizes ≡ s .sizes)
-unfolding held
-kept-same s t p h k =
-    (k .kept-n, same-array 16 (2 ^ 8) (t .sizes) (s .sizes) (k .kept-shaped .head-shaped .sizes-array) (h .head-shaped .sizes-array) (k .kept-size))
-
--- and a refused one hands back what it was given.
-pub stepped-back : (s : State) → Shaped s → (l f : ℕ) → (stepped s l f .number ≡ 0 → ⊥) → stepped s l f .state ≡ s
-unfolding StepsByRules
-stepped-back s h l f = step-rules s h l f .handed-back
-
-pub table-back : (s : State) → Shaped s → (x y : ℕ) (table : List ℕ) → (tableAdded s x y table .number ≡ 0 → ⊥) → tableAdded s x y table .state ≡ s
-unfolding TablesByRules
-table-back s h x y table = table-rules s h x y table .handed-back
-
-pub reduced-back : (s : State) → (reduced s .number ≡ 0 → ⊥) → reduced s .state ≡ s
-unfolding reducedAs refused
-reduced-back s z =
-    by-cases (soundState s)
-    (λ t. absurd (z (ap (λ (u : Told). u .number) (reduced-done s t))))
-    (λ t. ap (λ (u : Told). u .state) (reduced-refused s t))

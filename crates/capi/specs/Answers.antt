@@ -2,17 +2,15 @@
 use mathlib.Core.List.{List}
 use mathlib.Core.Path.{_≡_}
 use Prim.Native.Nat.{ℕ}
-use Rattle.answers.specs.Answers.{outcomeNumber, WriteTold, TestTold, testNumber, testAgrees, VerdictTold, verdictTold, verdictNumber, verdictKind, verdictSolution}
+use Rattle.answers.specs.Answers.{outcomeNumber, WriteTold, TestTold, testNumber, testAgrees, VerdictTold, verdictNumber, verdictKind, verdictSolution}
 use Rattle.head.specs.declared.Head.{Head}
 use Rattle.state.specs.declared.state.State.{State}
 use Rattle.state.specs.declared.reduction.Worked.{Worked}
 use Rattle.state.specs.View.{stateOf}
 use Rattle.state.specs.Answers.{ReadTold, Told}
 use Rattle.state.specs.Cut.{CutTold}
-use Rattle.meter.specs.Fitted.{MeterTold}
 use Rattle.capi.specs.declared.sheets.SheetRead.{SheetRead}
 use Rattle.capi.specs.declared.change.SheetStepped.{SheetStepped}
-use Rattle.capi.specs.declared.fit.Fit.{Fit}
 use Rattle.capi.specs.declared.look.SheetWritten.{SheetWritten}
 use Rattle.capi.specs.declared.look.SheetTested.{SheetTested}
 use Rattle.capi.specs.declared.look.SheetVerdict.{SheetVerdict}
@@ -56,13 +54,4 @@ cutOut t =
       steps = t .steps;
       kind = verdictKind (t .verdict);
       solution = verdictSolution (t .verdict);
-    }
-
--- What page nine tells, of a head and the rows that are left beside it.
-unfoldable pub fitTold : Fit → List ℕ → MeterTold
-fitTold r rows =
-    record {
-      number = outcomeNumber (r .worked .outcome);
-      state = stateOf (r .worked .head) rows;
-      verdict = verdictTold (r .verdict) (r .solution);
     }

@@ -1,7 +1,6 @@
 // The calls that change a state where it is. A refused one stores nothing.
 use crate::lent::head_of;
 use crate::lent::put_changed;
-use crate::lent::whole;
 use answers::outcome_number;
 use head::Rows;
 use head::VARIABLES;
@@ -58,8 +57,6 @@ pub extern "C" fn sheet_eliminate_parts(
         ≡ stepped (stateWith n (now (sizes .entry)) (now (lists .entry)) (now (leaders .entry)) (now (stated .entry)) (now (rows .entry))) leader follower
         ⌝ }
 {
-    let given = *rows;
-    whole(given);
     let worked = eliminate_parts(
         head_of(n, sizes, lists, leaders, stated),
         rows,
@@ -84,8 +81,6 @@ pub extern "C" fn sheet_reduce_parts(
         ≡ reduced (stateWith n (now (sizes .entry)) (now (lists .entry)) (now (leaders .entry)) (now (stated .entry)) (now (rows .entry)))
         ⌝ }
 {
-    let given = *rows;
-    whole(given);
     let worked = reduce_parts(head_of(n, sizes, lists, leaders, stated), rows);
     left(worked, lists, leaders, stated)
 }
@@ -108,8 +103,6 @@ pub extern "C" fn sheet_add_table_parts(
         ≡ tableAdded (stateWith n (now (sizes .entry)) (now (lists .entry)) (now (leaders .entry)) (now (stated .entry)) (now (rows .entry))) first second (now (table .entry))
         ⌝ }
 {
-    let given = *rows;
-    whole(given);
     let worked = add_parts(
         head_of(n, sizes, lists, leaders, stated),
         rows,

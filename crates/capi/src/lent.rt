@@ -3,7 +3,7 @@ use head::Head;
 use head::Rows;
 use head::VARIABLES;
 ghost use mathlib.Core.Path.{_≡_};
-ghost use Rattle.head.specs.Held.{RowsShaped, zeroRows};
+ghost use Rattle.head.specs.Held.{zeroRows};
 ghost use Rattle.capi.specs.Answers.{headWith};
 
 // Its head, by value.
@@ -28,11 +28,6 @@ pub(crate) fn head_of<'a>(
         stated: own_stated,
     }
 }
-
-// What a type says of every array of rows, which is not known of one behind a reference.
-pub(crate) fn whole(rows: Rows)
-    ensures { λ r. ⌜ RowsShaped rows ⌝ }
-{}
 
 pub(crate) fn zero_rows(rows: &mut Rows)
     ensures { λ _. ⌜ now (rows .exit) ≡ zeroRows ⌝ }

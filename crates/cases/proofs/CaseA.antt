@@ -1,4 +1,4 @@
--- Case A by computation, through the definition of reading. The rows are compared at the values of the three options alone: both networks are
+-- Case A by computation, through the definition of reading. The rows are compared at the values of the three variables alone: both networks are
 -- sound, so neither allows anything elsewhere.
 use mathlib.Core.Bool.{Bool, true}
 use mathlib.Core.List.{List, [], _∷_}
@@ -113,7 +113,7 @@ sizes-small (suc (suc (suc i))) = omega arith
 same : Bool → Bool → Bool
 same x y = and (implies x y) (implies y x)
 
--- Everything that is computed: what each pair allows, the other arrays, the steps, and the verdict with its build.
+-- Everything that is computed: what each pair allows, the other arrays, the steps, and the verdict with its solution.
 record Computed : Type 0 where
   pairs : every 3 (λ (i : ℕ). every 3 (λ (j : ℕ). every 3 (λ (a : ℕ). every 3 (λ (b : ℕ).
       same (last .allows i j a b) (networkOf sheetLast .allows i j a b))))) ≡ true

@@ -199,7 +199,7 @@ module _ (bytes : List ℕ) (octets : Octets bytes) (s : Sheet) (end : ℕ) (e :
   read : SheetRead bytes s end
   read = parsed bytes octets s end e
 
-  -- The number of options and their sizes, read off the bytes, are those of the network.
+  -- The number of variables and their sizes, read off the bytes, are those of the network.
   pub options-are : options bytes ≡ networkOf s .n
   unfolding networkOf
   options-are = options-stand _ bytes (read .layout-found) s end (read .body .stands)

@@ -1,4 +1,4 @@
--- A layout has a sheet of as many bytes as its largest may have: 16 options of the most values, with a table for each pair that allows everything.
+-- A layout has a sheet of as many bytes as its largest may have: 16 variables of the most values, with a table for each pair that allows everything.
 use mathlib.Core.Bool.{true}
 use mathlib.Core.List.{List, _∷_}
 use mathlib.Core.Path.{_≡_, refl, sym, _∙_, ap}

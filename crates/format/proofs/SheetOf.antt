@@ -49,7 +49,7 @@ pair-for : (t : Table) (i j : ℕ) → isFor t i j ≡ true → pairOf t ≡ suc
 unfolding pairOf
 pair-for t i j h = let p = isFor-e t i j h in rw (p .0, p .1)
 
--- The size of an option, counted from 1 and from 0.
+-- The size of a variable, counted from 1 and from 0.
 sizeOf-suc : (sizes : List ℕ) (x i : ℕ) → x ≡ suc i → sizeOf sizes x ≡ getD sizes i 0
 unfolding sizeOf
 sizeOf-suc sizes x i h = ap (λ (k : ℕ). getD sizes k 0) (let e : x - 1 ≡ i = omega arith in e)
@@ -57,7 +57,7 @@ sizeOf-suc sizes x i h = ap (λ (k : ℕ). getD sizes k 0) (let e : x - 1 ≡ i 
 -- ---- the network of a well-formed sheet
 
 module _ (L : Layout) (U : Usable L) (sizes : List ℕ) (t : Table) (F : TableFits L sizes t) where
-  -- A row is a word of the width of the second option,
+  -- A row is a word of the width of the second variable,
   row-lt : (j a : ℕ) → t .second ≡ suc j → getD (t .rows) a 0 < 2 ^ getD sizes j 0
   row-lt j a y =
       by-cases (ltb a (length (t .rows)))
@@ -190,7 +190,7 @@ pub record Takes (L : Layout) (N : Network) : Type 0 where
       → rowTest (L .filled) (N .size j) (word (N .size j) (N .allows i j a)) ≡ fine
 
 module _ (L : Layout) (U : Usable L) (N : Network) (S : Sound N) (few : N .n ≤ 16) (T : Takes L N) where
-  -- The size of the variable i, as the sheet has it for the option i + 1.
+  -- The size of the variable i, as the sheet has it for i + 1.
   size-of : (i : ℕ) → sizeOf (sheetOf N .sizes) (suc i) ≡ N .size i
   size-of i = sizeOf-suc (sheetOf N .sizes) (suc i) i refl ∙ size-sheetOf N S i
 

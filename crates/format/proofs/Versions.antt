@@ -34,11 +34,11 @@ module _ (v : ℕ) where
 
 module _ (bytes : List ℕ) where
   -- Bytes within two limits, with one look-up of their version among two lists, are parsed alike.
-  same-parse : (limit most : ℕ) (Ks Ls : List Layout) → length bytes ≤ limit → length bytes ≤ most
+  same-parse : {limit most : ℕ} (Ks Ls : List Layout) → length bytes ≤ limit → length bytes ≤ most
       → layoutAmong Ks (getD bytes 0 0) ≡ layoutAmong Ls (getD bytes 0 0)
       → parseUnder limit Ks bytes ≡ parseUnder most Ls bytes
   unfolding parseUnder wrongUnder
-  same-parse limit most Ks Ls h k e = rw (le-ltb _ _ h, le-ltb _ _ k, e)
+  same-parse Ks Ls h k e = rw (le-ltb _ _ h, le-ltb _ _ k, e)
 
   too-long : (limit : ℕ) (Ls : List Layout) → limit < length bytes → parseUnder limit Ls bytes ≡ bad Length 0
   unfolding parseUnder wrongUnder
@@ -48,7 +48,7 @@ module _ (bytes : List ℕ) where
   pub as-before-version2 : length bytes ≤ 4101 → (getD bytes 0 0 ≡ 2 → ⊥) → (getD bytes 0 0 ≡ 3 → ⊥)
       → parse bytes ≡ parseUnder 4101 (version1 ∷ []) bytes
   unfolding parse layouts version2 version3 longest
-  as-before-version2 h two three = same-parse _ _ _ _ (omega arith) h (with-more _ (version1 ∷ []) (more two (more three none)))
+  as-before-version2 h two three = same-parse _ _ (omega arith) h (with-more _ (version1 ∷ []) (more two (more three none)))
 
   -- "Versions 1 and 2 go on allowing it": where the version is not 3 the parser is that of before, which knew versions 1 and 2.
   pub as-before-version3 : (getD bytes 0 0 ≡ 3 → ⊥) → parse bytes ≡ parseUnder longest (version1 ∷ version2 ∷ []) bytes

@@ -22,7 +22,7 @@ module _ (bytes : List ℕ) where
   unfoldable pub options : ℕ
   options = byte 3
 
-  -- The size of option x, counted from 1.
+  -- The size of the variable x, counted from 1.
   unfoldable pub optionSize : ℕ → ℕ
   optionSize x = byte (3 + x)
 
@@ -55,15 +55,15 @@ module _ (bytes : List ℕ) where
   placeAmong a b zero at = 0
   placeAmong a b (suc p) at = if (and (eqb (byte at) a) (eqb (byte (at + 1)) b)) at (placeAmong a b p (nextTable at))
 
-  -- The place of the table of the options a and b, in this order; 0 if the file has none.
+  -- The place of the table of the variables a and b, in this order; 0 if the file has none.
   unfoldable pub tablePlace : ℕ → ℕ → ℕ
   tablePlace a b = placeAmong a b tables firstTable
 
-  -- The file has a table of the options a and b, in this order: no table stands at place 0.
+  -- The file has a table of the variables a and b, in this order: no table stands at place 0.
   unfoldable pub hasTable : ℕ → ℕ → Bool
   hasTable a b = ltb 0 (tablePlace a b)
 
-  -- The table whose pair stands at a place allows the values that f has (f counts options from 0):
+  -- The table whose pair stands at a place allows the values that f has (f counts variables from 0):
   -- "the row for its value of a has the bit for its value of b".
   unfoldable pub tableAllows : (ℕ → ℕ) → ℕ → Bool
   tableAllows f at = has (tableRow at (f (byte at - 1))) (f (byte (at + 1) - 1))

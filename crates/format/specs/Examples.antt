@@ -10,7 +10,7 @@ pub record Example : Type 0 where
   pub bytes : List ℕ
   pub answer : Parse Sheet
 
--- A sheet of two options with one table.
+-- A sheet of two variables with one table.
 unfoldable pub two : ℕ → ℕ → List ℕ → Sheet
 two first second rows = record { sizes = first ∷ second ∷ []; tables = record { first = 1; second = 2; rows = rows } ∷ [] }
 

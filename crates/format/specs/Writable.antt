@@ -12,7 +12,7 @@ unfoldable pub fitsVersion : Lookup → Network → Bool
 fitsVersion unknown N = false
 fitsVersion (found L) N = every (N .n) (λ (i : ℕ). leb (N .size i) (L .mostValues))
 
--- A stated pair has no all-zero row for its lower-numbered option i: each of its values goes with some value of j. Columns may be empty.
+-- A stated pair has no all-zero row for its lower-numbered variable i: each of its values goes with some value of j. Columns may be empty.
 unfoldable pub rowsFilled : Network → ℕ → ℕ → Bool
 rowsFilled N i j = every (N .size i) (λ (a : ℕ). some (N .size j) (N .allows i j a))
 

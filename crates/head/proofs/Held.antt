@@ -169,9 +169,9 @@ pack-sound N S below within =
     }
 
 -- And so has what calls make of a sound network that is held.
-pub kept-packed : (h : Head) (rows : List ℕ) → HeadShaped h → soundIn h rows ≡ true → (M : Network) (p : (ℕ → ℕ) → Bool) → Keeps (held h rows) M p → Packed M
+pub kept-packed : {h : Head} (rows : List ℕ) → HeadShaped h → soundIn h rows ≡ true → (M : Network) {p : (ℕ → ℕ) → Bool} → Keeps (held h rows) M p → Packed M
 unfolding held
-kept-packed h rows S t M p K =
+kept-packed {h} rows S t M K =
     pack-sound M (K .still-sound)
     (omega (arith, K .same-n, held-n h rows t))
     (λ i. omega (arith, K .same-size i, held-size h rows S t i))

@@ -46,7 +46,6 @@ module _ (s : State) where
   unfolding fitRefusal
   refuses-none t f = if-true _ _ _ t ∙ if-true _ _ _ f
 
-  -- "Both hand back the state given."
   pub fitted-away : (number : ℕ) → fitRefusal s ≡ number → 1 ≤ number → fitted s ≡ turnedAway number s
   unfolding fitted
   fitted-away number e h = if-false _ _ _ (ne-eqb (fitRefusal s) 0 (omega arith)) ∙ ap (λ (k : ℕ). turnedAway k s) e
@@ -61,6 +60,12 @@ module _ (s : State) where
       by-cases (eqb (fitRefusal s) 0)
       (λ t. let e = eqb-true _ 0 t in ap (λ (a : MeterTold). a .number) (fitted-done e) ∙ sym e)
       (λ t. let d : fitRefusal s ≡ 0 → ⊥ = eqb-false _ 0 t in ap (λ (a : MeterTold). a .number) (fitted-away _ refl (omega arith)))
+
+  -- "Both hand back the state given."
+  pub fitted-back : (fitted s .number ≡ 0 → ⊥) → fitted s .state ≡ s
+  unfolding turnedAway
+  fitted-back n =
+      ap (λ (a : MeterTold). a .state) (fitted-away _ refl (let d : fitRefusal s ≡ 0 → ⊥ = λ e. n (fitted-number ∙ e) in omega arith))
 
   -- What is not refused is a sound state of a flat meter.
   pub fits-sound : fitRefusal s ≡ 0 → soundState s ≡ true

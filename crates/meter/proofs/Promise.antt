@@ -18,10 +18,10 @@ use Rattle.sheet.specs.Promise.{lastState, buildOfSheet}
 use Rattle.sheet.specs.Laws.{buildOf, keepsToRows, HandedOn, RowsFit, StateLaws, SoundLaws, AfterLaws}
 use Rattle.sheet.proofs.Laws.{sound-laws, after-laws}
 use Rattle.meter.specs.PageNine.{goTogether, pageNine}
-use Rattle.meter.specs.Fitted.{MeterTold, fitRefusal, turnedAway, fittedState, fitted}
+use Rattle.meter.specs.Fitted.{fitRefusal, fittedState, fitted}
 use Rattle.meter.specs.Promise.{keepsPageNine, KeepsPageNine, MeterPromise, PageNineKept, SheetPromise, PageNineAfter}
 use Rattle.meter.proofs.PageNine.{page-nine-allows, page-nine-below}
-use Rattle.meter.proofs.Fitted.{fitted-away, fitted-done, fitted-number, fits-sound, flat-options, flat-cell, flat-interval}
+use Rattle.meter.proofs.Fitted.{fitted-done, fitted-number, fitted-back, fits-sound, flat-options, flat-cell, flat-interval}
 
 laws : (s : State) → Shaped s → soundState s ≡ true → StateLaws s
 laws = let L = sound-laws in unfold SoundLaws in L
@@ -91,13 +91,12 @@ module _ (s : State) (h : Shaped s) (e : fitRefusal s ≡ 0) where
         }
 
 pub page-nine-kept : PageNineKept
-unfolding PageNineKept turnedAway
+unfolding PageNineKept
 page-nine-kept s h =
     record {
       still-sound = λ n. let e = sym (fitted-number s) ∙ n in rw (fitted-done s e) (then-reduced s h e .on-sound);
       fits = λ n. keeps s h (sym (fitted-number s) ∙ n) (buildOf s) (λ b. refl);
-      handed-back = λ n. ap (λ (a : MeterTold). a .state) (fitted-away s _ refl
-          (let d : fitRefusal s ≡ 0 → ⊥ = λ e. n (fitted-number s ∙ e) in omega arith));
+      handed-back = fitted-back s;
     }
 
 pub page-nine-after : PageNineAfter

@@ -26,7 +26,7 @@ outside-refused : (N : Network) (l f : ℕ) → or (outside N l) (outside N f) �
 unfolding refusal
 outside-refused N l f h = if-true _ _ _ h
 
--- A step that is not refused is legal, variables counted from 0: an option number 0 is refused.
+-- A step that is not refused is legal, variables counted from 0: a variable number 0 is refused.
 pub not-refused-legal : (N : Network) (l f : ℕ) → eqb (refusal N l f) 0 ≡ true → legal N (pred l) (pred f) ≡ true
 unfolding legal
 not-refused-legal N zero f h = clash h (rw (outside-refused N zero f (or-l _ _ (zero-outside N))))

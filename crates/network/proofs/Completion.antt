@@ -211,7 +211,7 @@ module _ (N : Network) where
   pub verdict-open : verdict N ≡ OPEN → (exhausted N ≡ false) × (decided N ≡ false)
   verdict-open v = verdict-cases (λ h e. (cc, cc)) (λ h k e. (cc, cc)) (λ h k e. (h, k))
 
-  -- The build that is shown, and where it is zero.
+  -- The solution that is shown, and where it is zero.
   pub shown-built : verdict N ≡ BUILT → (i : ℕ) → i < N .n → shown N i ≡ lowestSolution N i
   unfolding shown
   shown-built v i l = let b = verdict-built v in if-true _ _ _ (and-i _ _ (not-i _ (b .0)) (and-i _ _ (b .1) (lt-ltb i (N .n) l)))

@@ -1,4 +1,4 @@
--- The lists that soundness leaves free.
+-- The domains that soundness leaves free.
 use mathlib.Core.Bool.{Bool, true, false}
 use mathlib.Core.List.{List, [], _∷_}
 use mathlib.Core.Path.{_≡_, refl, sym, _∙_, ap}
@@ -24,7 +24,7 @@ use Rattle.network.proofs.Tables.{isFor-e, tabled-cases, rowFor-here, r
 use Rattle.network.proofs.SheetOf.{Fits, networkOf-sound}
 
 module _ (N : Network) (i : ℕ) (p : ℕ → Bool) where
-  -- The list of i has what passes, and every other list is as it was.
+  -- The domain of i has what passes, and every other domain is as it was.
   pub narrowed-i : (a : ℕ) → narrowed N i p .domain i a ≡ and (N .domain i a) (p a)
   unfolding narrowed
   narrowed-i a = if-true _ _ _ (eq-eqb i i refl)
@@ -39,7 +39,7 @@ module _ (N : Network) (i : ℕ) (p : ℕ → Bool) where
       (λ h. and-l _ _ (sym (narrowed-i a) ∙ h))
       (λ y d h. sym (narrowed-other y a d) ∙ h) x
 
-  -- A live option is no follower, so the lists of followers and with them the partners are as they were.
+  -- A free variable is no follower, so the domains of followers and with them the partners are as they were.
   narrowed-sound : Sound N → free N i ≡ true → Sound (narrowed N i p)
   unfolding narrowed
   narrowed-sound S f =

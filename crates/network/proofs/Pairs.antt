@@ -101,9 +101,9 @@ module _ {A : Type 0} (i j : ℕ) (T : ℕ → Bool) (new-ik new-ki : ℕ → �
       k-not-i k = not-and k i (T j) (λ e. tj)
 
   -- Whatever is written so is such a table.
-  pub moved : (i ≡ j → ⊥) → T i ≡ false → T j ≡ false → (now : ℕ → ℕ → A) → ((x y : ℕ) → now x y ≡ table x y)
+  pub moved : (i ≡ j → ⊥) → T i ≡ false → T j ≡ false → {now : ℕ → ℕ → A} → ((x y : ℕ) → now x y ≡ table x y)
       → Moved i j T new-ik new-ki gone old now
-  moved d ti tj now e =
+  moved d ti tj e =
       subst (λ (t : ℕ → ℕ → A). Moved i j T new-ik new-ki gone old t) (sym (fun-ext (λ x. fun-ext (e x)))) (table-moved d ti tj)
 
 -- Where a pair that goes is tested with the pair that it goes to, all pairs pass after exactly when all pass before.

@@ -231,8 +231,8 @@ pub eliminate-moves : (N : Network) (i j : ℕ) → (i ≡ j → ⊥) → MovedP
 unfolding eliminate
 eliminate-moves N i j d =
     record {
-      stated-moved = moved i j (third N i j) _ _ false _ d (i-not-third N i j) (j-not-third N i j) _ (λ x y. if-or _ _ _ _);
-      allows-moved = λ a b. moved i j (third N i j) _ _ false _ d (i-not-third N i j) (j-not-third N i j) _ (λ x y. refl);
+      stated-moved = moved i j (third N i j) _ _ false _ d (i-not-third N i j) (j-not-third N i j) (λ x y. simp if-or);
+      allows-moved = λ a b. moved i j (third N i j) _ _ false _ d (i-not-third N i j) (j-not-third N i j) (λ x y. refl);
     }
 
 -- The parts of rules 1 and 2
@@ -312,7 +312,7 @@ pub both-sides : (N : Network) → Sound N → (x y a b : ℕ)
     → implies (N .stated x y) (N .allows x y a b) ≡ implies (N .stated y x) (N .allows y x b a)
 both-sides N S x y a b = ap₂ implies (S .stated-sym x y) (S .allows-sym x y a b)
 
--- A pair seen from its two options still says the same.
+-- A pair seen from its two variables still says the same.
 module _ (N : Network) (S : Sound N) (i j : ℕ) (T : ℕ → Bool) (M : Network) (m : MovedPairs N i j T M) where
   pub moved-stated-sym : (x y : ℕ) → M .stated x y ≡ M .stated y x
   moved-stated-sym =

@@ -66,14 +66,14 @@ module _ (N : Network) (S : Sound N) (i j : ℕ) (distinct : i ≡ j → ⊥) (t
     one-moved new-ik new-ki gone old now h =
         moved i j (λ (x : ℕ). eqb x k) _ _ gone old distinct
         (ne-eqb i k (λ e. third-e N i j k t .1 (sym e))) (ne-eqb j k (λ e. third-e N i j k t .2 (sym e)))
-        now (λ x y. h x y ∙ rw (and-comm (eqb x k) (eqb y i), and-comm (eqb x k) (eqb y j)))
+        (λ x y. h x y ∙ rw (and-comm (eqb x k) (eqb y i), and-comm (eqb x k) (eqb y j)))
 
     -- So a substitution in one pair moves that pair as a step moves all.
     pub substitute-moves : MovedPairs N i j (λ (x : ℕ). eqb x k) (substitute N i j k)
     unfolding substitute
     substitute-moves =
         record {
-          stated-moved = one-moved true true false (N .stated) _ (λ x y. if-or _ _ _ _);
+          stated-moved = one-moved true true false (N .stated) _ (λ x y. simp if-or);
           allows-moved =
               λ a b. let p = one-moved (substituted N i j k a b) (substituted N i j k b a) false (λ (x y : ℕ). N .allows x y a b) _ (λ x y. refl) in
               record {

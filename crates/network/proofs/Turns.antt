@@ -58,7 +58,7 @@ module _ (N : Network) where
         }
 
   -- k is free.
-  module _ (D : ℕ → ℕ → Bool) (k : ℕ) (k-in : k < N .n) (k-free : free N k ≡ true) where
+  module _ {D : ℕ → ℕ → Bool} (k : ℕ) (k-in : k < N .n) (k-free : free N k ≡ true) where
     -- Nothing is left in its domain.
     pub first-none : (b : Bool) (f : ℕ → ℕ) → ((v : ℕ) → D k v ≡ false) → b ≡ false → FirstFrom N D k b f
     first-none b f e t =
@@ -69,7 +69,7 @@ module _ (N : Network) where
         }
 
     -- It takes the value v.
-    module _ (v : ℕ) (E : ℕ → ℕ → Bool) (W : Narrows N D k v E) where
+    module _ (v : ℕ) {E : ℕ → ℕ → Bool} (W : Narrows N D k v E) where
       taken : (g : ℕ → ℕ) → g k ≡ v → ChoiceFrom N D k g → ChoiceFrom N E (k + 1) g
       taken g e c =
           record {
@@ -93,11 +93,11 @@ module _ (N : Network) where
           }
 
       -- Where the rest can be chosen, that is the first choice: v is the lowest value of k.
-      pub first-hit : (b c : Bool) (f g : ℕ → ℕ) → D k v ≡ true → ((u : ℕ) → u < v → D k u ≡ false)
+      pub first-hit : {b c : Bool} {f g : ℕ → ℕ} → D k v ≡ true → ((u : ℕ) → u < v → D k u ≡ false)
           → FirstFrom N E (k + 1) c g → c ≡ true
           → f k ≡ v → ((i : ℕ) → k + 1 ≤ i → f i ≡ g i) → b ≡ true
           → FirstFrom N D k b f
-      first-hit b c f g d lowest p q at-k other t =
+      first-hit {f} {g} d lowest p q at-k other t =
           record {
             found-is = λ _. given f at-k d (moved (p .found-is q));
             found-first = λ _ h r x a l u same.
@@ -122,10 +122,10 @@ module _ (N : Network) where
               (λ z. ltb-false _ _ z)
 
       -- Where the rest cannot be chosen, the first choice is one with another value of k: v is dropped.
-      pub first-miss : (b c : Bool) (f g : ℕ → ℕ) (F : ℕ → ℕ → Bool)
+      pub first-miss : {b c : Bool} {f g : ℕ → ℕ} (F : ℕ → ℕ → Bool)
           → ((u : ℕ) → F k u ≡ and (D k u) (not (eqb u v))) → ((i u : ℕ) → (i ≡ k → ⊥) → F i u ≡ D i u)
           → FirstFrom N E (k + 1) c g → c ≡ false → FirstFrom N F k b f → FirstFrom N D k b f
-      first-miss b c f g F dropped rest p q r =
+      first-miss {f} F dropped rest p q r =
           record {
             found-is = λ t. wider (r .found-is t);
             found-first = λ t h s. r .found-first t h (tighter h s);
@@ -152,9 +152,9 @@ module _ (N : Network) where
               }
 
       -- Where the rest cannot be chosen and v narrowed the domain of no later free variable, no other value does better.
-      pub first-stuck : (b c : Bool) (f g : ℕ → ℕ) → ((j u : ℕ) → k < j → j < N .n → free N j ≡ true → E j u ≡ D j u)
+      pub first-stuck : {b c : Bool} {f g : ℕ → ℕ} → ((j u : ℕ) → k < j → j < N .n → free N j ≡ true → E j u ≡ D j u)
           → FirstFrom N E (k + 1) c g → c ≡ false → b ≡ false → FirstFrom N D k b f
-      first-stuck b c f g same p q t =
+      first-stuck same p q t =
           record {
             found-is = λ z. clash z t;
             found-first = λ z. clash z t;

@@ -13,7 +13,7 @@ use Rattle.network.specs.Reduction.{Reduced, reduce}
 use Rattle.network.specs.Completion.{Verdict, NONE, BUILT, OPEN, verdict, shown}
 use Rattle.network.specs.Sheet.{Table, Sheet, networkOf}
 
--- What an option is after the reduction: live with its list, or a follower with its leader's number.
+-- What a variable is after the reduction: free, with its domain, or a follower, with its leader's number.
 pub data Role : Type 0 where
   LIVE : ℕ → Role
   FOLLOWS : ℕ → Role
@@ -57,7 +57,7 @@ unfoldable pub answers : Network → List Asked → Bool
 answers N [] = true
 answers N (q ∷ qs) = and (eqb (refusal N (q .leader) (q .follower)) (q .number)) (answers N qs)
 
--- The verdict's build of 16 values: as given, and zero past n.
+-- The verdict's solution of 16 values: as given, and zero past n.
 unfoldable pub reducedAs : Example → Reduced → Bool
 reducedAs e r =
     and (eqb (r .steps) (e .steps))

@@ -25,9 +25,9 @@ use Rattle.pairs.proofs.Laws.{allows-up, allows-down, allows-alike, all
 pub run-none : (before : List ℕ) (at : ℕ) (g : ℕ → ℕ) → RunPut before before at g 0
 run-none before at g = record { done = λ a l. absurd (let z : ⊥ = omega arith in z); rest = λ k h. refl; size = refl }
 
-pub run-more : (before after : List ℕ) (at : ℕ) (g : ℕ → ℕ) (n x : ℕ) → RunPut before after at g n → at + n < length before → x ≡ g n
+pub run-more : {before after : List ℕ} {at : ℕ} {g : ℕ → ℕ} {n x : ℕ} → RunPut before after at g n → at + n < length before → x ≡ g n
     → RunPut before (set after (at + n) x) at g (suc n)
-run-more before after at g n x p l e =
+run-more {after} {at} {n} {x} p l e =
     let m : at + n < length after = omega (arith, p .size) in
     record {
       done =
@@ -115,8 +115,8 @@ pub past-second : (w : ℕ) (rows : List ℕ) (i j a b : ℕ) → w ≤ b → al
 past-second w rows i j a b l = allows-not w rows i j a b (λ n. let h = n .other-in in let z : ⊥ = omega arith in z)
 
 -- Seen from the higher variable.
-pub stored-turned : (w : ℕ) (before after : List ℕ) (i j : ℕ) (f : ℕ → ℕ → Bool) → Stored w before after i j f w → Stored w before after j i (λ (b a : ℕ). f a b) w
-stored-turned w before after i j f s =
+pub stored-turned : (w : ℕ) {before after : List ℕ} {i j : ℕ} {f : ℕ → ℕ → Bool} → Stored w before after i j f w → Stored w before after j i (λ (b a : ℕ). f a b) w
+stored-turned w {before} {after} {i} {j} s =
     record {
       done = λ b a h k q. allows-alike w after j i b a ∙ s .done a b q q k;
       left = λ b a h. past-first w after j i b a h ∙ sym (past-first w before j i b a h);
@@ -125,15 +125,15 @@ stored-turned w before after i j f s =
       words = s .words;
     }
 
-pub stored-cong : (w : ℕ) (before after : List ℕ) (i j : ℕ) (f g : ℕ → ℕ → Bool) (n : ℕ) → Stored w before after i j f n
+pub stored-cong : (w : ℕ) (before after : List ℕ) {i j : ℕ} {f g : ℕ → ℕ → Bool} (n : ℕ) → Stored w before after i j f n
     → ((a b : ℕ) → a < n → a < w → b < w → f a b ≡ g a b) → Stored w before after i j g n
-stored-cong w before after i j f g n s h =
+stored-cong w before after n s h =
     record { done = λ a b l m k. s .done a b l m k ∙ h a b l m k; left = s .left; rest = s .rest; size = s .size; words = s .words }
 
 -- ---- one value after the other
 
-pub stored-none : (w : ℕ) (before : List ℕ) (i j : ℕ) (f : ℕ → ℕ → Bool) → Stored w before before i j f 0
-stored-none w before i j f =
+pub stored-none : (w : ℕ) {before : List ℕ} {i j : ℕ} {f : ℕ → ℕ → Bool} → Stored w before before i j f 0
+stored-none w =
     record {
       done = λ a b l m k. absurd (let z : ⊥ = omega arith in z);
       left = λ a b l. refl;
@@ -158,7 +158,7 @@ stored-more w before between after i j f n x s p e =
 
 -- ---- a row and a column
 
-module _ (w : ℕ) (before : List ℕ) (i j a x : ℕ) (l : i < j) (m : j < 16) (h : a < w) where
+module _ (w : ℕ) (before : List ℕ) {i j a : ℕ} (x : ℕ) (l : i < j) (m : j < 16) (h : a < w) where
   abbrev one-set : List ℕ
   one-set = set before (slot i j * w + a) x
 
@@ -192,7 +192,7 @@ module _ (w : ℕ) (before : List ℕ) (i j a x : ℕ) (l : i < j) (m : j < 16) 
       }
 
 -- One bit of each row of a pair, stored: what one value of the higher variable goes with.
-module _ (w : ℕ) (before after : List ℕ) (i j a x : ℕ) (l : j < i) (m : i < 16) (h : a < w)
+module _ (w : ℕ) {before after : List ℕ} {i j a : ℕ} (x : ℕ) (l : j < i) (m : i < 16) (h : a < w)
     (p : RunPut before after (slot j i * w) (λ (b : ℕ). word w (λ (v : ℕ). if (eqb v a) (has x b) (has (getD before (slot j i * w + b) 0) v))) w) where
   whole-run : Stored w before after j i (λ (b v : ℕ). has (word w (λ (v : ℕ). if (eqb v a) (has x b) (has (getD before (slot j i * w + b) 0) v))) v) w
   whole-run = run-stored w before after j i w _ l m (omega arith) p (λ b k. word-lt w _)

@@ -170,7 +170,3 @@ rows-allows w rows e f = sym (rows-rule w (allowsOf w rows) rows e f (λ i j a b
 pub rows-array : (w : ℕ) (p : ℕ → ℕ → ℕ → ℕ → Bool) → Array (120 * w) (2 ^ w) (rowsOf w p)
 unfolding rowsOf
 rows-array w p = table-array (120 * w) (2 ^ w) _ (omega (arith, word-lt w (p 0 0 0))) (λ k l. word-lt w _)
-
--- The rule of a row as a word: what `row` answers.
-pub has-row : (w : ℕ) (rows : List ℕ) (i j a b x : ℕ) → x ≡ word w (allowsOf w rows i j a) → b < w → has x b ≡ allowsOf w rows i j a b
-has-row w rows i j a b x e k = ap (λ (n : ℕ). has n b) e ∙ has-word w _ b k

@@ -114,25 +114,29 @@ four-machine false false true d = refl
 four-machine false false false d = refl
 
 module _ (n previous pair : ℕ) where
+  range-machine : outOfRange n pair ≡ eqb (pair / 256) 0 || eqb (pair % 256) 0 || ltb n (pair / 256) || ltb n (pair % 256)
+  unfolding outOfRange
+  range-machine = simp four-machine
+
   pub pair-range : eqb (pair / 256) 0 || eqb (pair % 256) 0 || ltb n (pair / 256) || ltb n (pair % 256) ≡ true
       → pairTest n previous pair ≡ fault PairRange
   unfolding outOfRange pairTest
-  pair-range h = if-true _ _ _ (four-machine _ _ _ _ ∙ h)
+  pair-range h = if-true _ _ _ (range-machine ∙ h)
 
   module _ (h : eqb (pair / 256) 0 || eqb (pair % 256) 0 || ltb n (pair / 256) || ltb n (pair % 256) ≡ false) where
     pub pair-order : pair % 256 ≤ pair / 256 → pairTest n previous pair ≡ fault PairOrder
     unfolding outOfRange pairTest
-    pair-order o = if-false _ _ _ (four-machine _ _ _ _ ∙ h) ∙ if-true _ _ _ (not-i _ (le-ltb _ _ o))
+    pair-order o = if-false _ _ _ (range-machine ∙ h) ∙ if-true _ _ _ (not-i _ (le-ltb _ _ o))
 
     pub pair-repeated : pair / 256 < pair % 256 → pair ≤ previous → pairTest n previous pair ≡ fault PairRepeated
     unfolding outOfRange pairTest
     pair-repeated o r =
-        if-false _ _ _ (four-machine _ _ _ _ ∙ h) ∙ if-false _ _ _ (not-false-i _ (lt-ltb _ _ o)) ∙ if-true _ _ _ (not-i _ (le-ltb _ _ r))
+        if-false _ _ _ (range-machine ∙ h) ∙ if-false _ _ _ (not-false-i _ (lt-ltb _ _ o)) ∙ if-true _ _ _ (not-i _ (le-ltb _ _ r))
 
     pub pair-fine : pair / 256 < pair % 256 → previous < pair → pairTest n previous pair ≡ fine
     unfolding outOfRange pairTest
     pair-fine o r =
-        if-false _ _ _ (four-machine _ _ _ _ ∙ h) ∙ if-false _ _ _ (not-false-i _ (lt-ltb _ _ o)) ∙ if-false _ _ _ (not-false-i _ (lt-ltb _ _ r))
+        if-false _ _ _ (range-machine ∙ h) ∙ if-false _ _ _ (not-false-i _ (lt-ltb _ _ o)) ∙ if-false _ _ _ (not-false-i _ (lt-ltb _ _ r))
 
 -- A word below 2 to the size has no bit at or above it: one test decides a row, and a union of rows.
 module _ (w : ℕ) (filled : Bool) (size row : ℕ) (l : row < 2 ^ w) where

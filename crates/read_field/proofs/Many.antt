@@ -12,7 +12,7 @@ unfoldable pub prepend : {A : Type 0} → List A → Parse (List A) → Parse (L
 prepend done p = bind p (λ xs end. got (done ++ xs) end)
 
 module _ {A : Type 0} where
-  prepend-none : (p : Parse (List A)) → p ≡ prepend [] p
+  pub prepend-none : (p : Parse (List A)) → p ≡ prepend [] p
   unfolding prepend bind
   prepend-none (got xs end) = refl
   prepend-none (bad c at) = refl
@@ -44,9 +44,6 @@ module _ {S A : Type 0} (whole : Parse (List A)) (step : S → A → S) (item : 
 
 -- The same of fields, which know nothing of the ones before.
 module _ (k : ℕ) (test : ℕ → Test) (bytes : List ℕ) where
-  pub fields-begin : (count at : ℕ) → fields k test count bytes at ≡ prepend [] (fields k test count bytes at)
-  fields-begin count at = prepend-none _
-
   module _ (whole : Parse (List ℕ)) (done : List ℕ) (left at : ℕ) (so-far : whole ≡ prepend done (fields k test left bytes at)) where
     pub fields-end : left ≡ zero → whole ≡ got done at
     unfolding fields

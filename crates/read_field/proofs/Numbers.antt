@@ -50,13 +50,13 @@ pub number-two : (bytes : List ℕ) (at : ℕ) → ((j : ℕ) → Fits w8 (getD 
 unfolding numberAt
 number-two bytes at known x e = rw (← add-one at) (omega (arith, known at, known (at + 1)))
 
--- The same of four: each byte is a digit of x.
+-- The same of four: each byte is what x has of its weight.
 low-digit : (q r y : ℕ) → r < 256 → y ≡ q * 256 + r → y % 256 ≡ r
 low-digit q r y h e = omega arith
 
-digits : (a b c d x : ℕ) → Fits w8 a → Fits w8 b → Fits w8 c → Fits w8 d → x ≡ d * 16777216 + c * 65536 + b * 256 + a
+digits : {a b c d : ℕ} (x : ℕ) → Fits w8 a → Fits w8 b → Fits w8 c → Fits w8 d → x ≡ d * 16777216 + c * 65536 + b * 256 + a
     → x % 256 * 16777216 + x / 256 % 256 * 65536 + x / 65536 % 256 * 256 + x / 16777216 ≡ a * 16777216 + b * 65536 + c * 256 + d
-digits a b c d x ha hb hc hd e =
+digits {a} {b} {c} {d} x ha hb hc hd e =
     let lowest : x % 256 ≡ a = omega arith in
     let second : x / 256 % 256 ≡ b = low-digit (d * 256 + c) b (x / 256) (omega arith) (omega arith) in
     let third : x / 65536 % 256 ≡ c = low-digit d c (x / 65536) (omega arith) (omega arith) in
@@ -72,4 +72,4 @@ number-four bytes at known x e =
     let two : suc (at + 1) ≡ at + 2 = omega arith in
     let three : suc (at + 2) ≡ at + 3 = omega arith in
     rw (one, two, three)
-    (omega (arith, digits _ _ _ _ x (known at) (known (at + 1)) (known (at + 2)) (known (at + 3)) e))
+    (omega (arith, digits x (known at) (known (at + 1)) (known (at + 2)) (known (at + 3)) e))

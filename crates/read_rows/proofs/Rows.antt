@@ -14,8 +14,8 @@ use borrow.Author.Tests.{ltb-true}
 use Rattle.bounded.specs.Bool.{or, implies}
 use Rattle.bounded.specs.Fold.{every}
 use Rattle.bounded.specs.Table.{tabulate}
-use Rattle.bounded.proofs.Bool.{machine-and, and-l, and-r, or-l, or-r, implies-e, implies-true, implies-false, not-true→false}
-use Rattle.bounded.proofs.Fold.{below-suc, every-e, test-joins}
+use Rattle.bounded.proofs.Bool.{machine-and, and-l, and-r, or-l, or-r, implies-e, not-true→false}
+use Rattle.bounded.proofs.Fold.{below-suc, every-e}
 use Rattle.words.specs.Word.{width, has, word}
 use Rattle.words.proofs.Laws.{has-word, within}
 use Rattle.pairs.specs.Frames.{RowPut}
@@ -29,7 +29,7 @@ use Rattle.read_field.specs.declared.field.Read.{Read}
 use Rattle.read_field.specs.declared.field.Read.the-variants.{Value, Refused}
 use Rattle.read_field.specs.Fields.{readAs, readOf}
 use Rattle.read_field.proofs.Fields.{field-got, field-fine, no-value, value-is}
-use Rattle.read_field.proofs.Many.{prepend, fields-begin, fields-end, fields-go-on, fields-stop}
+use Rattle.read_field.proofs.Many.{prepend, prepend-none, fields-end, fields-go-on, fields-stop}
 use Rattle.read_rows.specs.Rows.{rowIn, RowsStored, RowsJoined, noneBanned, RowsWalked, RowsRead}
 
 tabulate-more : (n : ℕ) (f : ℕ → ℕ) → tabulate (suc n) f ≡ tabulate n f ++ (f n ∷ [])
@@ -51,14 +51,14 @@ pub record RowsSoFar (k : ℕ) (test : ℕ → Test) (bytes : List ℕ) (from co
   pub parsed : fields k test count bytes from
       ≡ prepend (tabulate a (rowIn k bytes from)) (fields k test (count - a) bytes at)
 
-pub rows-none : (k : ℕ) (test : ℕ → Test) (bytes : List ℕ) (from count : ℕ) → from ≤ length bytes → RowsSoFar k test bytes from count from 0
+pub rows-none : {k : ℕ} {test : ℕ → Test} {bytes : List ℕ} {from count : ℕ} → from ≤ length bytes → RowsSoFar k test bytes from count from 0
 unfolding tabulate
-rows-none k test bytes from count h =
+rows-none {k} {count} h =
     record {
       within = omega arith;
       place-is = omega (arith, mul-zero k);
       inside = h;
-      parsed = rw (let z : count - 0 ≡ count = omega arith in z) (fields-begin _ _ _ _ _);
+      parsed = rw (let z : count - 0 ≡ count = omega arith in z) (prepend-none _);
     }
 
 module _ {k : ℕ} {test : ℕ → Test} {bytes : List ℕ} {from count at a : ℕ} (so-far : RowsSoFar k test bytes from count at a) where
@@ -106,7 +106,7 @@ module _ (k : ℕ) (test : ℕ → Test) (bytes : List ℕ) (from count : ℕ) (
       field-fine k test bytes (from + k * a) refl e (omega (arith, row-inside k l)) (passes a l)
 
   all-so-far : (a : ℕ) → a ≤ count → RowsSoFar k test bytes from count (from + k * a) a
-  all-so-far zero l = rw (let z : from + k * 0 ≡ from = omega (arith, mul-zero k) in z) (rows-none k test bytes from count (omega arith))
+  all-so-far zero l = rw (let z : from + k * 0 ≡ from = omega (arith, mul-zero k) in z) (rows-none (omega arith))
   all-so-far (suc a) l = rw (add-one a) at (rows-more (all-so-far a (omega arith)) (omega arith) (row-got a (omega arith)))
 
   all-got : RowsWalked k test bytes from count (Value count (from + k * count))
@@ -114,29 +114,15 @@ module _ (k : ℕ) (test : ℕ → Test) (bytes : List ℕ) (from count : ℕ) (
 
 -- ---- none banned
 
--- Of no rows none is all-zero, and one row more is tested with those before it.
+-- Of no rows none is all-zero.
 pub banned-none : (k : ℕ) (bytes : List ℕ) (from : ℕ) → true ≡ every 0 (λ (c : ℕ). ltb 0 (rowIn k bytes from c))
 unfolding every
 banned-none k bytes from = refl
 
-pub banned-more : (k : ℕ) (bytes : List ℕ) (from : ℕ) (a : ℕ) {row : ℕ} {none : Bool} → none ≡ every a (λ (c : ℕ). ltb 0 (rowIn k bytes from c))
-    → row ≡ numberAt k bytes (from + k * a) → none && ltb 0 row ≡ every (a + 1) (λ (c : ℕ). ltb 0 (rowIn k bytes from c))
-unfolding rowIn
-banned-more k bytes from a e here = test-joins _ _ _ _ e (ap (ltb 0) here)
-
-pub nothing-banned : (filled : Bool) (k : ℕ) (bytes : List ℕ) (from count : ℕ) → filled ≡ false → true ≡ noneBanned filled k bytes from count
-unfolding noneBanned
-nothing-banned filled k bytes from count h = sym (implies-false _ _ h)
-
-pub none-banned : (filled : Bool) (k : ℕ) (bytes : List ℕ) (from count : ℕ) {none : Bool} → filled ≡ true
-    → none ≡ every count (λ (a : ℕ). ltb 0 (rowIn k bytes from a)) → none ≡ noneBanned filled k bytes from count
-unfolding noneBanned
-none-banned filled k bytes from count h e = e ∙ sym (implies-true _ _ h)
-
 -- ---- stored and joined
 
-pub joined-none : (k : ℕ) (bytes : List ℕ) (from i j : ℕ) (rows : List ℕ) → RowsJoined k bytes from i j 0 rows rows 0
-joined-none k bytes from i j rows = record { stored = stored-none width rows i j _; covers = λ a v l m h. absurd (let x : ⊥ = omega arith in x) }
+pub joined-none : {k : ℕ} {bytes : List ℕ} {from i j : ℕ} {rows : List ℕ} → RowsJoined k bytes from i j 0 rows rows 0
+joined-none = record { stored = stored-none width; covers = λ a v l m h. absurd (let x : ⊥ = omega arith in x) }
 
 pub joined-more : {k : ℕ} {bytes : List ℕ} {from i j : ℕ} {before rows after : List ℕ} {a union row union′ : ℕ}
     → RowsJoined k bytes from i j a before rows union → row ≡ numberAt k bytes (from + k * a) → RowPut width rows after i j a row

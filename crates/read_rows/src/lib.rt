@@ -12,7 +12,7 @@ use pairs::Rows;
 use read_field::Read;
 
 // Stores all rows, whatever they are; what they have together.
-fn store_each(
+fn store_rows(
     bytes: &[u8],
     from: usize,
     k: usize,
@@ -31,25 +31,6 @@ fn store_each(
         union = words::either(union, row);
     }
     union
-}
-
-// The same, with a loop of its own for two bytes and for four: in each the number of bytes is known.
-fn store_rows(
-    bytes: &[u8],
-    from: usize,
-    k: usize,
-    i: usize,
-    j: usize,
-    count: usize,
-    rows: &mut Rows,
-) -> u32
-    requires { ⌜ (from + k * count ≤ length (now bytes)) × RowBytes k × (i < j) × (j < variables) × (count ≤ width) × (length (now rows) ≡ 3840) ⌝ }
-    ensures { λ r. ⌜ RowsJoined k (now (bytes .entry)) from i j count (now (rows .entry)) (now (rows .exit)) r ⌝ }
-{
-    if k == 2 {
-        return store_each(bytes, from, 2, i, j, count, rows);
-    }
-    store_each(bytes, from, 4, i, j, count, rows)
 }
 
 // Where rows must be `filled`, whether none is all-zero; where they need not be, no row is looked at.
@@ -104,7 +85,12 @@ pub fn read_rows(
     if bytes.len() < end {
         return walk_rows(bytes, from, k, count, size, filled);
     }
-    let union = store_rows(bytes, from, k, i, j, count, rows);
+    // where the bytes of a row are a constant the compiler reads several rows at once
+    let union = if k == 2 {
+        store_rows(bytes, from, 2, i, j, count, rows)
+    } else {
+        store_rows(bytes, from, 4, i, j, count, rows)
+    };
     if words::within(union, size) & none_banned(bytes, from, k, count, filled) {
         return Read::Value(count, end);
     }

@@ -147,7 +147,7 @@ module _
         (marked-is stated i j (omega (arith, held .stated-length)) x _ (held .stated-are x l))
         ∙ word-cong width _ _ (λ y m.
         rw (tabled-more ts t x y, tabled-more ts t y x, here-only x y, here-only y x, and-comm (eqb y i) (eqb x j))
-        (or-cross _ _ _ _))
+        (simp or-cross))
 
     -- The rows are stored from the lower variable.
     module _

@@ -22,7 +22,7 @@ use Rattle.format.specs.Parse.{got, bad, field, fields}
 use Rattle.read_field.specs.Fields.{readAs, rangeTest}
 use Rattle.read_sheet.specs.Reading.{Sized, SizesRead}
 use Rattle.read_field.proofs.Fields.{field-got, size-range, range-passed}
-use Rattle.read_field.proofs.Many.{prepend, fields-begin, fields-end, fields-go-on, fields-stop}
+use Rattle.read_field.proofs.Many.{prepend, prepend-none, fields-end, fields-go-on, fields-stop}
 
 -- The first i sizes stand in the array, and the next one at a place.
 pub record SizesSoFar (bytes : List ℕ) (n most : ℕ) (sizes : List ℕ) (at i : ℕ) : Type 0 where
@@ -46,7 +46,7 @@ pub sizes-none : (bytes : List ℕ) (n most : ℕ) (sizes : List ℕ) → sizes 
 sizes-none bytes n most sizes e =
     record {
       within = omega arith;
-      parsed = rw (let z : n - 0 ≡ n = omega arith in z) (fields-begin _ _ _ _ _);
+      parsed = rw (let z : n - 0 ≡ n = omega arith in z) (prepend-none _);
       sized =
           record {
             length-is = zeros-length variables sizes e;

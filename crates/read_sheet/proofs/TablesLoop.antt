@@ -70,7 +70,7 @@ module _ {n : ℕ} {sizes : List ℕ} (sized : Sized n sizes) (few : n ≤ varia
   unfolding sizeOf
   taken-size x l m = getD-take n sizes (x - 1) 0 (omega arith)
 
-  module _ (bytes : List ℕ) (at k : ℕ) (filled : Bool) (previous : ℕ) where
+  module _ (bytes : List ℕ) (at : ℕ) {k : ℕ} {filled : Bool} (previous : ℕ) where
     -- The pair is refused.
     pub table-no-pair : {c : Cause} {place : ℕ} → field 2 (pairTest n previous) bytes at ≡ bad c place
         → {stated rows : List ℕ} → TableRead bytes at k filled n previous sizes stated rows stated rows (Refused c place)

@@ -13,7 +13,7 @@ use Rattle.bounded.specs.Fold.{first}
 use Rattle.bounded.proofs.Bool.{by-cases, clash, bool-ext, not-true→false, and-i, and-l, and-r, and-true, and-false, and-fails, implies-true, implies-false, not-i, not-e, if-true, if-false}
 use Rattle.bounded.proofs.Fold.{is-or-not, first-below}
 use Rattle.words.specs.Word.{width, has, word}
-use Rattle.words.proofs.Laws.{word-lt, has-word, has-past, has-below, has-all, has-zero}
+use Rattle.words.proofs.Laws.{word-lt, has-word, has-ruled, has-past, has-below, has-all, has-zero}
 use Rattle.network.specs.Network.{Network, free}
 use Rattle.network.specs.Turns.{FirstFrom, Narrows}
 use Rattle.network.proofs.Turns.{first-end, first-skip, first-none, first-hit, first-miss, first-stuck}
@@ -26,15 +26,15 @@ use Rattle.search.specs.Turns.{toChoose, Left, listed, untried, Chooses,
 pub in-second : (w x y z j : ℕ) → z ≡ word w (λ (u : ℕ). and (has x u) (has y u)) → has z j ≡ true → has y j ≡ true
 in-second w x y z j e t =
     let l = has-below w z j t (rw e (word-lt w _)) in
-    and-r _ _ (sym (ap (λ (n : ℕ). has n j) e ∙ has-word w _ j l) ∙ t)
+    and-r _ _ (sym (has-ruled w _ e j l) ∙ t)
 
 -- A word without its lowest member, a, has members above it alone.
 pub above-lowest : (w rest rest′ a : ℕ) → rest < 2 ^ w → (rest ≡ 0 → ⊥) → a ≡ first w (has rest)
     → rest′ ≡ word w (λ (u : ℕ). and (has rest u) (not (eqb u (first w (has rest)))))
     → (j : ℕ) → has rest′ j ≡ true → (has rest j ≡ true) × (a < j)
 above-lowest w rest rest′ a fits more low e j t =
-    let l = has-below w rest′ j t (rest-lt w rest rest′ a fits more low e) in
-    let q = sym (rest-is w rest rest′ a fits more low e j l) ∙ t in
+    let l = has-below w rest′ j t (rest-lt w fits more low e) in
+    let q = sym (rest-is w fits more low e j l) ∙ t in
     let d : j ≡ a → ⊥ = eqb-false j a (not-e _ (and-r _ _ q)) in
     by-cases (ltb j a)
     (λ b. clash (and-l _ _ q) (first-below w (has rest) j (omega (arith, ltb-true j a b))))
@@ -87,13 +87,13 @@ module _ (N : Network) where
 
 -- ---- choosing a variable
 
-module _ (N : Network) (stated rows : List ℕ) (k left : ℕ) (L : Left N stated rows k left) where
+module _ {N : Network} {stated rows : List ℕ} {k left : ℕ} (L : Left N stated rows k left) where
   not-left : (i : ℕ) → has left i ≡ false → toChoose N k i ≡ false
   not-left i h = sym (L .left-are i) ∙ h
 
   -- None is left.
-  pub chosen-end : (D : ℕ → ℕ → Bool) (values : List ℕ) → left ≡ 0 → Chooses N D k true values values
-  chosen-end D values e =
+  pub chosen-end : {D : ℕ → ℕ → Bool} {values : List ℕ} → left ≡ 0 → Chooses N D k true values values
+  chosen-end {D} e =
       let none : (i : ℕ) → toChoose N k i ≡ false = λ i. not-left i (rw (e, has-zero i)) in
       record {
         first-from = first-past N D _ _ (N .n - k) k (N .n) (omega (arith, L .from-n)) (λ i a l. led N k i a l (none i)) (first-end N D (N .n) _ _ refl refl);
@@ -101,8 +101,8 @@ module _ (N : Network) (stated rows : List ℕ) (k left : ℕ) (L : Left N state
       }
 
   -- The next one is m.
-  module _ (fits : left < 2 ^ width) (more : left ≡ 0 → ⊥) (m : ℕ) (low : m ≡ first width (has left))
-      (left′ : ℕ) (le : left′ ≡ word width (λ (u : ℕ). and (has left u) (not (eqb u (first width (has left)))))) where
+  module _ (fits : left < 2 ^ width) (more : left ≡ 0 → ⊥) {m : ℕ} (low : m ≡ first width (has left))
+      {left′ : ℕ} (le : left′ ≡ word width (λ (u : ℕ). and (has left u) (not (eqb u (first width (has left)))))) where
     next : (k ≤ m) × (m < N .n) × (free N m ≡ true)
     next = to-choose-e N k m (sym (L .left-are m) ∙ lowest-in width left m fits more low .1)
 
@@ -125,14 +125,14 @@ module _ (N : Network) (stated rows : List ℕ) (k left : ℕ) (L : Left N state
         up i t =
             let e = to-choose-e N (m + 1) i t in
             let h = L .left-are i ∙ to-choose-i N k i (omega (arith, e .0, next .0)) (e .1) (e .2) in
-            rest-is width left left′ m fits more low le i (has-below width left i h fits)
+            rest-is width fits more low le i (has-below width left i h fits)
             ∙ and-i _ _ h (not-i _ (ne-eqb i m (λ q. let x : ⊥ = omega (arith, e .0) in x)))
 
     -- What is chosen from m on is chosen from k on.
-    pub chosen-next : (domains : List ℕ) (b : Bool) (before after : List ℕ)
+    pub chosen-next : (domains : List ℕ) {b : Bool} {before after : List ℕ}
         → (Left N stated rows (m + 1) left′ → free N m ≡ true → Chooses N (untried domains m (getD domains m 0)) m b before after)
         → Chooses N (listed domains) k b before after
-    chosen-next domains b before after c =
+    chosen-next domains {b} {before} {after} c =
         let C : Chooses N (listed domains) m b before after = rw (all-untried domains m) at (c chosen-left (next .2)) in
         record {
           first-from = first-past N _ b _ (m - k) k m (omega (arith, next .0))
@@ -155,11 +155,11 @@ pub record Taken (N : Network) (stated rows : List ℕ) (k left : ℕ) (domains 
   pub chosen : Chooses N (listed later) (k + 1) found before after
 
 -- No value is left.
-pub tried-none : (N : Network) (stated rows : List ℕ) (k left : ℕ) (domains : List ℕ) (rest : ℕ) (values : List ℕ)
+pub tried-none : {N : Network} {stated rows : List ℕ} {k left : ℕ} (domains : List ℕ) {rest : ℕ} {values : List ℕ}
     → Left N stated rows (k + 1) left → free N k ≡ true → rest ≡ 0 → Chooses N (untried domains k rest) k false values values
-tried-none N stated rows k left domains rest values L f e =
+tried-none {N} {k} domains {rest} L f e =
     record {
-      first-from = first-none N _ k (omega (arith, L .from-n)) f _ _ (λ v. untried-here domains k rest v ∙ rw e (has-zero v)) refl;
+      first-from = first-none N k (omega (arith, L .from-n)) f _ _ (λ v. untried-here domains k rest v ∙ rw e (has-zero v)) refl;
       others = λ i _. refl;
     }
 
@@ -200,7 +200,7 @@ module _ {N : Network} {stated rows : List ℕ} {k left : ℕ} {domains : List �
   taken-hit q l =
       let kept : (i : ℕ) → (i ≡ k → ⊥) → getD (set after k v) i 0 ≡ getD after i 0 = λ i d. getD-set-other after k i v 0 d in
       record {
-        first-from = first-hit N _ k k-n (T .k-free) v _ narrows _ _ _ _
+        first-from = first-hit N k k-n (T .k-free) v narrows
             (untried-here domains k rest v ∙ lowest-in width rest v (T .rest-fits) (T .some) (T .lowest) .1)
             (λ u m. untried-here domains k rest u ∙ first-below width (has rest) u (omega (arith, T .lowest)))
             (T .chosen .first-from) q (getD-set-same after k v 0 l) (λ i m. kept i (λ z. let x : ⊥ = omega arith in x)) refl;
@@ -212,7 +212,7 @@ module _ {N : Network} {stated rows : List ℕ} {k left : ℕ} {domains : List �
   unfolding listed
   taken-stuck q s =
       record {
-        first-from = first-stuck N _ k k-n (T .k-free) v _ narrows _ _ _ _
+        first-from = first-stuck N k k-n (T .k-free) v narrows
             (λ j u l _ _. ap (λ (x : ℕ). has x u) (T .narrowed .unchanged s j) ∙ sym (untried-there domains k rest j u (λ e. let x : ⊥ = omega arith in x)))
             (T .chosen .first-from) q refl;
         others = others-after;
@@ -223,7 +223,7 @@ module _ {N : Network} {stated rows : List ℕ} {k left : ℕ} {domains : List �
       → (b : Bool) (last : List ℕ) → found ≡ false → Chooses N (untried domains k rest′) k b after last → Chooses N (untried domains k rest) k b before last
   taken-miss rest′ re b last q R =
       record {
-        first-from = first-miss N _ k k-n (T .k-free) v _ narrows _ _ _ _ (untried domains k rest′)
+        first-from = first-miss N k k-n (T .k-free) v narrows (untried domains k rest′)
             (λ u. untried-here domains k rest′ u
             ∙ ap (λ (x : ℕ). has x u) re
             ∙ has-all width _ u (λ l. and-fails _ _ (has-past width rest u (T .rest-fits) l))

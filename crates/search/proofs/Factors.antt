@@ -46,9 +46,9 @@ unfolding product
 capped-none f = refl
 
 -- One factor more.
-pub capped-more : (cap : ℕ) (f : ℕ → ℕ) (i p q : ℕ) → p ≡ min (product i f) cap → q ≡ min (f i * p) cap → q ≡ min (product (i + 1) f) cap
+pub capped-more : (cap : ℕ) (f : ℕ → ℕ) (i : ℕ) {p q : ℕ} → p ≡ min (product i f) cap → q ≡ min (f i * p) cap → q ≡ min (product (i + 1) f) cap
 unfolding product
-capped-more cap f i p q e g = rw (g, e, add-one i) (product-capped cap (product i f) (f i))
+capped-more cap f i e g = rw (g, e, add-one i) (product-capped cap (product i f) (f i))
 
 module _ (h : Head) (rows : List ℕ) (S : HeadShaped h) (t : soundIn h rows ≡ true) where
   -- In a sound state the values of a domain are below its size.

@@ -13,18 +13,10 @@ use Rattle.bounded.specs.Fold.{first}
 use Rattle.bounded.proofs.Bool.{clash, bool-ext, and-i, and-l, and-true, and-false, not-i, not-false-i, if-true, if-false}
 use Rattle.bounded.proofs.Fold.{is-or-not}
 use Rattle.words.specs.Word.{width, has, word}
-use Rattle.words.proofs.Laws.{word-cong, has-zero, has-below}
-use Rattle.pairs.specs.Pairs.{variables, slot, rowAt}
-use Rattle.pairs.proofs.Laws.{allows-up}
+use Rattle.words.proofs.Laws.{has-zero, has-below}
+use Rattle.pairs.specs.Pairs.{variables}
 use Rattle.pairs.proofs.Runs.{Within, lowest-in, rest-is, rest-lt, rest-within}
 use Rattle.search.specs.Turns.{cutBy, Narrowed}
-
--- A row as it stands, cut out of a domain.
-pub cut-is : (rows : List ℕ) (k j v at domain r : ℕ) → k < j → j < variables → v < width → at ≡ slot k j * width
-    → r ≡ word width (λ (u : ℕ). and (has domain u) (has (getD rows (at + v) 0) u)) → r ≡ cutBy rows k v j domain
-unfolding cutBy rowAt
-cut-is rows k j v at domain r l m h e f =
-    f ∙ word-cong width _ _ (λ u b. ap (and (has domain u)) (rw e (sym (allows-up width rows k j v u l m h b))))
 
 apart : (b : Bool) → and b (not b) ≡ false
 unfolding and not
@@ -40,32 +32,33 @@ neither false false h = clash refl h
 unfoldable pub cutWhere : List ℕ → List ℕ → ℕ → ℕ → Bool → ℕ → ℕ
 cutWhere rows domains k v b j = if b (cutBy rows k v j (getD domains j 0)) (getD domains j 0)
 
-module _ (rows domains : List ℕ) (among k v : ℕ) where
-  -- In the midst of the loop: the rest are still to be cut.
-  pub record Narrowing (after : List ℕ) (changed : Bool) (rest : ℕ) : Type 0 where
-    pub whole : length after ≡ length domains
-    pub rest-fits : rest < 2 ^ width
-    pub rest-in : Within rest among
-    pub narrowed : (j : ℕ) → getD after j 0 ≡ cutWhere rows domains k v (and (has among j) (not (has rest j))) j
-    pub unchanged : changed ≡ false → (j : ℕ) → getD after j 0 ≡ getD domains j 0
+as-before : (rows domains : List ℕ) (k v : ℕ) (b : Bool) (j : ℕ) → b ≡ false → cutWhere rows domains k v b j ≡ getD domains j 0
+unfolding cutWhere
+as-before rows domains k v b j t = if-false _ _ _ t
 
-  as-before : (b : Bool) (j : ℕ) → b ≡ false → cutWhere rows domains k v b j ≡ getD domains j 0
-  unfolding cutWhere
-  as-before b j t = if-false _ _ _ t
+-- In the midst of the loop: the rest are still to be cut.
+pub record Narrowing (rows domains : List ℕ) (among k v : ℕ) (after : List ℕ) (changed : Bool) (rest : ℕ) : Type 0 where
+  pub whole : length after ≡ length domains
+  pub rest-fits : rest < 2 ^ width
+  pub rest-in : Within rest among
+  pub narrowed : (j : ℕ) → getD after j 0 ≡ cutWhere rows domains k v (and (has among j) (not (has rest j))) j
+  pub unchanged : changed ≡ false → (j : ℕ) → getD after j 0 ≡ getD domains j 0
 
-  pub narrowing-none : among < 2 ^ width → Narrowing domains false among
+module _ {rows domains : List ℕ} {among k v : ℕ} where
+  pub narrowing-none : among < 2 ^ width → Narrowing rows domains among k v domains false among
   narrowing-none f =
       record {
         whole = refl;
         rest-fits = f;
         rest-in = λ j t. t;
-        narrowed = λ j. sym (as-before _ j (apart (has among j)));
+        narrowed = λ j. sym (as-before rows domains k v _ j (apart (has among j)));
         unchanged = λ _ j. refl;
       }
 
-  pub narrowing-end : (after : List ℕ) (changed : Bool) (rest : ℕ) → Narrowing after changed rest → rest ≡ 0 → Narrowed rows among k v changed domains after
+  pub narrowing-end : {after : List ℕ} {changed : Bool} {rest : ℕ} → Narrowing rows domains among k v after changed rest → rest ≡ 0
+      → Narrowed rows among k v changed domains after
   unfolding cutWhere
-  narrowing-end after changed rest R z =
+  narrowing-end R z =
       record {
         whole = R .whole;
         narrowed = λ j. R .narrowed j
@@ -73,42 +66,42 @@ module _ (rows domains : List ℕ) (among k v : ℕ) where
         unchanged = R .unchanged;
       }
 
-  module _ (after : List ℕ) (changed : Bool) (rest : ℕ) (R : Narrowing after changed rest) (more : rest ≡ 0 → ⊥)
-      (j : ℕ) (low : j ≡ first width (has rest)) (inside : j < length domains)
-      (domain : ℕ) (de : domain ≡ cutBy rows k v j (getD after j 0))
-      (rest′ : ℕ) (se : rest′ ≡ word width (λ (u : ℕ). and (has rest u) (not (eqb u (first width (has rest)))))) where
+  module _ {after : List ℕ} {changed : Bool} {rest : ℕ} (R : Narrowing rows domains among k v after changed rest) (more : rest ≡ 0 → ⊥)
+      {j : ℕ} (low : j ≡ first width (has rest)) (inside : j < length domains)
+      {domain : ℕ} (de : domain ≡ cutBy rows k v j (getD after j 0))
+      {rest′ : ℕ} (se : rest′ ≡ word width (λ (u : ℕ). and (has rest u) (not (eqb u (first width (has rest)))))) where
     next : (j < width) × (has rest j ≡ true)
     next = lowest-in width rest j (R .rest-fits) more low
 
     -- The rest is as it was, but for j.
     rest-here : has rest′ j ≡ false
     rest-here =
-        rest-is width rest rest′ j (R .rest-fits) more low se j (next .0)
+        rest-is width (R .rest-fits) more low se j (next .0)
         ∙ ap (and (has rest j)) (not-false-i _ (eq-eqb j j refl))
         ∙ and-false _
 
     rest-there : (i : ℕ) → (i ≡ j → ⊥) → has rest′ i ≡ has rest i
     rest-there i d =
-        let is = rest-is width rest rest′ j (R .rest-fits) more low se i in
+        let is = rest-is width (R .rest-fits) more low se i in
         bool-ext _ _
-        (λ t. and-l _ _ (sym (is (has-below width rest′ i t (rest-lt width rest rest′ j (R .rest-fits) more low se))) ∙ t))
+        (λ t. and-l _ _ (sym (is (has-below width rest′ i t (rest-lt width (R .rest-fits) more low se))) ∙ t))
         (λ t. is (has-below width rest i t (R .rest-fits)) ∙ and-i _ _ t (not-i _ (ne-eqb i j d)))
 
     -- j was not cut before, and is now.
     uncut : getD after j 0 ≡ getD domains j 0
-    uncut = R .narrowed j ∙ as-before _ j (ap (and (has among j)) (not-false-i _ (next .1)) ∙ and-false _)
+    uncut = R .narrowed j ∙ as-before rows domains k v _ j (ap (and (has among j)) (not-false-i _ (next .1)) ∙ and-false _)
 
     cut : domain ≡ cutWhere rows domains k v (and (has among j) (not (has rest′ j))) j
     unfolding cutWhere
     cut = de ∙ ap (cutBy rows k v j) uncut ∙ sym (if-true _ _ _ (and-i _ _ (R .rest-in j (next .1)) (not-i _ rest-here)))
 
-    pub narrowing-more : Narrowing (set after j domain) (changed || flip (eqb domain (getD after j 0))) rest′
+    pub narrowing-more : Narrowing rows domains among k v (set after j domain) (changed || flip (eqb domain (getD after j 0))) rest′
     narrowing-more =
         let here : getD (set after j domain) j 0 ≡ domain = getD-set-same after j domain 0 (omega (arith, R .whole)) in
         record {
           whole = length-set after j domain ∙ R .whole;
-          rest-fits = rest-lt width rest rest′ j (R .rest-fits) more low se;
-          rest-in = rest-within width rest rest′ j (R .rest-fits) more low se among (R .rest-in);
+          rest-fits = rest-lt width (R .rest-fits) more low se;
+          rest-in = rest-within width (R .rest-fits) more low se among (R .rest-in);
           narrowed = is-or-not j _
               (here ∙ cut)
               (λ i d. getD-set-other after j i domain 0 d

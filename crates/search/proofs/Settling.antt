@@ -41,11 +41,11 @@ pub start-below : (n left : ℕ) (leaders : List ℕ) → left ≡ freeWord n le
 unfolding freeWord
 start-below n left leaders e j t = has-below n left j t (rw e (word-lt n _))
 
-module _ (h : Head) (rows : List ℕ) (S : HeadShaped h) (t : soundIn h rows ≡ true) where
+module _ {h : Head} (rows : List ℕ) (S : HeadShaped h) (t : soundIn h rows ≡ true) where
   pub product-settled : choiceProduct (held h rows) ≡ 0 → FoundIn (held h rows) (record { found = false; solution = replicate variables 0 })
   product-settled e = settled-none (held h rows) (product-none (held h rows) (held-sound h rows S t) e)
 
-  module _ (left : ℕ) (e : left ≡ freeWord (h .n) (h .leaders)) (found : Bool) (values : List ℕ)
+  module _ {left : ℕ} (e : left ≡ freeWord (h .n) (h .leaders)) {found : Bool} {values : List ℕ}
       (C : (N : Network) (k : ℕ) → Left N (h .stated) rows k left → Chooses N (listed (h .domains)) k found (replicate variables 0) values) where
     start : Left (held h rows) (h .stated) rows 0 left
     unfolding held freeWord toChoose free
@@ -83,10 +83,10 @@ module _ (h : Head) (rows : List ℕ) (S : HeadShaped h) (t : soundIn h rows ≡
           C (held h rows) 0 start .others i (ap (and _) (and-fails _ _ (le-ltb i (h .n) l)) ∙ and-false _)
           ∙ getD-replicate variables i 0 0 b
 
-      pub chosen-found : (solution : List ℕ) → length solution ≡ variables → Completed (h .n) (h .domains) (h .leaders) rows values solution
+      pub chosen-found : {solution : List ℕ} → length solution ≡ variables → Completed (h .n) (h .domains) (h .leaders) rows values solution
           → FoundIn (held h rows) (record { found = true; solution = solution })
       unfolding held
-      chosen-found solution m D =
+      chosen-found {solution} m D =
           let N = held h rows in
           let F = turns-found N (held-sound h rows S t) _ _ settled q in
           record {

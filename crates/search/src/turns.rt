@@ -2,6 +2,7 @@
 // fall. Rows are lent, and each value that is taken narrows a copy of the domains, 64 bytes, and of nothing else.
 use pairs::Rows;
 use pairs::VARIABLES;
+use pairs::stored_row;
 use words::both;
 use words::dropped;
 use words::lowest;
@@ -14,13 +15,12 @@ ghost use Rattle.words.specs.Word.{width, has};
 ghost use Rattle.pairs.specs.Pairs.{variables};
 ghost use Rattle.search.specs.Turns.{cutBy, Narrowed, ChosenFrom, TriedFrom};
 
-// The values in the domain of `j` that go with value `v` of the lower `k`. The row is read where it stands: `pairs::row` also serves the higher of the two,
-// and is too long to be inlined here, where most of the time goes.
+// The values in the domain of `j` that go with value `v` of the lower `k`.
 fn cut(domain: u32, rows: &Rows, k: usize, j: usize, v: usize) -> u32
     requires { ⌜ (k < j) × (j < variables) × (v < width) ⌝ }
     ensures { λ r. ⌜ r ≡ cutBy (now (rows .entry)) k v j domain ⌝ }
 {
-    both(domain, rows[pairs::place(k, j) + v])
+    both(domain, stored_row(rows, k, j, v))
 }
 
 // Narrows the domains of the variables in `among`, all above `k`, once `k` has taken the value `v`. It says whether any of them lost a value.

@@ -88,7 +88,7 @@ module _ (s : State) (h : Shaped s) (t : soundState s ≡ true) where
   unfolding ruledAs
   built-shows shown e =
       let v : verdict (view s) ≡ BUILT = ruled-as s t BUILT .0 (shown, e) in
-      let b = shows-build _ _ _ _ _ _ serves-itself (verdict-built (view s) v .1)
+      let b = shows-build serves-itself (verdict-built (view s) v .1)
       (λ r. let q = r .1 in let z : _≡_ {A = ℕ} 0 1 = cc in omega arith) in
       let q = b .1 in
       let same : b .0 ≡ shown = cc in
@@ -116,9 +116,9 @@ sound-laws s h t =
       adds = fitting s h t;
       added-on = added-builds s h t;
       reduced-on = handed-on s _ h t _ (reduced-keeps s h) _ (λ b. refl);
-      none-only = λ r. no-build _ _ _ _ _ _ S .0 (S .promised .none-only (rules-none _ _ _ _ _ _ S .0 r));
-      none-when = λ d none. rules-none _ _ _ _ _ _ S .1 (S .promised .none-when d (no-build _ _ _ _ _ _ S .1 none));
-      built = λ d not-none. let b = shows-build _ _ _ _ _ _ S d not-none in (b .0, b .1);
+      none-only = λ r. no-build S .0 (S .promised .none-only (rules-none S .0 r));
+      none-when = λ d none. rules-none S .1 (S .promised .none-when d (no-build S .1 none));
+      built = λ d not-none. let b = shows-build S d not-none in (b .0, b .1);
       shows = built-shows s h t;
     }
 

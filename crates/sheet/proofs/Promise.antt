@@ -66,10 +66,10 @@ tables-answer s h t (c ∷ cs) =
     ∙ tables-answer (pack (answer (view s) c)) (packed-shaped P) (packed-state P) cs
     ∙ ap (λ (N : Network). addedBy N cs) (packed-view P))
 
-countTuples-cong : (n m : ℕ) (s t : ℕ → ℕ) (p q : (ℕ → ℕ) → Bool) → n ≡ m → ((i : ℕ) → i < n → s i ≡ t i) → ((f : ℕ → ℕ) → p f ≡ q f)
+countTuples-cong : {n m : ℕ} {s t : ℕ → ℕ} {p q : (ℕ → ℕ) → Bool} → n ≡ m → ((i : ℕ) → i < n → s i ≡ t i) → ((f : ℕ → ℕ) → p f ≡ q f)
     → countTuples n s p ≡ countTuples m t q
 unfolding countTuples
-countTuples-cong n m s t p q e sizes tests =
+countTuples-cong {n} {m} {s} {t} {p} e sizes tests =
     sumTuples-sizes n s t _ _ sizes
     ∙ ap (λ (k : ℕ). sumTuples k t (λ (f : ℕ → ℕ). bit (p f)) (λ (i : ℕ). 0)) e
     ∙ ap (λ (r : (ℕ → ℕ) → Bool). sumTuples m t (λ (f : ℕ → ℕ). bit (r f)) (λ (i : ℕ). 0)) (fun-ext tests)
@@ -87,7 +87,7 @@ pub record Serves (N M : Network) (p : (ℕ → ℕ) → Bool) (t : State) (n : 
   pub builds-are : (b : List ℕ) → build b ≡ and (eqb (length b) n) (solves M (valuesOf b))
 
 -- Then every sentence of demand 3 but the count holds of t and the builds.
-module _ (N M : Network) (p : (ℕ → ℕ) → Bool) (t : State) (n : ℕ) (build : List ℕ → Bool) (S : Serves N M p t n build) where
+module _ {N M : Network} {p : (ℕ → ℕ) → Bool} {t : State} {n : ℕ} {build : List ℕ → Bool} (S : Serves N M p t n build) where
   build-i : (b : List ℕ) → length b ≡ n → solves M (valuesOf b) ≡ true → build b ≡ true
   build-i b e k = S .builds-are b ∙ and-i _ _ (eq-eqb _ _ e) k
 
@@ -251,7 +251,7 @@ module _ (bytes : List ℕ) (octets : Octets bytes) (h : readSheet bytes .number
   unfolding buildCount solutionCount
   counts =
       promised .counted
-      ∙ countTuples-cong _ _ _ _ _ _ n-options
+      ∙ countTuples-cong n-options
       (λ i l. sym (option-sizes-are bytes octets s (length bytes) (A .got-sheet) i l))
       (λ f. ap (λ (x : Bool). and x (keepsTo (lastTables bytes cs) f)) (sym (builds-solve bytes octets s (length bytes) (A .got-sheet) f)))
 
@@ -264,17 +264,17 @@ module _ (bytes : List ℕ) (octets : Octets bytes) (h : readSheet bytes .number
       let S = serves in
       record {
         packed = last-state;
-        tester = tester-says _ _ _ _ _ _ S;
-        completer-accepts = not-refused _ _ _ _ _ _ S;
-        completer-keeps = keeps-live _ _ _ _ _ _ S;
-        completer-builds = gives-build _ _ _ _ _ _ S;
-        completer-only = λ b c e a x live. only-build _ _ _ _ _ _ S b e a c x live;
+        tester = tester-says S;
+        completer-accepts = not-refused S;
+        completer-keeps = keeps-live S;
+        completer-builds = gives-build S;
+        completer-only = λ b c e a x live. only-build S b e a c x live;
         counted = counts;
-        none-only = λ r. no-build _ _ _ _ _ _ S .0 (S .promised .none-only (rules-none _ _ _ _ _ _ S .0 r));
-        none-when = λ d none. rules-none _ _ _ _ _ _ S .1 (S .promised .none-when d (no-build _ _ _ _ _ _ S .1 none));
-        built = shows-build _ _ _ _ _ _ S;
-        search-none = search-none-exactly _ _ _ _ _ _ S;
-        search-first = finds-first _ _ _ _ _ _ S;
+        none-only = λ r. no-build S .0 (S .promised .none-only (rules-none S .0 r));
+        none-when = λ d none. rules-none S .1 (S .promised .none-when d (no-build S .1 none));
+        built = shows-build S;
+        search-none = search-none-exactly S;
+        search-first = finds-first S;
       }
 
 -- Demand 3, whole.
@@ -290,7 +290,7 @@ tables-none bytes octets h cs =
     let none = no-tables bytes octets h s A cs in
     record {
       same-builds = λ e b. ap (and (isBuildOf bytes b)) (none e (valuesOf b)) ∙ and-true _;
-      same-count = λ e. countTuples-cong _ _ _ _ _ _ refl (λ i l. refl) (λ f. ap (and (isBuild bytes f)) (none e f) ∙ and-true _);
+      same-count = λ e. countTuples-cong refl (λ i l. refl) (λ f. ap (and (isBuild bytes f)) (none e f) ∙ and-true _);
     }
 
 -- The same accepted sheets and lists of calls, with one live option.

@@ -24,7 +24,7 @@ use Rattle.sheet.specs.Promise.{ruledAs, lastState, buildOfSheet}
 unfoldable pub buildOf : State → List ℕ → Bool
 buildOf s b = testAgrees (tested s b)
 
--- The row of the build's value of option x has the bit of its value of option y, options counted from 1.
+-- The row of the build's value of x has the bit of its value of y, variables counted from 1.
 unfoldable pub keepsToRows : ℕ → ℕ → List ℕ → List ℕ → Bool
 keepsToRows x y rows b = has (getD rows (getD b (pred x) 0) 0) (getD b (pred y) 0)
 
@@ -35,7 +35,7 @@ pub record HandedOn (s t : State) (p : List ℕ → Bool) : Type 0 where
   pub on-n : t .n ≡ s .n
   pub on-builds : (b : List ℕ) → buildOf t b ≡ and (buildOf s b) (p b)
 
--- Rows that a table of the options x and y may have.
+-- Rows that a table of the variables x and y may have.
 pub record RowsFit (s : State) (x y : ℕ) (rows : List ℕ) : Type 0 where
   pub first-in : (1 ≤ x) × (x ≤ s .n)
   pub second-in : (1 ≤ y) × (y ≤ s .n)
@@ -50,7 +50,7 @@ pub record StateLaws (s : State) : Type 0 where
   pub added-on : (x y : ℕ) (rows : List ℕ) → tableAdded s x y rows .number ≡ 0 → HandedOn s (tableAdded s x y rows .state) (keepsToRows x y rows)
   -- a full reduction keeps every build,
   pub reduced-on : HandedOn s (reduced s .state) (λ (b : List ℕ). true)
-  -- NONE is said only where there is no build, and where no two live options are stated together, exactly there,
+  -- NONE is said only where there is no build, and where no two free variables are stated together, exactly there,
   pub none-only : ruledAs NONE (verdictOf s) → (b : List ℕ) → buildOf s b ≡ false
   pub none-when : decided (view s) ≡ true → ((b : List ℕ) → buildOf s b ≡ false) → ruledAs NONE (verdictOf s)
   -- and otherwise BUILT; and with BUILT, wherever it is said, the first n bytes shown are a build.

@@ -64,6 +64,7 @@ module _ (bytes : List ℕ) (cs : List Call) where
   unfoldable pub lastNetwork : Network
   lastNetwork = after (networkRead (parse bytes)) cs
 
+  -- All tables that the calls added to the sheet.
   unfoldable pub lastTables : List Table
   lastTables = tablesAdded (readSheet bytes .state) cs
 

@@ -17,12 +17,12 @@ use Rattle.bounded.proofs.Bool.{implies-i, implies-e, implies-true, implies-fal
 use Rattle.bounded.proofs.Fold.{below-suc, every-i, every-e, first-cong}
 use Rattle.bounded.proofs.Table.{length-tabulate, getD-tabulate, is-table}
 use Rattle.words.specs.Word.{width, has, word}
-use Rattle.words.proofs.Laws.{word-lt, has-word, has-all, has-below, has-zero, empty}
+use Rattle.words.proofs.Laws.{word-lt, has-ruled, has-all, has-below, has-zero, empty}
 use Rattle.pairs.specs.Pairs.{variables, allowsOf}
-use Rattle.pairs.proofs.Laws.{has-row}
+use Rattle.pairs.proofs.Laws.{allows-alike}
 use Rattle.pairs.proofs.Frames.{past-second}
 use Rattle.pairs.proofs.Runs.{Within, lowest-in, rest-is, rest-lt, rest-within}
-use Rattle.solutions.specs.Choices.{valueKept, pairKept, sideKept, amongKept, partnerOf, valueCompleted, Led, Completed, LeaderReady, domainOpen, lowestOf, freeWord, sideApart, freshValue}
+use Rattle.solutions.specs.Choices.{valueKept, pairKept, sideKept, pairsKept, Mirrored, amongKept, partnerOf, valueCompleted, Led, Completed, LeaderReady, domainOpen, lowestOf, freeWord, sideApart, freshValue}
 
 -- ---- the value of a variable
 
@@ -35,15 +35,15 @@ module _ (leader domain value : ℕ) where
   unfolding valueKept
   value-live h = sym (implies-true _ _ (eq-eqb leader 0 h))
 
--- A follower is not fresh, and a live option is where its list is full.
-module _ (leader domain size : ℕ) where
+-- A follower is not fresh, and a free variable is where its domain is full.
+module _ {leader : ℕ} (domain size : ℕ) where
   pub fresh-led : (leader ≡ 0 → ⊥) → false ≡ freshValue leader domain size
   unfolding freshValue
   fresh-led h = rw (ne-eqb leader 0 h) (sym (false-and _))
 
-  pub fresh-live : (full : ℕ) → leader ≡ 0 → full ≡ word width (λ (v : ℕ). ltb v size) → eqb domain full ≡ freshValue leader domain size
+  pub fresh-live : {full : ℕ} → leader ≡ 0 → full ≡ word width (λ (v : ℕ). ltb v size) → eqb domain full ≡ freshValue leader domain size
   unfolding freshValue
-  fresh-live full h e = rw (eq-eqb leader 0 h, e) (sym (true-and _))
+  fresh-live h e = rw (eq-eqb leader 0 h, e) (sym (true-and _))
 
 -- The members of a set one by one, the lowest first: those that are no longer in the rest have passed.
 module _ (w set : ℕ) (p : ℕ → Bool) where
@@ -58,54 +58,42 @@ module _ (w set : ℕ) (p : ℕ → Bool) where
   pub seen-all : (rest : ℕ) → Seen rest → rest ≡ 0 → every w (λ (v : ℕ). implies (has set v) (p v)) ≡ true
   seen-all rest s z = every-i w _ (λ v l. implies-i _ _ (λ t. s .seen v l t (rw z (has-zero v))))
 
-  module _ (rest a : ℕ) (s : Seen rest) (n : rest ≡ 0 → ⊥) (low : a ≡ first w (has rest)) where
+  module _ {rest a : ℕ} (s : Seen rest) (n : rest ≡ 0 → ⊥) (low : a ≡ first w (has rest)) where
     pub seen-next : (a < w) × (has set a ≡ true)
     seen-next = let i = lowest-in w rest a (s .rest-fits) n low in (i .0, s .rest-in a (i .1))
 
     pub seen-not : p a ≡ false → every w (λ (v : ℕ). implies (has set v) (p v)) ≡ false
     seen-not f = not-true→false _ (λ t. clash (implies-e _ _ (every-e w _ t a (seen-next .0)) (seen-next .1)) f)
 
-    pub seen-more : (rest′ : ℕ) → p a ≡ true → rest′ ≡ word w (λ (u : ℕ). and (has rest u) (not (eqb u (first w (has rest))))) → Seen rest′
-    seen-more rest′ t re =
+    pub seen-more : {rest′ : ℕ} → p a ≡ true → rest′ ≡ word w (λ (u : ℕ). and (has rest u) (not (eqb u (first w (has rest))))) → Seen rest′
+    seen-more t re =
         record {
-          rest-fits = rest-lt w rest rest′ a (s .rest-fits) n low re;
-          rest-in = rest-within w rest rest′ a (s .rest-fits) n low re set (s .rest-in);
+          rest-fits = rest-lt w (s .rest-fits) n low re;
+          rest-in = rest-within w (s .rest-fits) n low re set (s .rest-in);
           seen =
               λ v l m z.
               by-cases (eqb v a)
               (λ y. rw (eqb-true v a y) t)
-              (λ y. s .seen v l m (not-true→false _ (λ r. clash (rest-is w rest rest′ a (s .rest-fits) n low re v l ∙ and-i _ _ r (not-i _ y)) z)));
+              (λ y. s .seen v l m (not-true→false _ (λ r. clash (rest-is w (s .rest-fits) n low re v l ∙ and-i _ _ r (not-i _ y)) z)));
         }
 
 -- ---- the values of a pair
 
 -- The row of a value v that a byte a names, as a word, tells what a goes with.
-pub row-tells : (w : ℕ) (rows : List ℕ) (i j a v b x : ℕ) (r : Bool) → v ≡ a → x ≡ word w (allowsOf w rows i j v) → r ≡ has x b
+pub row-tells : (w : ℕ) (rows : List ℕ) (i j : ℕ) {a v : ℕ} (b : ℕ) {x : ℕ} {r : Bool} → v ≡ a → x ≡ word w (allowsOf w rows i j v) → r ≡ has x b
     → r ≡ allowsOf w rows i j a b
-row-tells w rows i j a v b x r q e h =
+row-tells w rows i j {v} b q e h =
     h ∙ ap (λ (n : ℕ). has n b) e ∙ has-all w _ b (past-second w rows i j v b) ∙ ap (λ (n : ℕ). allowsOf w rows i j n b) q
-
-module _ (leader among : ℕ) (rows values : List ℕ) (i : ℕ) where
-  pub among-led : (leader ≡ 0 → ⊥) → true ≡ amongKept leader among rows values i
-  unfolding amongKept
-  among-led h = sym (implies-false _ _ (ne-eqb leader 0 h))
-
-  pub among-live : {r : Bool} → leader ≡ 0
-      → every width (λ (j : ℕ). implies (has among j) (allowsOf width rows i j (getD values i 0) (getD values j 0))) ≡ r
-      → r ≡ amongKept leader among rows values i
-  unfolding amongKept
-  among-live h e = sym e ∙ sym (implies-true _ _ (eq-eqb leader 0 h))
 
 -- ---- completing
 
 -- The lowest of row x cut with the domain to y.
-pub partner-found : (rows : List ℕ) (l i domain a x y k : ℕ) → x ≡ word width (allowsOf width rows l i a)
-    → y ≡ word width (λ (b : ℕ). and (has domain b) (has x b))
+pub partner-found : (domain : ℕ) (p : ℕ → Bool) {x y k : ℕ} → x ≡ word width p → y ≡ word width (λ (b : ℕ). and (has domain b) (has x b))
     → k ≡ first width (has y)
-    → k ≡ partnerOf rows l i domain a
-unfolding partnerOf
-partner-found rows l i domain a x y k e f g =
-    g ∙ first-cong width _ _ (λ b m. ap (λ (n : ℕ). has n b) f ∙ has-word width _ b m ∙ ap (and (has domain b)) (has-row width rows l i a b x e m))
+    → k ≡ first width (λ (b : ℕ). and (has domain b) (p b))
+partner-found domain p e f g =
+    g ∙ first-cong width _ _ (λ b m. has-ruled width _ f b m
+    ∙ ap (and (has domain b)) (has-ruled width p e b m))
 
 module _ (domains leaders rows values : List ℕ) (i : ℕ) where
   pub completed-live : getD leaders i 0 ≡ 0 → getD values i 0 ≡ valueCompleted domains leaders rows values i
@@ -118,12 +106,12 @@ module _ (domains leaders rows values : List ℕ) (i : ℕ) where
   completed-follower l a h e f = rw (f, e) (sym (if-false _ _ _ (ne-eqb _ 0 h)))
 
 -- The frames before the first turn and after one more.
-pub completed-none : (domains leaders rows values : List ℕ) → Completed 0 domains leaders rows values values
-completed-none domains leaders rows values =
+pub completed-none : {domains leaders rows values : List ℕ} → Completed 0 domains leaders rows values values
+completed-none =
     record { same-length = refl; value-completed = λ i l. absurd (let x : ⊥ = omega arith in x); value-past = λ i l. refl }
 
-module _ (n i : ℕ) (domains leaders rows before now : List ℕ) (L : Led n leaders before) (C : Completed i domains leaders rows before now) (m : i < n) where
-  -- A leader still has the value that it came with: it is live.
+module _ {n i : ℕ} {domains leaders rows before now : List ℕ} (L : Led n leaders before) (C : Completed i domains leaders rows before now) (m : i < n) where
+  -- A leader still has the value that it came with: it is free.
   leader-kept : (l : ℕ) → getD leaders i 0 ≡ suc l → getD now l 0 ≡ getD before l 0
   leader-kept l e =
       by-cases (ltb l i)
@@ -151,8 +139,8 @@ module _ (n i : ℕ) (domains leaders rows before now : List ℕ) (L : Led n lea
       sym (completed-follower domains leaders rows now i l (getD now l 0) h refl refl)
       ∙ completed-follower domains leaders rows before i l (getD now l 0) h refl (leader-kept l (omega arith)))
 
-  pub completed-more : (v : ℕ) → v ≡ valueCompleted domains leaders rows now i → Completed (i + 1) domains leaders rows before (set now i v)
-  completed-more v e =
+  pub completed-more : {v : ℕ} → v ≡ valueCompleted domains leaders rows now i → Completed (i + 1) domains leaders rows before (set now i v)
+  completed-more {v} e =
       record {
         same-length = length-set now i v ∙ C .same-length;
         value-completed = λ x l. below-suc i x (omega arith)
@@ -178,48 +166,71 @@ module _ (leader domain : ℕ) where
   unfolding domainOpen
   domain-live h = flip-not (eqb domain 0) ∙ sym (implies-true _ _ (eq-eqb leader 0 h))
 
-module _ (leader stated free : ℕ) where
+module _ {leader : ℕ} (stated free : ℕ) where
   pub side-led : (leader ≡ 0 → ⊥) → true ≡ sideApart leader stated free
   unfolding sideApart
   side-led h = sym (implies-false _ _ (ne-eqb leader 0 h))
 
-  pub side-free : (common : ℕ) → leader ≡ 0 → common ≡ word width (λ (j : ℕ). and (has stated j) (has free j))
+  pub side-free : {common : ℕ} → leader ≡ 0 → common ≡ word width (λ (j : ℕ). and (has stated j) (has free j))
       → eqb common 0 ≡ sideApart leader stated free
   unfolding sideApart
-  side-free common h e = rw e (sym (implies-true _ _ (eq-eqb leader 0 h)))
+  side-free h e = rw e (sym (implies-true _ _ (eq-eqb leader 0 h)))
+
+-- `sideKept` of the variables above i alone.
+unfoldable pub laterKept : ℕ → List ℕ → ℕ → List ℕ → List ℕ → ℕ → Bool
+laterKept n leaders stated rows values i =
+    every n (λ (j : ℕ). implies (ltb i j) (pairKept (getD leaders i 0) (getD leaders j 0) (has stated j) rows i j (getD values i 0) (getD values j 0)))
 
 -- The free variables that one is stated with: those below n.
-module _ (n stated free : ℕ) (leaders : List ℕ) (l : n ≤ width) (e : free ≡ freeWord n leaders) where
+module _ {n : ℕ} (stated : ℕ) {free : ℕ} (leaders : List ℕ) (l : n ≤ width) (e : free ≡ freeWord n leaders) where
   free-is : (j : ℕ) → j < n → has free j ≡ eqb (getD leaders j 0) 0
   unfolding freeWord
-  free-is j m = ap (λ (x : ℕ). has x j) e ∙ has-word n _ j m
+  free-is j m = has-ruled n _ e j m
 
-  module _ (among : ℕ) (a : among ≡ word width (λ (j : ℕ). and (has stated j) (has free j))) where
+  module _ {among : ℕ} (a : among ≡ word width (λ (j : ℕ). and (has stated j) (has free j))) where
     among-i : (j : ℕ) → j < n → has stated j ≡ true → eqb (getD leaders j 0) 0 ≡ true → has among j ≡ true
-    among-i j m s f = ap (λ (x : ℕ). has x j) a ∙ has-word width _ j (omega arith) ∙ and-i _ _ s (free-is j m ∙ f)
+    among-i j m s f = has-ruled width _ a j (omega arith) ∙ and-i _ _ s (free-is j m ∙ f)
 
     among-e : (j : ℕ) → has among j ≡ true → (j < n) × (has stated j ≡ true) × (eqb (getD leaders j 0) 0 ≡ true)
     unfolding freeWord
     among-e j t =
         let k = has-below width among j t (rw a (word-lt width _)) in
-        let q = sym (ap (λ (x : ℕ). has x j) a ∙ has-word width _ j k) ∙ t in
+        let q = sym (has-ruled width _ a j k) ∙ t in
         let m = has-below n free j (and-r _ _ q) (rw e (word-lt n _)) in
         (m, and-l _ _ q, sym (free-is j m) ∙ and-r _ _ q)
 
     pub among-below : (j : ℕ) → has among j ≡ true → j < n
     among-below j t = among-e j t .0
 
-    -- Their pairs are those that the tester and the completer look at,
-    pub among-side : (rows values : List ℕ) (i : ℕ) → amongKept (getD leaders i 0) among rows values i ≡ sideKept n leaders stated rows values i
-    unfolding amongKept sideKept pairKept
-    among-side rows values i =
-        bool-ext _ _
-        (λ k. every-i n _ λ j m. implies-i _ _ λ t.
-        let u = and-r _ _ t in
-        implies-e _ _ (every-e width _ (implies-e _ _ k (and-l _ _ t)) j (omega arith)) (among-i j m (and-r _ _ u) (and-l _ _ u)))
-        (λ k. implies-i _ _ λ f. every-i width _ λ j b. implies-i _ _ λ t.
-        let q = among-e j t in
-        implies-e _ _ (every-e n _ k j (q .0)) (and-i _ _ f (and-i _ _ (q .2) (q .1))))
+    -- The pairs of those above i.
+    module _ (i : ℕ) {below later : ℕ} (b : below ≡ word width (λ (v : ℕ). ltb v (i + 1))) (d : later ≡ word width (λ (j : ℕ). and (has among j) (not (has below j)))) where
+      later-i : (j : ℕ) → j < n → i < j → has among j ≡ true → has later j ≡ true
+      later-i j m k t =
+          has-ruled width _ d j (omega arith)
+          ∙ and-i _ _ t (not-i _ (has-ruled width _ b j (omega arith) ∙ le-ltb j (i + 1) (omega arith)))
+
+      later-e : (j : ℕ) → has later j ≡ true → (i < j) × (has among j ≡ true)
+      later-e j t =
+          let k = has-below width later j t (rw d (word-lt width _)) in
+          let q = sym (has-ruled width _ d j k) ∙ t in
+          let u = sym (has-ruled width _ b j k) ∙ not-e _ (and-r _ _ q) in
+          (omega (arith, ltb-false j (i + 1) u), and-l _ _ q)
+
+      pub later-in : (j : ℕ) → has later j ≡ true → (i < j) × (j < n)
+      later-in j t = let q = later-e j t in (q .0, among-below j (q .1))
+
+      pub later-side : (rows values : List ℕ) → amongKept (getD leaders i 0) later rows values i ≡ laterKept n leaders stated rows values i
+      unfolding amongKept laterKept pairKept
+      later-side rows values =
+          bool-ext _ _
+          (λ k. every-i n _ λ j m. implies-i _ _ λ above. implies-i _ _ λ t.
+          let u = and-r _ _ t in
+          implies-e _ _ (every-e width _ (implies-e _ _ k (and-l _ _ t)) j (omega arith))
+          (later-i j m (ltb-true i j above) (among-i j m (and-r _ _ u) (and-l _ _ u))))
+          (λ k. implies-i _ _ λ f. every-i width _ λ j m. implies-i _ _ λ t.
+          let p = later-e j t in
+          let q = among-e j (p .1) in
+          implies-e _ _ (implies-e _ _ (every-e n _ k j (q .0)) (lt-ltb i j (p .0))) (and-i _ _ f (and-i _ _ (q .2) (q .1))))
 
   -- and where there are none, no pair of this one is of two free variables.
   pub side-pairs : (leader : ℕ) → sideApart leader stated free ≡ every n (λ (j : ℕ). implies (and (eqb leader 0) (eqb (getD leaders j 0) 0)) (not (has stated j)))
@@ -228,10 +239,27 @@ module _ (n stated free : ℕ) (leaders : List ℕ) (l : n ≤ width) (e : free 
       bool-ext _ _
       (λ k. every-i n _ λ j m. implies-i _ _ λ t. not-i _ (not-true→false _ λ s.
       let none = eqb-true _ 0 (implies-e _ _ k (and-l _ _ t)) in
-      clash (among-i _ refl j m s (and-r _ _ t)) (ap (λ (x : ℕ). has x j) none ∙ has-zero j)))
+      clash (among-i refl j m s (and-r _ _ t)) (ap (λ (x : ℕ). has x j) none ∙ has-zero j)))
       (λ k. implies-i _ _ λ t. eq-eqb _ 0 (empty width _ (word-lt width _) λ j b. not-true→false _ λ s.
-      let q = among-e _ refl j s in
+      let q = among-e refl j s in
       clash (q .1) (not-e _ (implies-e _ _ (every-e n _ k j (q .0)) (and-i _ _ t (q .2))))))
+
+-- Where each stated pair is mirrored, those seen from their lower variable are all of them.
+module _ (n : ℕ) (leaders stated rows values : List ℕ) where
+  pub later-all : Mirrored stated → ((i : ℕ) → i < n → laterKept n leaders (getD stated i 0) rows values i ≡ true) → pairsKept n leaders stated rows values ≡ true
+  unfolding pairsKept sideKept laterKept pairKept
+  later-all mirrored kept = every-i n _ λ i li. every-i n _ λ j lj. implies-i _ _ λ t.
+      let free-i = and-l _ _ t in
+      let free-j = and-l _ _ (and-r _ _ t) in
+      let m = mirrored i j (and-r _ _ (and-r _ _ t)) in
+      by-cases (ltb i j)
+      (λ l. implies-e _ _ (implies-e _ _ (every-e n _ (kept i li) j lj) l) t)
+      (λ l. sym (allows-alike width rows j i (getD values j 0) (getD values i 0))
+      ∙ implies-e _ _ (implies-e _ _ (every-e n _ (kept j lj) i li) (lt-ltb j i (omega (arith, ltb-false i j l, m .0)))) (and-i _ _ free-j (and-i _ _ free-i (m .1))))
+
+  pub later-of : pairsKept n leaders stated rows values ≡ true → (i : ℕ) → i < n → laterKept n leaders (getD stated i 0) rows values i ≡ true
+  unfolding pairsKept sideKept laterKept
+  later-of t i l = every-i n _ λ j m. implies-i _ _ λ _. every-e n _ (every-e n _ t i l) j m
 
 -- A store makes a table of another that differs there alone.
 set-table : (n : ℕ) (f g : ℕ → ℕ) (i v : ℕ) → i < n → v ≡ g i → ((k : ℕ) → (k ≡ i → ⊥) → f k ≡ g k) → set (tabulate n f) i v ≡ tabulate n g
@@ -247,10 +275,11 @@ unfolding lowestOf
 lowest-none domains =
     is-table variables _ (replicate variables 0) 0 (length-replicate {A = ℕ} variables 0) (λ k l. getD-replicate variables k 0 0 l ∙ sym (if-false _ _ _ (le-ltb k 0 (omega arith))))
 
-pub lowest-more : (domains values : List ℕ) (i v : ℕ) → i < variables → values ≡ tabulate variables (lowestOf i domains) → v ≡ first width (has (getD domains i 0))
+pub lowest-more : (domains : List ℕ) {values : List ℕ} {i v : ℕ} → i < variables → values ≡ tabulate variables (lowestOf i domains)
+    → v ≡ first width (has (getD domains i 0))
     → set values i v ≡ tabulate variables (lowestOf (i + 1) domains)
 unfolding lowestOf
-lowest-more domains values i v l e f =
+lowest-more domains {i} {v} l e f =
     rw e (set-table variables _ _ i v l (f ∙ sym (if-true _ _ _ (lt-ltb i (i + 1) (omega arith))))
     (λ k d. ap (λ (t : Bool). if t (first width (has (getD domains k 0))) 0)
     (bool-ext _ _ (λ t. lt-ltb k (i + 1) (omega (arith, ltb-true k i t))) (λ t. lt-ltb k i (omega (arith, ltb-true k (i + 1) t))))))

@@ -1,6 +1,6 @@
 -- What the tester, the completer and the verdict test and write, on lent arrays. Where `leaders` is all zero every variable is judged as a free one:
 -- so the tester asks of all what the completer asks of the free variables.
-use mathlib.Core.Bool.{Bool}
+use mathlib.Core.Bool.{Bool, true}
 use mathlib.Core.List.{List}
 use mathlib.Core.Path.{_≡_}
 use Prim.Native.Nat.{ℕ, suc, pred, _≤_, _<_}
@@ -33,7 +33,11 @@ sideKept n leaders stated rows values i =
 unfoldable pub pairsKept : ℕ → List ℕ → List ℕ → List ℕ → List ℕ → Bool
 pairsKept n leaders stated rows values = every n (λ (i : ℕ). sideKept n leaders (getD stated i 0) rows values i)
 
--- A free variable i goes, with its value, with the values of all the variables in `among`: `sideKept`, where these are the free ones that it is stated with.
+-- A pair is stated from both its variables, and no variable with itself.
+abbrev pub Mirrored : List ℕ → Type 0
+Mirrored stated = (i j : ℕ) → has (getD stated i 0) j ≡ true → (i ≡ j → ⊥) × (has (getD stated j 0) i ≡ true)
+
+-- A free variable i goes, with its value, with the values of all the variables in `among`.
 unfoldable pub amongKept : ℕ → ℕ → List ℕ → List ℕ → ℕ → Bool
 amongKept leader among rows values i =
     implies (eqb leader 0) (every width (λ (j : ℕ). implies (has among j) (allowsOf width rows i j (getD values i 0) (getD values j 0))))

@@ -11,7 +11,7 @@ ghost use Rattle.bounded.specs.Fold.{first};
 ghost use Rattle.bounded.specs.Table.{tabulate};
 ghost use Rattle.words.specs.Word.{width, has};
 ghost use Rattle.pairs.specs.Pairs.{variables, allowsOf};
-ghost use Rattle.solutions.specs.Choices.{valuesBelow, valueKept, valuesKept, amongKept, pairsKept, partnerOf, valueCompleted, Led, Completed, LeaderReady, domainOpen, domainsOpen, lowestOf, freeWord, sideApart, freeApart, freshValue, freshParts};
+ghost use Rattle.solutions.specs.Choices.{valuesBelow, valueKept, valuesKept, amongKept, pairsKept, Mirrored, partnerOf, valueCompleted, Led, Completed, LeaderReady, domainOpen, domainsOpen, lowestOf, freeWord, sideApart, freeApart, freshValue, freshParts};
 
 // Each value is below its size.
 pub fn values_below(n: usize, sizes: &[u8; VARIABLES], values: &[u8]) -> bool
@@ -83,26 +83,12 @@ fn row_allows(rows: &Rows, i: usize, j: usize, a: u8, b: u8) -> bool
     if WIDTH <= value {
         return false;
     }
-    has_value(pairs::row(rows, i, j, value), b)
+    has_value(pairs::stored_row(rows, i, j, value), b)
 }
 
-// Value `a` of `i` goes with value `b` of `j`. One row of the lower variable tells, whichever it is. No variable goes with itself.
-fn pair_allows(rows: &Rows, i: usize, j: usize, a: u8, b: u8) -> bool
-    requires { ⌜ (i < variables) × (j < variables) ⌝ }
-    ensures { λ r. ⌜ r ≡ allowsOf width (now (rows .entry)) i j a b ⌝ }
-{
-    if i < j {
-        return row_allows(rows, i, j, a, b);
-    }
-    if j < i {
-        return row_allows(rows, j, i, b, a);
-    }
-    false
-}
-
-// The pairs of a free variable `i` with those of `among` allow their two values.
+// The pairs of a free variable `i` with those of `among`, all of them higher, allow their two values.
 fn among_kept(leader: u8, among: u32, rows: &Rows, values: &[u8], i: usize) -> bool
-    requires { ⌜ (i < variables) × (i < length (now values)) × ((j : ℕ) → has among j ≡ true → (j < variables) × (j < length (now values))) ⌝ }
+    requires { ⌜ (i < length (now values)) × ((j : ℕ) → has among j ≡ true → (i < j) × (j < variables) × (j < length (now values))) ⌝ }
     ensures { λ r. ⌜ r ≡ amongKept leader among (now (rows .entry)) (now (values .entry)) i ⌝ }
 {
     if leader != 0 {
@@ -111,7 +97,7 @@ fn among_kept(leader: u8, among: u32, rows: &Rows, values: &[u8], i: usize) -> b
     let mut rest = among;
     while rest != 0 {
         let j = words::lowest(rest);
-        if !pair_allows(rows, i, j, values[i], values[j]) {
+        if !row_allows(rows, i, j, values[i], values[j]) {
             return false;
         }
         rest = words::dropped(rest);
@@ -119,7 +105,7 @@ fn among_kept(leader: u8, among: u32, rows: &Rows, values: &[u8], i: usize) -> b
     true
 }
 
-// Each stated pair of two free variables allows its two values.
+// Each stated pair of two free variables allows its two values. Each is looked at once, from its lower variable.
 pub fn pairs_kept<'a>(
     n: usize,
     leaders: &'a [u8; VARIABLES],
@@ -127,12 +113,14 @@ pub fn pairs_kept<'a>(
     rows: &'a Rows,
     values: &[u8],
 ) -> bool
-    requires { ⌜ (n ≤ variables) × (n ≤ length (now values)) ⌝ }
+    requires { ⌜ (n ≤ variables) × (n ≤ length (now values)) × Mirrored (now stated) ⌝ }
     ensures { λ r. ⌜ r ≡ pairsKept n (now (leaders .entry)) (now (stated .entry)) (now (rows .entry)) (now (values .entry)) ⌝ }
 {
     let free = free_variables(n, leaders);
     for i in 0..n {
-        if !among_kept(leaders[i], words::both(stated[i], free), rows, values, i) {
+        let others = words::both(stated[i], free);
+        let later = words::without(others, words::full(i + 1));
+        if !among_kept(leaders[i], later, rows, values, i) {
             return false;
         }
     }

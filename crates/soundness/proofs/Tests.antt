@@ -1,20 +1,20 @@
 -- What each way through a test of soundness says of its definition, in the order of the code.
 use mathlib.Core.Bool.{Bool, true, false}
 use mathlib.Core.List.{List}
-use mathlib.Core.Path.{_≡_, refl, sym, ap, _∙_}
-use Prim.Native.Nat.{ℕ, pred, _+_, _-_, _*_, _≤_, _<_}
+use mathlib.Core.Path.{_≡_, sym, ap, _∙_}
+use Prim.Native.Nat.{ℕ, pred, _-_, _*_, _≤_, _<_}
 use native.Mathlib.Omega.{arith}
 use lib.Dec.{eqb, leb}
 use lib.ListN.{getD}
-use borrow.Author.Tests.{lt-ltb, le-ltb, lt-leb, le-leb, eq-eqb, ne-eqb}
+use borrow.Author.Tests.{lt-ltb, le-ltb, lt-leb, le-leb, eq-eqb}
 use Rattle.bounded.specs.Bool.{and}
-use Rattle.bounded.proofs.Bool.{clash, not-i, not-false-i, implies-true, implies-false, and-fails, and-holds, if-true, if-false}
+use Rattle.bounded.proofs.Bool.{clash, not-i, not-false-i, and-fails, and-holds, if-true, if-false}
 use Rattle.words.specs.Word.{width, has, word}
 use Rattle.words.proofs.Laws.{has-word}
-use Rattle.pairs.specs.Pairs.{variables, pairCount, slot, joinOf, partnersWithin}
+use Rattle.pairs.specs.Pairs.{variables, pairCount, slot, joinOf}
 use Rattle.head.specs.declared.Head.{Head}
 use Rattle.head.specs.Held.{mostValues}
-use Rattle.soundness.specs.Parts.{sizeFits, sizesFit, within, domainsFit, statedWith, variableFits, pairsFit, headFits, pastFits, constraintFits, pairRowsFit, rowsFit, followerFits, freeOrFits, followersFit, partsFit}
+use Rattle.soundness.specs.Parts.{sizeFits, sizesFit, within, domainsFit, statedWith, variableFits, pairsFit, headFits, pastFits, pairRowsFit, rowsFit, followersFit, partsFit}
 
 -- The bound of a word's members, known by another name.
 pub within-same : {r : Bool} (x : ℕ) {k k′ : ℕ} → r ≡ within x k → k ≡ k′ → r ≡ within x k′
@@ -85,36 +85,13 @@ module _ (h : Head) where
 
 -- ---- the rows
 
-run-same : (rows : List ℕ) {r at at′ n m : ℕ} → r ≡ joinOf width rows at n → at ≡ at′ → n ≡ m → r ≡ joinOf width rows at′ m
+pub run-same : (rows : List ℕ) {r at at′ n m : ℕ} → r ≡ joinOf width rows at n → at ≡ at′ → n ≡ m → r ≡ joinOf width rows at′ m
 run-same rows h e k = rw (e, k) at h
 
 -- The rows past n are one run, from its place to the end.
 pub past-is : (rows : List ℕ) (n : ℕ) {r at : ℕ} → r ≡ joinOf width rows at (pairCount * width - at) → at ≡ slot 0 n * width → eqb r 0 ≡ pastFits n rows
 unfolding pastFits
 past-is rows n h e = ap (λ (x : ℕ). eqb x 0) (rw e at h)
-
-module _ (rows : List ℕ) (at size other : ℕ) {r : ℕ} (h : r ≡ joinOf width rows (at + size) (at + width - (at + size))) where
-  past-run : r ≡ joinOf width rows (at + size) (width - size)
-  past-run = run-same rows h refl (omega arith)
-
-  pub constraint-past : (r ≡ 0 → ⊥) → false ≡ constraintFits rows at size other
-  unfolding constraintFits
-  constraint-past z = sym (and-fails _ _ (ap (λ (x : ℕ). eqb x 0) (sym past-run) ∙ ne-eqb _ 0 z))
-
-  pub constraint-in : {q : ℕ} {t : Bool} → r ≡ 0 → q ≡ joinOf width rows at (at + size - at) → t ≡ within q other → t ≡ constraintFits rows at size other
-  unfolding constraintFits
-  constraint-in z k u =
-      u ∙ ap (λ (x : ℕ). within x other) (run-same rows k refl (omega arith))
-      ∙ sym (and-holds _ _ (ap (λ (x : ℕ). eqb x 0) (sym past-run) ∙ eq-eqb _ 0 z))
-
-module _ (rows : List ℕ) {stated : Bool} (i j size other : ℕ) {at : ℕ} (e : at ≡ slot i j * width) where
-  pub pair-unstated : {r : ℕ} → stated ≡ false → r ≡ joinOf width rows at (at + width - at) → eqb r 0 ≡ pairRowsFit rows stated i j size other
-  unfolding pairRowsFit
-  pair-unstated s h = ap (λ (x : ℕ). eqb x 0) (run-same rows h e (omega arith)) ∙ sym (if-false _ _ _ s)
-
-  pub pair-stated : {t : Bool} → stated ≡ true → t ≡ constraintFits rows at size other → t ≡ pairRowsFit rows stated i j size other
-  unfolding pairRowsFit
-  pair-stated s h = rw e at h ∙ sym (if-true _ _ _ s)
 
 -- A pair, its sizes known by other names.
 pub pair-same : (rows : List ℕ) (i j : ℕ) {r s s′ : Bool} {x x′ y y′ : ℕ} → r ≡ pairRowsFit rows s i j x y → s ≡ s′ → x ≡ x′ → y ≡ y′
@@ -123,39 +100,14 @@ pair-same rows i j h es ex ey = rw (es, ex, ey) at h
 
 -- ---- a follower
 
-module _ {n : ℕ} (domains leaders rows : List ℕ) (i stated : ℕ) {l : ℕ} where
-  pub leader-past : n ≤ l → false ≡ followerFits n domains leaders rows i stated l
-  unfolding followerFits
-  leader-past h = sym (and-fails _ _ (le-ltb l n h))
-
-  pub leader-led : l < n → (getD leaders l 0 ≡ 0 → ⊥) → false ≡ followerFits n domains leaders rows i stated l
-  unfolding followerFits
-  leader-led h k = sym (and-holds _ _ (lt-ltb l n h) ∙ and-fails _ _ (ne-eqb _ 0 k))
-
-  pub follower-loose : l < n → getD leaders l 0 ≡ 0 → (stated ≡ word width (λ (u : ℕ). eqb u l) → ⊥)
-      → false ≡ followerFits n domains leaders rows i stated l
-  unfolding followerFits
-  follower-loose h k d = sym (and-holds _ _ (lt-ltb l n h) ∙ and-holds _ _ (eq-eqb _ 0 k) ∙ and-fails _ _ (ne-eqb _ _ d))
-
-  pub follower-tied : l < n → getD leaders l 0 ≡ 0 → stated ≡ word width (λ (u : ℕ). eqb u l)
-      → partnersWithin width rows l i (getD domains l 0) (getD domains i 0) 1 1 ≡ followerFits n domains leaders rows i stated l
-  unfolding followerFits
-  follower-tied h k e = sym (and-holds _ _ (lt-ltb l n h) ∙ and-holds _ _ (eq-eqb _ 0 k) ∙ and-holds _ _ (eq-eqb _ _ e))
-
 -- A variable that is not stated with itself does not follow itself.
 pub not-itself : (w i l stated : ℕ) → i < w → has stated i ≡ false → stated ≡ word w (λ (u : ℕ). eqb u l) → l ≡ i → ⊥
 not-itself w i l stated b f e q =
     clash (rw e (has-word w _ i b ∙ eq-eqb i l (sym q))) f
 
-module _ (n : ℕ) (domains leaders rows : List ℕ) (i stated : ℕ) where
-  pub variable-free : getD leaders i 0 ≡ 0 → true ≡ freeOrFits n domains leaders rows i stated
-  unfolding freeOrFits
-  variable-free h = sym (implies-false _ _ (not-false-i _ (eq-eqb _ 0 h)))
-
-  pub variable-led : {l : ℕ} → (getD leaders i 0 ≡ 0 → ⊥) → l ≡ pred (getD leaders i 0)
-      → followerFits n domains leaders rows i stated l ≡ freeOrFits n domains leaders rows i stated
-  unfolding freeOrFits
-  variable-led h e = rw e (sym (implies-true _ _ (not-i _ (ne-eqb _ 0 h))))
+-- The number of a leader counts from 1.
+pub from-one : {l k : ℕ} → l ≡ k → l - 1 ≡ pred k
+from-one e = omega arith
 
 -- ---- the whole
 

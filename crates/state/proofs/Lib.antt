@@ -3,6 +3,7 @@ pub mod Keep
 pub mod Steps
 pub mod Rules
 pub mod Tables
+pub mod Sizes
 pub mod Lists
 pub mod Solutions
-pub mod Reducing
+pub mod Worked

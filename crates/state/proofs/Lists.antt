@@ -1,4 +1,4 @@
--- The lists that soundness leaves free, of states: short where nobody follows, and empty.
+-- The domains that soundness leaves free, of states: short where nobody follows, and empty.
 use mathlib.Core.Bool.{Bool, true}
 use mathlib.Core.Path.{_≡_}
 use Prim.Native.Nat.{ℕ, zero, suc, _≤_}
@@ -13,7 +13,7 @@ use Rattle.state.specs.declared.state.State.{State}
 use Rattle.state.specs.View.{Shaped, view, soundState}
 use Rattle.state.proofs.View.{state-sound}
 
--- "An empty list is allowed in a sound state": the state of a network whose live lists lost any values is sound.
+-- "An empty list is allowed in a sound state": the state of a network whose free variables lost any values is sound.
 pub narrowed-packed : (s : State) → Shaped s → soundState s ≡ true → (i : ℕ) → free (view s) i ≡ true → (p : ℕ → Bool)
     → Packed (narrowed (view s) i p)
 unfolding narrowed held

@@ -5,9 +5,12 @@ use Prim.Native.Nat.{ℕ, suc, pred, _+_, _≤_}
 use native.Mathlib.Omega.{arith}
 use lib.Dec.{eqb}
 use borrow.Author.Tests.{eq-eqb, ne-eqb, eqb-true, eqb-false}
-use Rattle.bounded.specs.Bool.{and, not}
+use Rattle.bounded.specs.Bool.{and, not, if}
 use Rattle.bounded.specs.Fold.{count}
 use Rattle.bounded.proofs.Bool.{by-cases, and-true, if-true, if-false}
+use Rattle.cause.proofs.Laws.{number-positive}
+use Rattle.cause.specs.Number.{numberOf}
+use Rattle.cause.specs.declared.Cause.{Cause}
 use Rattle.network.specs.Network.{Network, free, solves}
 use Rattle.network.specs.Promise.{Keeps}
 use Rattle.network.specs.Step.{refusal, eliminate}
@@ -15,6 +18,9 @@ use Rattle.network.specs.Reduction.{freeCount, reducible, reduce}
 use Rattle.network.specs.Calls.{Call, follow-step, full-reduction, answer, adds, keepsTo}
 use Rattle.network.proofs.Calls.{answer-taken, answer-refused, answer-reduced, answer-keeps}
 use Rattle.network.proofs.Reduction.{reduce-count, reduce-taken, reduce-most, reduce-stops}
+use Rattle.answers.specs.declared.Outcome.{Outcome}
+use Rattle.answers.specs.declared.Outcome.the-variants as outcome
+use Rattle.answers.specs.Answers.{outcomeNumber}
 use Rattle.state.specs.declared.state.State.{State}
 use Rattle.state.specs.View.{view, pack, soundState}
 use Rattle.state.specs.Answers.{Told}
@@ -43,6 +49,14 @@ module _ (s : State) (l f : ℕ) where
   unfolding stepped
   stepped-refused number e h = if-false _ _ _ (ne-eqb (stepRefusal s l f) 0 (omega arith)) ∙ ap (λ (k : ℕ). refused k s) e
 
+-- A refusal that the code answers hands back the state given, whatever would have been done.
+pub refusal-told : {s : State} {number : ℕ} {o : Outcome} {c : Cause} (done : Told) → o ≡ outcome.Refused c → outcomeNumber o ≡ number
+    → _≡_ {A = Told} (record { number = outcomeNumber o; state = s; steps = 0 }) (if (eqb number 0) done (refused number s))
+unfolding outcomeNumber refused
+refusal-told {s} {number} {o} {c} done e q =
+    let p : outcomeNumber o ≡ numberOf c = ap outcomeNumber e in
+    ap (λ (k : ℕ). refused k s) q ∙ sym (if-false _ _ _ (ne-eqb number 0 (omega (arith, number-positive c))))
+
 -- The full reduction, case by case.
 module _ (s : State) where
   pub reduced-done : soundState s ≡ true → reduced s ≡ reducedAs (reduce (view s))
@@ -52,6 +66,14 @@ module _ (s : State) where
   pub reduced-refused : soundState s ≡ false → reduced s ≡ refused 9 s
   unfolding reduced
   reduced-refused t = if-false _ _ _ t
+
+  -- "a refused call hands back what it was given"
+  pub reduced-back : (reduced s .number ≡ 0 → ⊥) → reduced s .state ≡ s
+  unfolding reducedAs refused
+  reduced-back z =
+      by-cases (soundState s)
+      (λ t. absurd (z (ap (λ (a : Told). a .number) (reduced-done t))))
+      (λ t. ap (λ (a : Told). a .state) (reduced-refused t))
 
 -- On a sound state a call hands back the state of the network that it answers.
 module _ (s : State) (h : Shaped s) (t : soundState s ≡ true) where
@@ -69,7 +91,7 @@ module _ (s : State) (h : Shaped s) (t : soundState s ≡ true) where
   reduced-answers = ap (λ (a : Told). a .state) (reduced-done s t) ∙ ap pack (sym (answer-reduced (view s)))
 
   pub answer-packed : (c : Call) → Packed (answer (view s) c)
-  answer-packed c = kept-packed _ _ (h .head-shaped) t (answer (view s) c) _ (answer-keeps (view s) (state-sound s h t) c)
+  answer-packed c = kept-packed _ (h .head-shaped) t (answer (view s) c) (answer-keeps (view s) (state-sound s h t) c)
 
 -- What every call keeps of a state, refused or not: t, handed back for s, is sound if s is, and has the same variables and sizes, and of the solutions those
 -- that p lets pass.

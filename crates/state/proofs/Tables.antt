@@ -9,10 +9,6 @@ use lib.Dec.{eqb}
 use borrow.Author.Tests.{eq-eqb, ne-eqb, eqb-true, eqb-false}
 use Rattle.bounded.specs.Bool.{implies}
 use Rattle.bounded.proofs.Bool.{by-cases, implies-false, if-true, if-false}
-use Rattle.cause.proofs.Laws.{number-positive}
-use Rattle.cause.specs.Number.{numberOf}
-use Rattle.cause.specs.declared.Cause.{Cause}
-use Rattle.cause.specs.declared.Cause.the-variants as cause
 use Rattle.network.specs.Sound.{Sound}
 use Rattle.network.specs.Promise.{Keeps}
 use Rattle.network.specs.Added.{traced, meetsTable, addRefusal, added, Adds}
@@ -22,19 +18,17 @@ use Rattle.network.proofs.Calls.{answer-added, answer-not-added}
 use Rattle.answers.specs.declared.Outcome.{Outcome}
 use Rattle.answers.specs.declared.Outcome.the-variants as outcome
 use Rattle.answers.specs.Answers.{outcomeNumber}
-use Rattle.step_add.specs.declared.judge.TableJudgement.the-variants as judgement
-use Rattle.step_add.specs.Judging.{tableNumber}
 use Rattle.step_add.specs.Added.{AddedTo}
 use Rattle.step_add.proofs.Judging.{counted-from-0}
 use Rattle.head.specs.declared.Head.{Head}
 use Rattle.head.specs.Held.{held}
-use Rattle.head.proofs.Held.{Packed, kept-packed}
+use Rattle.head.proofs.Held.{HeadShaped, Packed, held-sound, kept-packed}
 use Rattle.state.specs.declared.state.State.{State}
-use Rattle.state.specs.View.{stateOf, view, pack, soundState}
+use Rattle.state.specs.View.{headIn, stateOf, view, pack, soundState}
 use Rattle.state.specs.Answers.{Told}
 use Rattle.state.specs.Steps.{refused}
 use Rattle.state.specs.Tables.{tableRefusal, tableAdded, AddedByRules, TablesByRules}
-use Rattle.state.proofs.View.{Shaped, state-sound, pack-view, packed-view}
+use Rattle.state.proofs.View.{Shaped, pack-view, packed-view}
 use Rattle.state.proofs.Steps.{StateKept, kept-self, kept-packed-state}
 
 -- Case by case.
@@ -72,17 +66,23 @@ module _ (s : State) (x y : ℕ) (rows : List ℕ) where
   pub taken-fits : tableRefusal s x y rows ≡ 0 → addRefusal (view s) x y rows ≡ 0
   taken-fits e = sym (sound-table (taken-sound e)) ∙ e
 
-  -- A table that is not refused, of a state whose arrays are what their types say.
-  module _ (h : Shaped s) (e : tableRefusal s x y rows ≡ 0) where
-    sound-network : Sound (view s)
-    sound-network = state-sound s h (taken-sound e)
+  -- "Each of these hands back the state given."
+  pub table-back : (tableAdded s x y rows .number ≡ 0 → ⊥) → tableAdded s x y rows .state ≡ s
+  unfolding refused
+  table-back n =
+      ap (λ (a : Told). a .state) (table-refused _ refl (let d : tableRefusal s x y rows ≡ 0 → ⊥ = λ e. n (table-number ∙ e) in omega arith))
 
-    keeps-network : Keeps (view s) (added (view s) (pred x) (pred y) rows) (meetsTable (pred x) (pred y) rows)
+  -- A table that is not refused, of a state whose head is what its types say.
+  module _ (h : HeadShaped (headIn s)) (e : tableRefusal s x y rows ≡ 0) where
+    sound-network : Sound (view s)
+    sound-network = held-sound _ _ h (taken-sound e)
+
+    pub keeps-network : Keeps (view s) (added (view s) (pred x) (pred y) rows) (meetsTable (pred x) (pred y) rows)
     keeps-network = let inside = not-refused (view s) x y rows (taken-fits e) in
         table-keeps (view s) (pred x) (pred y) rows sound-network (inside .0) (inside .1)
 
-    added-packed : Packed (added (view s) (pred x) (pred y) rows)
-    added-packed = kept-packed _ _ (h .head-shaped) (taken-sound e) _ _ keeps-network
+    pub added-packed : Packed (added (view s) (pred x) (pred y) rows)
+    added-packed = kept-packed _ h (taken-sound e) _ keeps-network
 
     added-view : view (tableAdded s x y rows .state) ≡ added (view s) (pred x) (pred y) rows
     added-view = ap (λ (a : Told). view (a .state)) (table-taken e) ∙ packed-view added-packed
@@ -105,21 +105,26 @@ unfolding refused implies meetsTable
 table-keeps-state s h x y rows =
     by-cases (eqb (tableRefusal s x y rows) 0)
     (λ r. let e = eqb-true _ 0 r in
-    rw (table-taken s x y rows e, e) (kept-packed-state s _ _ (keeps-network s x y rows h e) (added-packed s x y rows h e)))
+    rw (table-taken s x y rows e, e) (kept-packed-state s _ _ (keeps-network s x y rows (h .head-shaped) e) (added-packed s x y rows (h .head-shaped) e)))
     (λ r. let d : tableRefusal s x y rows ≡ 0 → ⊥ = eqb-false _ 0 r in
     rw (table-refused s x y rows _ refl (omega arith)) (kept-self s h _ (λ g. implies-false _ _ r)))
 
 pub table-rules : TablesByRules
-unfolding TablesByRules refused
+unfolding TablesByRules
 table-rules s h x y rows =
     record {
-      taken = λ n. let e = sym (table-number s x y rows) ∙ n in
-          (traced (view s) (pred x), traced (view s) (pred y), rw (added-view s x y rows h e) (added-adds (view s) (pred x) (pred y) rows (sound-network s x y rows h e)));
+      taken = λ n. let e = sym (table-number s x y rows) ∙ n in (
+        traced (view s) (pred x),
+        traced (view s) (pred y),
+        rw (added-view s x y rows H e) (added-adds (view s) (pred x) (pred y) rows (sound-network s x y rows H e)),
+      );
       solutions = λ n f. let e = sym (table-number s x y rows) ∙ n in
-          rw (added-view s x y rows h e) (keeps-network s x y rows h e .same-solutions f);
-      handed-back = λ n. ap (λ (a : Told). a .state) (table-refused s x y rows _ refl
-          (let d : tableRefusal s x y rows ≡ 0 → ⊥ = λ e. n (table-number s x y rows ∙ e) in omega arith));
+          rw (added-view s x y rows H e) (keeps-network s x y rows H e .same-solutions f);
+      handed-back = table-back s x y rows;
     }
+  where
+    H : HeadShaped (headIn s)
+    H = h .head-shaped
 
 -- ---- the code's answers
 
@@ -129,46 +134,35 @@ pub table-state : {h r : Head} {before after : List ℕ} {x y : ℕ} {table : Li
 unfolding pack
 table-state A = λ z. stateOf (A .head-is z) (A .rows-are z)
 
-module _ (s : State) (x y : ℕ) (rows : List ℕ) where
-  -- The number that refuses a table is that of soundness or of the judgement.
-  pub unsound-number : soundState s ≡ false → outcomeNumber (outcome.Refused cause.Unsound) ≡ tableRefusal s x y rows
-  unfolding outcomeNumber
-  unsound-number t = sym (unsound-table s x y rows t)
+-- A table that nothing refuses is one for a sound state, and names two variables. The code counts both from 0.
+pub record TableTaken (s : State) (x y : ℕ) (rows : List ℕ) : Type 0 where
+  pub number-0 : tableRefusal s x y rows ≡ 0
+  pub for-sound : soundState s ≡ true
+  pub first-some : 1 ≤ x
+  pub second-some : 1 ≤ y
+  pub fits : addRefusal (view s) (suc (x - 1)) (suc (y - 1)) rows ≡ 0
 
-  module _ (t : soundState s ≡ true) where
-    pub legal-number : tableNumber judgement.Legal ≡ addRefusal (view s) x y rows → outcomeNumber outcome.Done ≡ tableRefusal s x y rows
-    unfolding outcomeNumber tableNumber
-    legal-number e = e ∙ sym (sound-table s x y rows t)
+pub not-refused-table : {s : State} {x y : ℕ} {rows : List ℕ} {o : Outcome} → o ≡ outcome.Done → outcomeNumber o ≡ tableRefusal s x y rows
+    → TableTaken s x y rows
+unfolding outcomeNumber
+not-refused-table {s} {x} {y} {rows} e q =
+    let taken : tableRefusal s x y rows ≡ 0 = sym q ∙ ap outcomeNumber e in
+    let from-0 = counted-from-0 (view s) x y rows (taken-fits s x y rows taken) in
+    record {
+      number-0 = taken;
+      for-sound = taken-sound s x y rows taken;
+      first-some = from-0 .0;
+      second-some = from-0 .1;
+      fits = from-0 .2;
+    }
 
-    pub judged-number : (c : Cause) → tableNumber (judgement.Refused c) ≡ addRefusal (view s) x y rows
-        → outcomeNumber (outcome.Refused c) ≡ tableRefusal s x y rows
-    unfolding outcomeNumber tableNumber
-    judged-number c e = e ∙ sym (sound-table s x y rows t)
-
-  -- A refusal hands back the state given.
-  pub refusal-told : (o : Outcome) (c : Cause) → o ≡ outcome.Refused c → outcomeNumber o ≡ tableRefusal s x y rows
-      → record { number = outcomeNumber o; state = s; steps = 0 } ≡ tableAdded s x y rows
-  unfolding outcomeNumber refused
-  refusal-told o c e q =
-      sym (table-refused s x y rows (outcomeNumber o) (sym q)
-      (let p : outcomeNumber o ≡ numberOf c = ap outcomeNumber e in omega (arith, number-positive c)))
-
-  -- A table that nothing refuses is one for a sound state and names two variables.
-  module _ (o : Outcome) (e : o ≡ outcome.Done) (q : outcomeNumber o ≡ tableRefusal s x y rows) where
-    pub not-refused-number : tableRefusal s x y rows ≡ 0
-    unfolding outcomeNumber
-    not-refused-number = sym q ∙ ap outcomeNumber e
-
-    -- Both count from 1, and the code counts them from 0.
-    pub from-0 : (1 ≤ x) × (1 ≤ y) × (addRefusal (view s) (suc (x - 1)) (suc (y - 1)) rows ≡ 0)
-    from-0 = counted-from-0 (view s) x y rows (taken-fits s x y rows not-refused-number)
-
-    pub addition-told : (r : State) → r ≡ pack (added (view s) (x - 1) (y - 1) rows)
-        → record { number = outcomeNumber o; state = r; steps = 0 } ≡ tableAdded s x y rows
-    addition-told r p =
-        (λ z. record {
-          number = (q ∙ not-refused-number) z;
-          state = (p ∙ ap₂ (λ (i j : ℕ). pack (added (view s) i j rows)) (sub-one x) (sub-one y)) z;
-          steps = 0;
-        })
-        ∙ sym (table-taken s x y rows not-refused-number)
+pub addition-told : {s : State} {x y : ℕ} {rows : List ℕ} {o : Outcome} {r : State} → TableTaken s x y rows → o ≡ outcome.Done
+    → r ≡ pack (added (view s) (x - 1) (y - 1) rows) → record { number = outcomeNumber o; state = r; steps = 0 } ≡ tableAdded s x y rows
+unfolding outcomeNumber
+addition-told {s} {x} {y} {rows} T e p =
+    (λ z. record {
+      number = ap outcomeNumber e z;
+      state = (p ∙ ap₂ (λ (i j : ℕ). pack (added (view s) i j rows)) (sub-one x) (sub-one y)) z;
+      steps = 0;
+    })
+    ∙ sym (table-taken s x y rows (T .number-0))

@@ -10,7 +10,6 @@ pub use answer::ReadAnswer;
 pub use reduction::Worked;
 pub use reduction::eliminate_parts;
 pub use reduction::reduce_parts;
-pub use reduction::reduce_sound;
 pub use state::State;
 pub use state::head_in;
 pub use state::state_of;

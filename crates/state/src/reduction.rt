@@ -8,20 +8,17 @@ use answers::Outcome;
 use cause::Cause;
 use head::Head;
 use head::Rows;
+use head::whole;
 use soundness::sound_parts;
 use step_choice::Judgement;
-use step_choice::Pair;
 use step_choice::judge;
-use step_choice::next_pair;
+use step_reduce::reduce_sound;
 use step_rules::step;
-ghost use mathlib.Core.Bool.{true};
 ghost use mathlib.Core.Path.{_≡_};
-ghost use Rattle.network.specs.Reduction.{reduce};
-ghost use Rattle.head.specs.Held.{RowsShaped, held, soundIn};
 ghost use Rattle.state.specs.View.{stateOf};
 ghost use Rattle.answers.specs.Answers.{outcomeNumber};
 ghost use Rattle.state.specs.Answers.{told};
-ghost use Rattle.state.specs.Steps.{stepRefusal, stepped, reducedAs, reduced};
+ghost use Rattle.state.specs.Steps.{stepRefusal, stepped, reduced};
 ghost use Rattle.state.specs.Worked.{workedTold};
 
 // What a step or a reduction makes of the head, and its count.
@@ -46,7 +43,6 @@ fn refuse_step(head: Head, rows: &Rows, leader: usize, follower: usize) -> Outco
 
 // One follow step. A refusal comes before anything is stored.
 pub fn eliminate_parts(head: Head, rows: &mut Rows, leader: usize, follower: usize) -> Worked
-    requires { ⌜ RowsShaped (now rows) ⌝ }
     ensures { λ r. ⌜ workedTold r (now (rows .exit)) ≡ stepped (stateOf head (now (rows .entry))) leader follower ⌝ }
 {
     let outcome = refuse_step(head, rows, leader, follower);
@@ -57,6 +53,8 @@ pub fn eliminate_parts(head: Head, rows: &mut Rows, leader: usize, follower: usi
             head,
         };
     };
+    let given = *rows;
+    whole(given);
     let after = step(head, rows, leader - 1, follower - 1);
     Worked {
         outcome,
@@ -65,30 +63,8 @@ pub fn eliminate_parts(head: Head, rows: &mut Rows, leader: usize, follower: usi
     }
 }
 
-// The full reduction of a sound state: "repeats until no step is legal".
-pub fn reduce_sound(head: Head, rows: &mut Rows) -> Worked
-    requires { ⌜ RowsShaped (now rows) × (soundIn head (now rows) ≡ true) ⌝ }
-    ensures { λ r. ⌜ workedTold r (now (rows .exit)) ≡ reducedAs (reduce (held head (now (rows .entry)))) ⌝ }
-{
-    let mut cut = head;
-    let mut steps: usize = 0;
-    loop {
-        let pair = next_pair(cut, rows);
-        let Pair::Found(i, j) = pair else {
-            return Worked {
-                outcome: Outcome::Done,
-                steps,
-                head: cut,
-            };
-        };
-        cut = step(cut, rows, i, j);
-        steps += 1;
-    }
-}
-
 // The full reduction. A refusal comes before anything is stored.
 pub fn reduce_parts(head: Head, rows: &mut Rows) -> Worked
-    requires { ⌜ RowsShaped (now rows) ⌝ }
     ensures { λ r. ⌜ workedTold r (now (rows .exit)) ≡ reduced (stateOf head (now (rows .entry))) ⌝ }
 {
     if !sound_parts(head, rows) {
@@ -98,7 +74,15 @@ pub fn reduce_parts(head: Head, rows: &mut Rows) -> Worked
             head,
         };
     }
-    reduce_sound(head, rows)
+    let given = *rows;
+    whole(given);
+    let cut = reduce_sound(head, rows);
+    let left = cut.head;
+    Worked {
+        outcome: Outcome::Done,
+        steps: cut.steps,
+        head: left,
+    }
 }
 
 // "It hands back the state and the number of steps".

@@ -8,12 +8,12 @@ use answers::Outcome;
 use cause::Cause;
 use head::Head;
 use head::Rows;
+use head::whole;
 use soundness::sound_parts;
 use step_add::TableJudgement;
 use step_add::add;
 use step_add::judge_table;
 ghost use mathlib.Core.Path.{_≡_};
-ghost use Rattle.head.specs.Held.{RowsShaped};
 ghost use Rattle.state.specs.View.{stateOf};
 ghost use Rattle.answers.specs.Answers.{outcomeNumber};
 ghost use Rattle.state.specs.Answers.{told};
@@ -35,7 +35,6 @@ fn refuse_table(head: Head, rows: &Rows, first: usize, second: usize, table: &[u
 
 // One table. A refusal comes before anything is stored.
 pub fn add_parts(head: Head, rows: &mut Rows, first: usize, second: usize, table: &[u32]) -> Worked
-    requires { ⌜ RowsShaped (now rows) ⌝ }
     ensures { λ r. ⌜ workedTold r (now (rows .exit)) ≡ tableAdded (stateOf head (now (rows .entry))) first second (now (table .entry)) ⌝ }
 {
     let outcome = refuse_table(head, rows, first, second, table);
@@ -46,6 +45,8 @@ pub fn add_parts(head: Head, rows: &mut Rows, first: usize, second: usize, table
             head,
         };
     };
+    let given = *rows;
+    whole(given);
     let after = add(head, rows, first - 1, second - 1, table);
     Worked {
         outcome,

@@ -87,7 +87,7 @@ module _ (bytes : List ℕ) (a : ReadParts) (rows : List ℕ) (e : readPartsTold
   unfolding readNumber
   cut-read octets h = rw told-state (read-sound bytes octets (sym told-number ∙ ap readNumber h))
 
-  module _ (r : AsRead stateRead) (b : Told) (f : b ≡ reducedAs (reduce (view stateRead))) where
+  module _ (r : AsRead stateRead) {b : Told} (f : b ≡ reducedAs (reduce (view stateRead))) where
     told-reduced : b ≡ reduced stateRead
     told-reduced = f ∙ sym (reduced-done stateRead (r .is-sound))
 
@@ -99,12 +99,12 @@ module _ (bytes : List ℕ) (a : ReadParts) (rows : List ℕ) (e : readPartsTold
     cut-sound = kept .kept-sound (r .is-sound)
 
     -- and its verdict is that of the reduced state.
-    pub cut-accepted : (v : VerdictTold) → v ≡ verdictOf (b .state)
+    pub cut-accepted : {v : VerdictTold} → v ≡ verdictOf (b .state)
         → _≡_ {A = CutTold}
         (record { number = readNumber (a .outcome); place = readPlace (a .outcome); state = b .state; steps = b .steps; verdict = v })
         (cutSheet bytes)
     unfolding cutAs cutSheet readPartsTold
-    cut-accepted v g =
+    cut-accepted g =
         (λ z. record { number = readNumber (a .outcome); place = readPlace (a .outcome); state = b .state; steps = b .steps; verdict = g z })
         ∙ ap (cutAs (readPartsTold a rows)) told-reduced
         ∙ ap (λ (x : ReadTold). cutAs x (reduced (x .state))) e

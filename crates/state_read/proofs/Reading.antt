@@ -56,25 +56,25 @@ read-head s n sizes stated rows e H =
       stated = H .stated-are i;
     }
 
-module _ (bytes sizes stated rows : List ℕ) (r : Read) (R : SheetRead (parse bytes) sizes stated rows r) where
+module _ (bytes : List ℕ) {sizes stated rows : List ℕ} {r : Read} (R : SheetRead (parse bytes) sizes stated rows r) where
   -- An accepted sheet: the state of the arrays is the one of its network.
-  pub read-accepted : (n next : ℕ) → r ≡ Value n next
+  pub read-accepted : {n next : ℕ} → r ≡ Value n next
       → readPartsTold (record { outcome = readOutcome.Accepted; head = headRead n sizes stated }) rows ≡ readSheet bytes
   unfolding readSheet readAs readPartsTold readNumber readPlace pack
-  read-accepted n next e =
+  read-accepted {n} {next} e =
       let H = R .holds n next e in
       rw (as-got _ r _ n next (R .parsed) e)
       (λ i. record { number = 0; place = 0; state = stateOf (read-head (R .sheet) n sizes stated rows (R .count-is n next e) H i) (H .rows-are i) })
 
   -- A refused one: its number, its place and the zero state.
-  pub read-refused : (c : Cause) (at : ℕ) → r ≡ Refused c at
+  pub read-refused : {c : Cause} {at : ℕ} → r ≡ Refused c at
       → readPartsTold (record { outcome = readOutcome.Refused c at; head = zeroHead }) zeroRows ≡ readSheet bytes
   unfolding readSheet readAs readPartsTold readNumber readPlace zeroState
-  read-refused c at e = rw (as-bad _ r _ c at (R .parsed) e)
+  read-refused {c} {at} e = rw (as-bad _ r _ c at (R .parsed) e)
 
   -- The sizes of an accepted sheet are small.
-  pub read-sizes : Octets bytes → (n next : ℕ) → r ≡ Value n next → (i : ℕ) → getD sizes i 0 ≤ mostValues
-  read-sizes octets n next e i =
+  pub read-sizes : Octets bytes → {n next : ℕ} → r ≡ Value n next → (i : ℕ) → getD sizes i 0 ≤ mostValues
+  read-sizes octets {n} {next} e i =
       let is : sizes ≡ tabulate variables (networkOf (R .sheet) .size) = R .holds n next e .sizes-are in
       by-cases (ltb i variables)
       (λ t. let b : getD sizes i 0 ≡ networkOf (R .sheet) .size i

@@ -1,5 +1,5 @@
 -- "A version 1 sheet gives the state it gave before, number for number." Before there was version 1 alone, no sheet was longer than 4,101 bytes, and a
--- list, a word of stated pairs and a row had 16 bits.
+-- domain, a word of stated pairs and a row had 16 bits.
 use mathlib.Core.List.{List, [], _∷_}
 use mathlib.Core.Path.{_≡_}
 use Prim.Native.Nat.{ℕ, _≤_, _<_}
@@ -17,8 +17,8 @@ use Rattle.state.specs.Read.{readAs, readSheet}
 unfoldable pub parseBefore : List ℕ → Parse Sheet
 parseBefore bytes = parseUnder 4101 (version1 ∷ []) bytes
 
--- The numbers of a state are those of a network in words of w bits: each size, list, leader and word of stated pairs, and each row, by option, option and
--- value. Values at or above w have no row.
+-- The numbers of a state are those of a network in words of w bits: each size, domain, leader and word of stated pairs, and each row, by variable,
+-- variable and value. Values at or above w have no row.
 pub record InWordsOf (w : ℕ) (N : Network) (s : State) : Type 0 where
   pub n-is : s .n ≡ N .n
   pub sizes-are : (i : ℕ) → i < variables → getD (s .sizes) i 0 ≡ N .size i

@@ -8,7 +8,7 @@ use lib.ListN.{length, getD, replicate, getD-replicate}
 use borrow.Author.Tests.{eq-eqb}
 use Rattle.bounded.specs.Bool.{implies}
 use Rattle.bounded.specs.Fold.{first}
-use Rattle.bounded.proofs.Bool.{and-i, implies-e, implies-true, if-true, if-false}
+use Rattle.bounded.proofs.Bool.{clash, and-i, implies-e, implies-true, if-true, if-false}
 use Rattle.bounded.proofs.Fold.{every-e, every-cong, first-widen}
 use Rattle.bounded.proofs.Table.{is-table}
 use Rattle.words.specs.Word.{width, has}
@@ -23,7 +23,7 @@ use Rattle.head.proofs.Held.{held-sound, held-n, held-size}
 use Rattle.state.specs.View.{headIn, view, soundState}
 use Rattle.answers.specs.Answers.{says, refuses}
 use Rattle.state.specs.Solutions.{valuesOf, tested, completeNumber, completedBuffer}
-use Rattle.solutions.specs.Choices.{valuesBelow, valueKept, valuesKept, pairKept, sideKept, pairsKept, partnerOf, valueCompleted, Led, Completed}
+use Rattle.solutions.specs.Choices.{valuesBelow, valueKept, valuesKept, pairKept, sideKept, pairsKept, Mirrored, partnerOf, valueCompleted, Led, Completed}
 use Rattle.state.specs.declared.state.State.{State}
 use Rattle.bounded.proofs.Bool.{and-fails, and-holds}
 use Rattle.solutions.proofs.Choices.{completed-live, completed-follower}
@@ -31,6 +31,11 @@ use Rattle.state.proofs.Solutions.{build-unsound, build-not-n, build-own, teste
 
 implies-same : (a b c : Bool) → a ≡ b → implies a c ≡ implies b c
 implies-same a b c e = rw e
+
+-- "no option is paired with itself", and "a pair seen from its two options says the same"
+pub mirrored : (s : State) → HeadShaped (headIn s) → soundState s ≡ true → Mirrored (s .stated)
+unfolding held
+mirrored s shaped t i j u = let S = held-sound (headIn s) (s .rows) shaped t in (λ e. clash (rw e at u) (S .no-self j), sym (S .stated-sym i j) ∙ u)
 
 -- ---- the tester
 
@@ -110,7 +115,7 @@ module _ (s : State) (build : List ℕ) where
   complete-16 h k v p =
       complete-number 15 (build-own s build _ h k ∙ refused-16 (view s) (valuesOf build) (sym kept-choice ∙ v) (sym kept-choice-pairs ∙ p))
 
--- From a choice whose values are in their lists, what is completed on the arrays is what the network completes.
+-- From a choice whose values are in their domains, what is completed on the arrays is what the network completes.
 module _ (s : State) (h : HeadShaped (headIn s)) (t : soundState s ≡ true) (build : List ℕ)
     (choice : (i : ℕ) → i < s .n → free (view s) i ≡ true → view s .domain i (getD build i 0) ≡ true) where
   leader-choice : (i l : ℕ) → getD (s .leaders) i 0 ≡ suc l → has (getD (s .domains) l 0) (getD build l 0) ≡ true

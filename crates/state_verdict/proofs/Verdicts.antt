@@ -55,7 +55,7 @@ module _ (s : State) (h : HeadShaped (headIn s)) (t : soundState s ≡ true) whe
       (λ x. clash (every-i (s .n) _ (λ i l. implies-i _ _ (λ f. not-i _ (ne-eqb (getD (s .domains) i 0) 0
       (λ e. some-e _ _ (not-exhausted (view s) x i l f) (λ v _ m. clash m (ap (λ (d : ℕ). has d v) e ∙ has-zero v))))))) o)
 
-  -- No build is shown with NONE or OPEN.
+  -- No solution is shown with NONE or OPEN.
   zeros : (verdict (view s) ≡ BUILT → ⊥) → replicate variables 0 ≡ tabulate variables (shown (view s))
   zeros v = is-table variables _ (replicate variables 0) 0 (length-replicate {A = ℕ} variables 0) (λ i l. getD-replicate variables i 0 0 l ∙ sym (shown-zero (view s) i v))
 
@@ -90,7 +90,7 @@ module _ (s : State) (h : HeadShaped (headIn s)) (t : soundState s ≡ true) whe
     pub lowest-led : Led (s .n) (s .leaders) (tabulate variables (lowestOf (s .n) (s .domains)))
     lowest-led = choice-led s h t _ lowest-choice (omega (arith, held-n _ (s .rows) t, length-tabulate variables (lowestOf (s .n) (s .domains))))
 
-    -- Completed, they are the lowest build.
+    -- Completed, they are the lowest solution.
     build-is : (i : ℕ) → i < s .n → completed (view s) (valuesOf (tabulate variables (lowestOf (s .n) (s .domains)))) i ≡ lowestSolution (view s) i
     unfolding lowestSolution valuesOf held
     build-is i m =

@@ -47,24 +47,23 @@ module _ (s : State) (h : HeadShaped (headIn s)) (t : soundState s ≡ true) whe
       every-cong (s .n) _ _ (λ i _. ap (and (eqb (getD (s .leaders) i 0) 0))
       (full-domain _ _ (h .domains-array .element-lt i) (let m = held-size _ (s .rows) h t i in omega arith) (held-sound _ _ h t .domain-in i)))
 
--- What a way through the call answers and leaves in the buffer.
-module _ (version : ℕ) (s : State) (buffer : List ℕ) where
-  -- A refusal answers its number and leaves the buffer.
-  pub refused-told : (c : Cause) → writeRefusal version s (length buffer) ≡ numberOf c
-      → (writeTold (writeAnswer.Refused c) ≡ writeSheet version s buffer .answer) × (buffer ≡ writeSheet version s buffer .buffer)
-  unfolding writeTold
-  refused-told c e =
-      let w = wrote-nothing version s buffer (numberOf c) e (number-positive c) in
-      (sym (ap (λ (r : Wrote). r .answer) w), sym (ap (λ (r : Wrote). r .buffer) w))
+-- What a way through the call answers and leaves in the buffer. A refusal answers its number and leaves the buffer.
+pub refused-told : (version : ℕ) (s : State) {buffer : List ℕ} (c : Cause) → writeRefusal version s (length buffer) ≡ numberOf c
+    → (writeTold (writeAnswer.Refused c) ≡ writeSheet version s buffer .answer) × (buffer ≡ writeSheet version s buffer .buffer)
+unfolding writeTold
+refused-told version s {buffer} c e =
+    let w = wrote-nothing version s buffer (numberOf c) e (number-positive c) in
+    (sym (ap (λ (r : Wrote). r .answer) w), sym (ap (λ (r : Wrote). r .buffer) w))
 
-  -- Otherwise the bytes are written, and their length is answered.
-  pub written-told : (k : ℕ) (after : List ℕ) → soundState s ≡ true → fresh (view s) ≡ true → fitsVersion (layoutOf version) (view s) ≡ true
-      → rowsPass (layoutOf version) (view s) ≡ true
-      → length (bytesHeld version (headIn s) (s .rows)) ≤ length buffer
-      → k ≡ length (bytesHeld version (headIn s) (s .rows))
-      → after ≡ bytesHeld version (headIn s) (s .rows) ++ drop (length (bytesHeld version (headIn s) (s .rows))) buffer
-      → (writeTold (writeAnswer.Length k) ≡ writeSheet version s buffer .answer) × (after ≡ writeSheet version s buffer .buffer)
-  unfolding writeTold bytesHeld sheetBytes
-  written-told k after t f v p l e a =
-      let w = wrote version s buffer (write-accepted version s (length buffer) t f v p l) in
-      (rw e (sym (ap (λ (r : Wrote). r .answer) w)), a ∙ sym (ap (λ (r : Wrote). r .buffer) w))
+-- Otherwise the bytes are written, and their length is answered.
+pub written-told : (version : ℕ) (s : State) (buffer : List ℕ) {k : ℕ} {after : List ℕ} → soundState s ≡ true → fresh (view s) ≡ true
+    → fitsVersion (layoutOf version) (view s) ≡ true
+    → rowsPass (layoutOf version) (view s) ≡ true
+    → length (bytesHeld version (headIn s) (s .rows)) ≤ length buffer
+    → k ≡ length (bytesHeld version (headIn s) (s .rows))
+    → after ≡ bytesHeld version (headIn s) (s .rows) ++ drop (length (bytesHeld version (headIn s) (s .rows))) buffer
+    → (writeTold (writeAnswer.Length k) ≡ writeSheet version s buffer .answer) × (after ≡ writeSheet version s buffer .buffer)
+unfolding writeTold bytesHeld sheetBytes
+written-told version s buffer t f v p l e a =
+    let w = wrote version s buffer (write-accepted version s (length buffer) t f v p l) in
+    (rw e (sym (ap (λ (r : Wrote). r .answer) w)), a ∙ sym (ap (λ (r : Wrote). r .buffer) w))

@@ -5,10 +5,10 @@ use head::Head;
 use head::Rows;
 use solutions::fresh_parts;
 use soundness::sound_parts;
+use write_sheet::extent_of;
 use write_sheet::fits_version;
 use write_sheet::fixed_by;
 use write_sheet::rows_pass;
-use write_sheet::sheet_length;
 use write_sheet::write_into;
 ghost use mathlib.Core.Path.{_≡_};
 ghost use Rattle.answers.specs.Answers.{writeTold};
@@ -29,7 +29,8 @@ pub fn write_parts(head: Head, rows: &Rows, version: usize, buffer: &mut [u8]) -
     let fits = fits_version(version, n, &head.sizes);
     let passes = rows_pass(head, rows, version);
     let bytes = fixed_by(version).bytes;
-    let length = sheet_length(bytes, n, &head.sizes, &head.stated);
+    let extent = extent_of(bytes, n, &head.sizes, &head.stated);
+    let length = extent.length;
     if !fresh {
         return WriteAnswer::Refused(Cause::NotFresh);
     }
@@ -42,5 +43,5 @@ pub fn write_parts(head: Head, rows: &Rows, version: usize, buffer: &mut [u8]) -
     if buffer.len() < length {
         return WriteAnswer::Refused(Cause::BufferLength);
     }
-    WriteAnswer::Length(write_into(head, rows, version, buffer))
+    WriteAnswer::Length(write_into(head, rows, version, extent, buffer))
 }

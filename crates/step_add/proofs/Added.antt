@@ -89,9 +89,9 @@ module _ {h : Head} {rows : List ℕ} {x y : ℕ} {table : List ℕ} (G : Given 
       (sym (rows-of-held h rows (G .rows-shaped)))
 
   -- Two: their pair is stated, and cut.
-  abbrev Cuts : Side → Side → Type 0
-  Cuts s r =
-      (was : Bool) (one two u v : ℕ) (after : List ℕ) → (s .leader ≡ r .leader → ⊥)
+  abbrev Cuts : Side → Side → Bool → (one two u v : ℕ) → List ℕ → Type 0
+  Cuts s r was one two u v after =
+      (s .leader ≡ r .leader → ⊥)
       → was ≡ has (getD (h .stated) (s .leader) 0) (r .leader)
       → Stored width rows after (s .leader) (r .leader) (cutAt width rows table s r was) width
       → one ≡ word width (λ (w : ℕ). eqb w (r .leader)) → u ≡ word width (λ (w : ℕ). or (has (getD (h .stated) (s .leader) 0) w) (has one w))
@@ -99,12 +99,12 @@ module _ {h : Head} {rows : List ℕ} {x y : ℕ} {table : List ℕ} (G : Given 
       → AddedTo h rows x y table
       (record { n = h .n; sizes = h .sizes; domains = h .domains; leaders = h .leaders; stated = set (set (h .stated) (s .leader) u) (r .leader) v }) after
 
-  cuts : Cuts (sideOf h x) (sideOf h y)
+  cuts : {was : Bool} {one two u v : ℕ} {after : List ℕ} → Cuts (sideOf h x) (sideOf h y) was one two u v after
   unfolding sideOf leaderOf traced free held
-  cuts was one two u v after d we st oe ue te ve =
+  cuts d we st oe ue te ve =
       made (constrained (held h rows) (traced (held h rows) x) (traced (held h rows) y) (allowsPartners (held h rows) x y table)) (added-two (held h rows) x y table d)
       (constrained-head h rows (G .shaped) _ _ _ (first-in .1) (second-in .1) d oe ue te ve)
-      (constrained-rows h rows _ (G .shaped) (G .is-sound) (G .rows-shaped) _ _ d _ _ st (λ a b. cut-is h rows (G .shaped) (G .is-sound) x y table _ a b we))
+      (constrained-rows h rows (G .shaped) (G .is-sound) (G .rows-shaped) d _ st (λ a b. cut-is h rows (G .shaped) (G .is-sound) x y table _ a b we))
 
   module _ {s r : Side} (se : s ≡ sideOf h x) (re : r ≡ sideOf h y) where
     pub sides-apart : (s .leader ≡ r .leader → ⊥) → Apart s r
@@ -121,5 +121,5 @@ module _ {h : Head} {rows : List ℕ} {x y : ℕ} {table : List ℕ} (G : Given 
     pub added-same : Trims s r
     added-same = rw (se, re) trims
 
-    pub added-apart : Cuts s r
+    pub added-apart : {was : Bool} {one two u v : ℕ} {after : List ℕ} → Cuts s r was one two u v after
     added-apart = rw (se, re) cuts

@@ -10,7 +10,7 @@ use lib.ListN.{length, getD}
 use borrow.Author.Tests.{eq-eqb, ne-eqb, eqb-false, ltb-false}
 use Rattle.bounded.specs.Bool.{or, implies, not, if}
 use Rattle.bounded.specs.Fold.{every}
-use Rattle.bounded.proofs.Bool.{clash, not-true→false, and-i, and-r, and-fails, or-l, or-r, or-false-i, or-false-l, or-false-r, if-true, if-false}
+use Rattle.bounded.proofs.Bool.{clash, not-true→false, and-i, and-r, and-fails, or-false-i, or-false-l, or-false-r, if-false}
 use Rattle.bounded.proofs.Fold.{every-i, every-e}
 use Rattle.words.specs.Word.{has}
 use Rattle.words.proofs.Laws.{within-every}
@@ -30,34 +30,24 @@ module _ (table : List ℕ) (size other : ℕ) where
   unfolding rowsWithin
   wrong-count d = sym (and-fails _ _ (ne-eqb _ _ d))
 
-  pub wrong-row : (c : ℕ) → c < length table → ltb (getD table c 0) (2 ^ other) ≡ false → false ≡ rowsWithin table size other
+  pub wrong-row : {c : ℕ} → c < length table → ltb (getD table c 0) (2 ^ other) ≡ false → false ≡ rowsWithin table size other
   unfolding rowsWithin
-  wrong-row c l f = sym (not-true→false _ (λ t. clash (every-e _ _ (and-r _ _ t) c l) f))
+  wrong-row {c} l f = sym (not-true→false _ (λ t. clash (every-e _ _ (and-r _ _ t) c l) f))
 
   pub right-rows : length table ≡ size → ((c : ℕ) → c < length table → ltb (getD table c 0) (2 ^ other) ≡ true) → true ≡ rowsWithin table size other
   unfolding rowsWithin
   right-rows e h = sym (and-i _ _ (eq-eqb _ _ e) (every-i _ _ h))
 
--- The numbers, each where its test is the first to hold.
-module _ (N : Network) (first second : ℕ) (table : List ℕ) where
-  pub first-outside : outside N first ≡ true → 10 ≡ addRefusal N first second table
-  unfolding addRefusal
-  first-outside t = sym (if-true _ _ _ (or-l _ _ t))
-
-  pub second-outside : outside N second ≡ true → 10 ≡ addRefusal N first second table
-  unfolding addRefusal
-  second-outside t = sym (if-true _ _ _ (or-r _ _ t))
-
-  -- Past these two the numbers and the rows decide, by the sizes of the variables named.
-  pub rest-decides : {k l r : ℕ} {f : Bool} → outside N first ≡ false → outside N second ≡ false
-      → k ≡ N .size (first - 1) → l ≡ N .size (second - 1) → f ≡ rowsWithin table k l
-      → r ≡ if (eqb first second) 21 (if (not f) 22 0) → r ≡ addRefusal N first second table
-  unfolding addRefusal rowsFit rowsWithin
-  rest-decides a b ke le fe e =
-      e
-      ∙ ap (λ (b : Bool). if (eqb first second) 21 (if (not b) 22 0))
-      (fe ∙ ap₂ (rowsWithin table) (ke ∙ ap (N .size) (sub-one first)) (le ∙ ap (N .size) (sub-one second)))
-      ∙ sym (if-false _ _ _ (or-false-i _ _ a b))
+-- Past the two numbers that are outside, the numbers and the rows decide, by the sizes of the variables named.
+pub rest-decides : (N : Network) (first second : ℕ) (table : List ℕ) {k l r : ℕ} {f : Bool} → outside N first ≡ false → outside N second ≡ false
+    → k ≡ N .size (first - 1) → l ≡ N .size (second - 1) → f ≡ rowsWithin table k l
+    → r ≡ if (eqb first second) 21 (if (not f) 22 0) → r ≡ addRefusal N first second table
+unfolding addRefusal rowsFit rowsWithin
+rest-decides N first second table a b ke le fe e =
+    e
+    ∙ ap (λ (b : Bool). if (eqb first second) 21 (if (not b) 22 0))
+    (fe ∙ ap₂ (rowsWithin table) (ke ∙ ap (N .size) (sub-one first)) (le ∙ ap (N .size) (sub-one second)))
+    ∙ sym (if-false _ _ _ (or-false-i _ _ a b))
 
 -- A number that is not outside.
 pub numbered : (n x : ℕ) → or (eqb x 0) (ltb n x) ≡ false → (1 ≤ x) × (x ≤ n)

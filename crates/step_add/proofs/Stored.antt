@@ -16,7 +16,7 @@ use Rattle.bounded.proofs.Bool.{by-cases, bool-ext, and-i, and-l, and-r, or-l, 
 use Rattle.bounded.proofs.Fold.{is-or-not}
 use Rattle.bounded.proofs.Table.{is-table, getD-set}
 use Rattle.words.specs.Word.{width, has, word}
-use Rattle.words.proofs.Laws.{has-word, is-word, word-cong, word-lt}
+use Rattle.words.proofs.Laws.{has-word, has-ruled, is-word, word-cong, word-lt}
 use Rattle.network.specs.Network.{Network}
 use Rattle.network.specs.Lists.{narrowed}
 use Rattle.network.specs.Added.{cutPair, constrained}
@@ -55,7 +55,7 @@ marked g f q own others =
 put-in : (s q : ℕ) (f : ℕ → Bool) {one r : ℕ} → one ≡ word width (λ (u : ℕ). eqb u q) → r ≡ word width (λ (u : ℕ). or (has s u) (has one u))
     → f q ≡ true → ((v : ℕ) → (v ≡ q → ⊥) → f v ≡ has s v) → r ≡ word width f
 put-in s q f {one} oe e own others =
-    e ∙ word-cong width _ _ (λ v l. ap (or (has s v)) (ap (λ (n : ℕ). has n v) oe ∙ has-word width _ v l) ∙ marked (has s) f q own others v)
+    e ∙ word-cong width _ _ (λ v l. ap (or (has s v)) (has-ruled width _ oe v l) ∙ marked (has s) f q own others v)
 
 module _ (h : Head) (rows : List ℕ) (S : HeadShaped h) where
   back : headOf (held h rows) ≡ h
@@ -142,8 +142,8 @@ pair-or-other p q P pq qp rest u v =
     neither p q t e f = clash (and-i _ _ (eq-eqb u p e) (eq-eqb v q f)) t
 
 -- The pair stored, seen from either side, and every other pair are as the network says.
-module _ (h : Head) (rows after : List ℕ) (S : HeadShaped h) (t : soundIn h rows ≡ true) (R : RowsShaped rows)
-    (p q : ℕ) (d : p ≡ q → ⊥) (f : ℕ → ℕ → Bool) (g : ℕ → ℕ → Bool) (st : Stored width rows after p q g width)
+module _ (h : Head) (rows : List ℕ) {after : List ℕ} (S : HeadShaped h) (t : soundIn h rows ≡ true) (R : RowsShaped rows)
+    {p q : ℕ} (d : p ≡ q → ⊥) (f : ℕ → ℕ → Bool) {g : ℕ → ℕ → Bool} (st : Stored width rows after p q g width)
     (g-is : (a b : ℕ) → g a b ≡ cutPair (held h rows) p q f a b (implies (held h rows .stated p q) (held h rows .allows p q a b))) where
   pub constrained-rows : after ≡ rowsOf width (constrained (held h rows) p q f .allows)
   unfolding held

@@ -15,7 +15,7 @@ use Rattle.bounded.proofs.Bool.{by-cases, clash, not-true→false, and-i, and-l
 use Rattle.bounded.proofs.Fill.{Filled, filled-none, filled-more}
 use Rattle.bounded.proofs.Table.{getD-tabulate, length-tabulate, is-table}
 use Rattle.words.specs.Word.{has, word}
-use Rattle.words.proofs.Laws.{empty, has-word, has-zero, is-word, word-cong, word-lt}
+use Rattle.words.proofs.Laws.{empty, has-word, has-ruled, has-zero, is-word, word-cong, word-lt}
 use Rattle.network.specs.Added.{tableAllows}
 use Rattle.pairs.specs.Frames.{Stored}
 use Rattle.pairs.proofs.Frames.{stored-turned, stored-cong}
@@ -55,32 +55,26 @@ module _ (w : ℕ) {table rows : List ℕ} where
 -- ---- a column
 
 -- The one member of a word is in another where the two have a common member.
-pub holds-is : (w x d one r : ℕ) → d < w → one ≡ word w (λ (u : ℕ). eqb u d) → r ≡ word w (λ (u : ℕ). and (has x u) (has one u)) → not (eqb r 0) ≡ has x d
-holds-is w x d one r l oe re =
+pub holds-is : (w x : ℕ) {d one r : ℕ} → d < w → one ≡ word w (λ (u : ℕ). eqb u d) → r ≡ word w (λ (u : ℕ). and (has x u) (has one u)) → not (eqb r 0) ≡ has x d
+holds-is w x {d} {r} l oe re =
     by-cases (has x d)
     (λ t. ap not (ne-eqb r 0 (λ z. clash (at d l ∙ and-i _ _ t (eq-eqb d d refl)) (ap (λ (n : ℕ). has n d) z ∙ has-zero d))) ∙ sym t)
     (λ t. ap not (eq-eqb r 0 (empty w r (rw re (word-lt w _)) (λ v k. at v k ∙ not-true→false _ (λ u.
     clash (ap (has x) (sym (eqb-true v d (and-r _ _ u))) ∙ and-l _ _ u) t)))) ∙ sym t)
   where
     at : (v : ℕ) → v < w → has r v ≡ and (has x v) (eqb v d)
-    at v k = ap (λ (n : ℕ). has n v) re ∙ has-word w _ v k ∙ ap (and (has x v)) (ap (λ (n : ℕ). has n v) oe ∙ has-word w _ v k)
+    at v k = has-ruled w _ re v k ∙ ap (and (has x v)) (has-ruled w _ oe v k)
 
-module _ (w domain : ℕ) (rows : List ℕ) (d : ℕ) where
-  -- Outside the domain it is empty,
-  pub column-none : has domain d ≡ false → 0 ≡ word w (columnAt domain rows d)
-  unfolding columnAt
-  column-none f = is-word w 0 _ (pow-pos w) (λ c _. has-zero c ∙ sym (and-fails _ _ f))
-
-  -- and within it the bit of each row decides.
-  pub column-some : (c : ℕ) (t : Bool) → has domain d ≡ true → t ≡ has (getD rows c 0) d → t ≡ columnAt domain rows d c
-  unfolding columnAt tableAllows
-  column-some c t h e = e ∙ sym (and-holds _ _ h)
+-- Outside the domain it is empty.
+pub column-none : (w domain : ℕ) (rows : List ℕ) (d : ℕ) → has domain d ≡ false → 0 ≡ word w (columnAt domain rows d)
+unfolding columnAt
+column-none w domain rows d f = is-word w 0 _ (pow-pos w) (λ c _. has-zero c ∙ sym (and-fails _ _ f))
 
 -- The rows say what the table says.
-pub column-of : (w domain : ℕ) (table rows : List ℕ) (d r : ℕ) → rows ≡ tabulate w (λ (c : ℕ). getD table c 0) → r ≡ word w (columnAt domain rows d)
-    → r ≡ word w (columnAt domain table d)
+pub column-of : (w domain : ℕ) (table : List ℕ) {rows : List ℕ} (d : ℕ) {r : ℕ} → rows ≡ tabulate w (λ (c : ℕ). getD table c 0)
+    → r ≡ word w (columnAt domain rows d) → r ≡ word w (columnAt domain table d)
 unfolding columnAt tableAllows
-column-of w domain table rows d r e h =
+column-of w domain table d e h =
     h ∙ word-cong w _ _ (λ c l. ap (λ (n : ℕ). and (has domain d) (has n d)) (ap (λ (k : List ℕ). getD k c 0) e ∙ getD-tabulate w _ c 0 l))
 
 module _ (w domain : ℕ) (table : List ℕ) where
@@ -95,12 +89,12 @@ module _ (w domain : ℕ) (table : List ℕ) where
   turned-allows c d k l h = ap (λ (x : ℕ). has x c) (getD-tabulate w _ d 0 l) ∙ has-word w _ c k ∙ and-holds _ _ h
 
 -- What is stored from the second leader by the turned table is what the table says from the first.
-module _ (w : ℕ) (s t : Side) where
+module _ (w : ℕ) {s t : Side} where
   pub apart-turned : Apart s t → Apart t s
   apart-turned A = record { leaders-apart = λ e. A .leaders-apart (sym e); first-apart = A .second-apart; second-apart = A .first-apart }
 
-  pub cut-turned : (before after table columns : List ℕ) (was : Bool) → Turns w before table s t → columns ≡ turnedOf w (t .domain) table
+  pub cut-turned : {before after table columns : List ℕ} (was : Bool) → Turns w before table s t → columns ≡ turnedOf w (t .domain) table
       → Stored w before after (t .leader) (s .leader) (cutAt w before columns t s was) w
       → Stored w before after (s .leader) (t .leader) (cutAt w before table s t was) w
-  cut-turned before after table columns was T e st =
-      stored-cong w before after _ _ _ _ w (stored-turned w before after _ _ _ (rw e at st)) (λ a b _ _ _. T .cut-same was a b)
+  cut-turned {before} {after} was T e st =
+      stored-cong w before after w (stored-turned w (rw e at st)) (λ a b _ _ _. T .cut-same was a b)

@@ -90,7 +90,7 @@ fn kept(rows: &Rows, table: &[u32], first: Side, second: Side) -> u32
     members
 }
 
-// Adds the table of `x` and `y`, counted from 0. With one leader its list is trimmed; else the pair of the two is stated and cut, where its rows are.
+// Adds the table of `x` and `y`, counted from 0. With one leader its domain is trimmed; else the pair of the two is stated and cut, where its rows are.
 pub fn add(mut head: Head, rows: &mut Rows, x: usize, y: usize, table: &[u32]) -> Head
     requires { ⌜ (soundIn head (now rows) ≡ true) × RowsShaped (now rows) × (addRefusal (held head (now rows)) (suc x) (suc y) (now table) ≡ 0) ⌝ }
     ensures { λ r. ⌜ AddedTo head (now (rows .entry)) x y (now (table .entry)) r (now (rows .exit)) ⌝ }

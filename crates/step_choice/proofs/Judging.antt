@@ -1,4 +1,4 @@
--- Judging a step: each test that comes first decides its number, and the ones of row AND list decide whether a pair is functional.
+-- Judging a step: each test that comes first decides its number, and the ones of row AND domain decide whether a pair is functional.
 use mathlib.Core.Bool.{Bool, true, false}
 use mathlib.Core.List.{List}
 use mathlib.Core.Path.{_≡_, refl, sym, ap, _∙_}
@@ -72,31 +72,29 @@ module _ (N : Network) (l f : ℕ) (named : Named (N .n) l f) where
   pair-decides d = rw (numbers-good, ne-eqb l f d)
 
 -- The same for a pair.
-module _ (leads follows stated single : Bool) where
-  pub leader-led : leads ≡ false → pairNumber leads follows stated single ≡ 11
+pub leader-led : {leads : Bool} (follows stated single : Bool) → leads ≡ false → pairNumber leads follows stated single ≡ 11
+unfolding pairNumber
+leader-led follows stated single t = if-true _ _ _ (or-l _ _ (not-i _ t))
+
+pub follower-led : (leads : Bool) {follows : Bool} (stated single : Bool) → follows ≡ false → pairNumber leads follows stated single ≡ 11
+unfolding pairNumber
+follower-led leads stated single t = if-true _ _ _ (or-r _ _ (not-i _ t))
+
+module _ {leads follows : Bool} (i-free : leads ≡ true) (j-free : follows ≡ true) where
+  both-free : or (not leads) (not follows) ≡ false
+  both-free = or-false-i _ _ (not-false-i _ i-free) (not-false-i _ j-free)
+
+  pub not-stated : {stated : Bool} (single : Bool) → stated ≡ false → pairNumber leads follows stated single ≡ 12
   unfolding pairNumber
-  leader-led t = if-true _ _ _ (or-l _ _ (not-i _ t))
+  not-stated single t = if-false _ _ _ both-free ∙ if-true _ _ _ (not-i _ t)
 
-  pub follower-led : follows ≡ false → pairNumber leads follows stated single ≡ 11
+  pub not-functional : {stated single : Bool} → stated ≡ true → single ≡ false → pairNumber leads follows stated single ≡ 13
   unfolding pairNumber
-  follower-led t = if-true _ _ _ (or-r _ _ (not-i _ t))
+  not-functional s t = if-false _ _ _ both-free ∙ if-false _ _ _ (not-false-i _ s) ∙ if-true _ _ _ (not-i _ t)
 
-  module _ (i-free : leads ≡ true) (j-free : follows ≡ true) where
-    both-free : or (not leads) (not follows) ≡ false
-    both-free = or-false-i _ _ (not-false-i _ i-free) (not-false-i _ j-free)
-
-    pub not-stated : stated ≡ false → pairNumber leads follows stated single ≡ 12
-    unfolding pairNumber
-    not-stated t = if-false _ _ _ both-free ∙ if-true _ _ _ (not-i _ t)
-
-    module _ (s : stated ≡ true) where
-      pub not-functional : single ≡ false → pairNumber leads follows stated single ≡ 13
-      unfolding pairNumber
-      not-functional t = if-false _ _ _ both-free ∙ if-false _ _ _ (not-false-i _ s) ∙ if-true _ _ _ (not-i _ t)
-
-      pub step-legal : single ≡ true → pairNumber leads follows stated single ≡ 0
-      unfolding pairNumber
-      step-legal t = if-false _ _ _ both-free ∙ if-false _ _ _ (not-false-i _ s) ∙ if-false _ _ _ (not-false-i _ t)
+  pub step-legal : {stated single : Bool} → stated ≡ true → single ≡ true → pairNumber leads follows stated single ≡ 0
+  unfolding pairNumber
+  step-legal s t = if-false _ _ _ both-free ∙ if-false _ _ _ (not-false-i _ s) ∙ if-false _ _ _ (not-false-i _ t)
 
 -- What the words of the variables i and j say of a step: the number that refuses it, and whether it is legal.
 abbrev pub numberAt : List ℕ → List ℕ → List ℕ → List ℕ → ℕ → ℕ → ℕ
@@ -116,8 +114,8 @@ module _ (N : Network) (S : Sound N) where
   unfolding pairRefusal
   own-pair i =
       by-cases (free N i)
-      (λ f. not-zero _ 12 (not-stated _ _ _ _ f f (S .no-self i)) (omega arith))
-      (λ f. not-zero _ 11 (leader-led _ _ _ _ f) (omega arith))
+      (λ f. not-zero _ 12 (not-stated f f _ (S .no-self i)) (omega arith))
+      (λ f. not-zero _ 11 (leader-led _ _ _ f) (omega arith))
 
   legal-pair : (i j : ℕ) → i < N .n → j < N .n → legal N i j ≡ eqb (pairRefusal N i j) 0
   unfolding legal
@@ -129,7 +127,7 @@ module _ (N : Network) (S : Sound N) where
       (sym (pair-decides N (suc i) (suc j) (record { l-some = omega arith; l-in = omega arith; f-some = omega arith; f-in = omega arith }) (λ e. d (ap pred e)))))
 
 -- The ones of row AND domain decide: in a sound network each domain lies within its size, so that counting all the values of a word counts no other.
-module _ (h : Head) (rows : List ℕ) (S : HeadShaped h) (t : soundIn h rows ≡ true) where
+module _ {h : Head} (rows : List ℕ) (S : HeadShaped h) (t : soundIn h rows ≡ true) where
   size-fits : (i : ℕ) → getD (h .sizes) i 0 ≤ width
   size-fits i = omega (arith, held-size h rows S t i)
 
@@ -155,16 +153,16 @@ module _ (h : Head) (rows : List ℕ) (S : HeadShaped h) (t : soundIn h rows ≡
   number-counted i j =
       ap (pairNumber (eqb (getD (h .leaders) i 0) 0) (eqb (getD (h .leaders) j 0) 0) (has (getD (h .stated) i 0) j)) (functional-counted i j)
 
-  pub refusal-counted : (l f : ℕ) → Named (h .n) l f → (l ≡ f → ⊥)
+  pub refusal-counted : {l f : ℕ} → Named (h .n) l f → (l ≡ f → ⊥)
       → numberAt (h .leaders) (h .domains) (h .stated) rows (l - 1) (f - 1) ≡ refusal (held h rows) l f
   unfolding held
-  refusal-counted l f named d = rw (sub-one l, sub-one f) (number-counted (pred l) (pred f) ∙ pair-decides (held h rows) l f named d)
+  refusal-counted {l} {f} named d = rw (sub-one l, sub-one f) (number-counted (pred l) (pred f) ∙ pair-decides (held h rows) l f named d)
 
   pub legal-counted : (i j : ℕ) → i < h .n → j < h .n → legal (held h rows) i j ≡ legalAt (h .leaders) (h .domains) (h .stated) rows i j
   unfolding held
   legal-counted i j l m = legal-pair (held h rows) (held-sound h rows S t) i j l m ∙ ap (λ (r : ℕ). eqb r 0) (sym (number-counted i j))
 
   -- and a pair that is stated is of two variables.
-  pub stated-apart : (i j : ℕ) → has (getD (h .stated) i 0) j ≡ true → i ≡ j → ⊥
+  pub stated-apart : {i j : ℕ} → has (getD (h .stated) i 0) j ≡ true → i ≡ j → ⊥
   unfolding held
-  stated-apart i j = stated-distinct (held h rows) (held-sound h rows S t) i j
+  stated-apart {i} {j} = stated-distinct (held h rows) (held-sound h rows S t) i j

@@ -33,8 +33,8 @@ unfolding judgedNumber
 judged-refused c k h = not-zero k _ (sym h) (number-positive c)
 
 -- A variable that is not free leads nobody.
-pub led-leads-none : (leader : ℕ) (follows stated single : Bool) → (leader ≡ 0 → ⊥) → eqb (pairNumber (eqb leader 0) follows stated single) 0 ≡ false
-led-leads-none leader follows stated single d = not-zero _ 11 (leader-led _ _ _ _ (ne-eqb leader 0 d)) (omega arith)
+pub led-leads-none : {leader : ℕ} (follows stated single : Bool) → (leader ≡ 0 → ⊥) → eqb (pairNumber (eqb leader 0) follows stated single) 0 ≡ false
+led-leads-none follows stated single d = not-zero _ 11 (leader-led _ _ _ (ne-eqb _ 0 d)) (omega arith)
 
 -- "the lowest i that has a legal j, with the lowest such j"
 module _ (N : Network) where
@@ -52,20 +52,20 @@ module _ (N : Network) where
   none-found h = sym (if-false _ _ _ (some-none (N .n) (leading N) h))
 
 -- The same on the words of a sound head and rows.
-module _ (h : Head) (rows : List ℕ) (S : HeadShaped h) (t : soundIn h rows ≡ true) where
+module _ {h : Head} (rows : List ℕ) (S : HeadShaped h) (t : soundIn h rows ≡ true) where
   leads-none : (x : ℕ) → x < h .n → ((y : ℕ) → y < h .n → legalAt (h .leaders) (h .domains) (h .stated) rows x y ≡ false)
       → leading (held h rows) x ≡ false
   unfolding held leading
-  leads-none x l none = some-none (h .n) _ (λ y m. legal-counted h rows S t x y l m ∙ none y m)
+  leads-none x l none = some-none (h .n) _ (λ y m. legal-counted rows S t x y l m ∙ none y m)
 
-  pub next-found : (i j : ℕ) → i < h .n → j < h .n → legalAt (h .leaders) (h .domains) (h .stated) rows i j ≡ true
+  pub next-found : {i j : ℕ} → i < h .n → j < h .n → legalAt (h .leaders) (h .domains) (h .stated) rows i j ≡ true
       → ((x : ℕ) → x < i → (y : ℕ) → y < h .n → legalAt (h .leaders) (h .domains) (h .stated) rows x y ≡ false)
       → ((y : ℕ) → y < j → legalAt (h .leaders) (h .domains) (h .stated) rows i y ≡ false)
       → pair.Found i j ≡ nextPair (held h rows)
-  next-found i j l m is above before =
-      found-first (held h rows) i j (legal-counted h rows S t i j l m ∙ is)
+  next-found {i} {j} l m is above before =
+      found-first (held h rows) i j (legal-counted rows S t i j l m ∙ is)
       (λ x k. leads-none x (omega arith) (above x k))
-      (λ y k. legal-counted h rows S t i y l (omega arith) ∙ before y k)
+      (λ y k. legal-counted rows S t i y l (omega arith) ∙ before y k)
 
   pub next-none : ((x : ℕ) → x < h .n → (y : ℕ) → y < h .n → legalAt (h .leaders) (h .domains) (h .stated) rows x y ≡ false)
       → pair.Nothing ≡ nextPair (held h rows)

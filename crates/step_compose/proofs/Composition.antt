@@ -4,21 +4,16 @@ use mathlib.Core.List.{List}
 use mathlib.Core.Path.{_≡_, refl, sym, ap, ap₂, _∙_}
 use Prim.Native.Nat.{ℕ, suc, _<_}
 use native.Mathlib.Omega.{arith}
-use lib.Pow.{pow-pos}
 use Rattle.bounded.specs.Bool.{and, implies}
 use Rattle.bounded.specs.Fold.{some}
-use Rattle.bounded.proofs.Bool.{and-assoc, and-comm, and-fails, and-true}
+use Rattle.bounded.proofs.Bool.{and-assoc, and-comm, and-true}
 use Rattle.bounded.proofs.Fold.{below-suc, some-cong}
 use Rattle.words.specs.Word.{has, word}
-use Rattle.words.proofs.Laws.{has-word, has-zero, is-word, word-cong}
+use Rattle.words.proofs.Laws.{has-ruled, word-cong}
 use Rattle.pairs.specs.Pairs.{allowsOf, partnersOf}
 use Rattle.pairs.specs.Frames.{RowPut, Stored}
-use Rattle.pairs.proofs.Laws.{allows-alike, has-row}
+use Rattle.pairs.proofs.Laws.{allows-alike}
 use Rattle.step_compose.specs.Compose.{supportedAt, composedAt, Unread, Composing}
-
--- The members of a word that is given by a rule.
-pub has-ruled : (w : ℕ) {x : ℕ} (p : ℕ → Bool) → x ≡ word w p → (v : ℕ) → v < w → has x v ≡ p v
-has-ruled w p e v l = ap (λ (n : ℕ). has n v) e ∙ has-word w p v l
 
 -- Rule 1: a value that has a partner is a partner.
 pub supported-is : (w : ℕ) (rows : List ℕ) (i j di dj : ℕ) {found r : ℕ} → found ≡ partnersOf w rows j i dj
@@ -39,12 +34,7 @@ unfolding and implies
 stated-made d s v = and-assoc d s v
 
 module _ (w : ℕ) (rows : List ℕ) (l j h dl dj dh : ℕ) (was : Bool) (x : ℕ) where
-  -- A value outside its domain goes with none.
-  pub made-none : has dl x ≡ false → 0 ≡ word w (composedAt w rows l j h dl dj dh was x)
-  unfolding composedAt
-  made-none e = is-word w 0 _ (pow-pos w) (λ c k. has-zero c ∙ sym (and-fails _ _ (and-fails _ _ e)))
-
-  -- Another goes with the partners of its partners.
+  -- A value in its domain goes with the partners of its partners.
   module _ {row both reached made : ℕ} (t : has dl x ≡ true)
       (re : row ≡ word w (allowsOf w rows l j x))
       (be : both ≡ word w (λ (u : ℕ). and (has dj u) (has row u)))
@@ -54,7 +44,7 @@ module _ (w : ℕ) (rows : List ℕ) (l j h dl dj dh : ℕ) (was : Bool) (x : �
     unfolding partnersOf
     joins c k =
         has-ruled w _ pe c k ∙ some-cong w _ _ (λ b m.
-        ap (λ (n : Bool). and n (allowsOf w rows j h b c)) (has-ruled w _ be b m ∙ ap (and (has dj b)) (has-row w rows l j x b row re m))
+        ap (λ (n : Bool). and n (allowsOf w rows j h b c)) (has-ruled w _ be b m ∙ ap (and (has dj b)) (has-ruled w _ re b m))
         ∙ and-assoc _ _ _)
 
     pub made-free : was ≡ false → made ≡ word w (composedAt w rows l j h dl dj dh was x)
@@ -67,7 +57,7 @@ module _ (w : ℕ) (rows : List ℕ) (l j h dl dj dh : ℕ) (was : Bool) (x : �
         → r ≡ word w (composedAt w rows l j h dl dj dh was x)
     unfolding composedAt
     made-stated {before} f e q =
-        q ∙ word-cong w _ _ (λ c k. rw (has-ruled w _ me c k, joins c k, has-row w rows l h x c before e k, t, f) (stated-made _ _ _))
+        q ∙ word-cong w _ _ (λ c k. rw (has-ruled w _ me c k, joins c k, has-ruled w _ e c k, t, f) (stated-made _ _ _))
 
 -- ---- rule 2 for all values
 
@@ -92,13 +82,13 @@ composed-alike w rows i j k ti dj dk was a c =
     (ap (implies was) (allows-alike w rows k i c a)))
 
 -- At the beginning of a step nothing has been touched.
-pub unread-all : (w : ℕ) (rows : List ℕ) (i j k : ℕ) → Unread w rows rows i j k
-unread-all w rows i j k = record { same-ij = λ a b. refl; same-jk = λ b c. refl; same-ik = λ a c. refl }
+pub unread-all : (w : ℕ) {rows : List ℕ} {i j k : ℕ} → Unread w rows rows i j k
+unread-all w = record { same-ij = λ a b. refl; same-jk = λ b c. refl; same-ik = λ a c. refl }
 
 -- The first value is still to come,
-pub composing-none : (w : ℕ) (given before : List ℕ) (i j k ti dj dk : ℕ) (was : Bool) → Unread w given before i j k
+pub composing-none : {w : ℕ} {given before : List ℕ} {i j k ti dj dk : ℕ} {was : Bool} → Unread w given before i j k
     → Composing w given before before i j k ti dj dk was 0
-composing-none w given before i j k ti dj dk was u =
+composing-none {w} {before} {i} {k} u =
     record {
       done = λ a c l _ _. absurd (let x : ⊥ = omega arith in x);
       left = λ a c _. u .same-ik a c;
@@ -109,7 +99,7 @@ composing-none w given before i j k ti dj dk was u =
     }
 
 -- and one more is done. What it is made of is as before the step: its own value is still to come, and the rows of the other pairs are never touched.
-module _ (w : ℕ) (given before now after : List ℕ) (i j k ti dj dk : ℕ) (was : Bool) (c members : ℕ)
+module _ {w : ℕ} {given before now after : List ℕ} {i j k ti dj dk : ℕ} {was : Bool} {c members : ℕ}
     (i≢j : i ≡ j → ⊥) (j≢k : j ≡ k → ⊥) (u : Unread w given before i j k)
     (s : Composing w given before now i j k ti dj dk was c)
     (e : members ≡ word w (composedAt w now k j i dk dj ti was c))

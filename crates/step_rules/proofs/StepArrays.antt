@@ -18,8 +18,7 @@ use Rattle.bounded.proofs.Table.{length-tabulate, getD-tabulate, is-table, getD
 use Rattle.network.specs.Pairs.{Stays}
 use Rattle.network.proofs.Pairs.{Moved, moved}
 use Rattle.words.specs.Word.{has, word}
-use Rattle.words.proofs.Laws.{has-zero, word-cong, is-word}
-use Rattle.step_compose.proofs.Composition.{has-ruled}
+use Rattle.words.proofs.Laws.{has-zero, word-cong, is-word, has-ruled}
 use Rattle.step_rules.specs.StepParts.{ledAfter, leaderAfter, thirdOf, statedAfter}
 use Rattle.step_rules.proofs.Thirds.{Taken}
 
@@ -75,7 +74,7 @@ or-false false = refl
 module _ (i j : ℕ) (T others : ℕ → Bool) (d : i ≡ j → ⊥) (ti : T i ≡ false) (tj : T j ≡ false) where
   table : Moved i j T (λ (x y : ℕ). true) (λ (x y : ℕ). true) false (λ (x y : ℕ). others y) (λ (x y : ℕ). statedAfter i j T x others y)
   unfolding statedAfter
-  table = moved i j T _ _ false _ d ti tj _ (λ x y. if-or _ _ _ _)
+  table = moved i j T _ _ false _ d ti tj (λ x y. simp if-or)
 
   stated-i : (y : ℕ) → or (others y) (T y) ≡ statedAfter i j T i others y
   stated-i y =

@@ -38,10 +38,10 @@ pub record Taken (w thirds rest rest′ k : ℕ) : Type 0 where
 module _ (w : ℕ) {thirds rest rest′ k : ℕ} (L : Left w thirds rest) (n : rest ≡ 0 → ⊥) (low : k ≡ first w (has rest))
     (re : rest′ ≡ word w (λ (u : ℕ). and (has rest u) (not (eqb u (first w (has rest)))))) where
   after-lt : rest′ < 2 ^ w
-  after-lt = rest-lt w rest rest′ k (L .fits) n low re
+  after-lt = rest-lt w (L .fits) n low re
 
   is : (x : ℕ) → x < w → has rest′ x ≡ and (has rest x) (not (eqb x k))
-  is = rest-is w rest rest′ k (L .fits) n low re
+  is = rest-is w (L .fits) n low re
 
   pub taken : Taken w thirds rest rest′ k
   unfolding not
@@ -56,5 +56,5 @@ module _ (w : ℕ) {thirds rest rest′ k : ℕ} (L : Left w thirds rest) (n : r
             λ x d. by-cases (ltb x w)
             (λ t. is x (ltb-true x w t) ∙ rw (ne-eqb x k d) (and-true (has rest x)))
             (λ t. has-past w rest′ x after-lt (ltb-false x w t) ∙ sym (has-past w rest x (L .fits) (ltb-false x w t)));
-        still = record { fits = after-lt; within = rest-within w rest rest′ k (L .fits) n low re thirds (L .within) };
+        still = record { fits = after-lt; within = rest-within w (L .fits) n low re thirds (L .within) };
       }

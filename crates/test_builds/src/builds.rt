@@ -174,22 +174,27 @@ fn expected_verdict(state: State) -> u8 {
 
 // How often a build is shown with two or more live options.
 fn count_apart(state: State, verdict: u8, tally: &mut Counts) {
-    if verdict == BUILT {
-        if 1 < states::free_count(state) {
-            tally::count(tally, tally::APART);
-        }
+    if (verdict == BUILT) & (1 < states::free_count(state)) {
+        tally::count(tally, tally::APART);
     }
+}
+
+// A build of the sheet and the tables, zero past n.
+fn is_found(bytes: &[u8], tables: &Tables, state: State, solution: &[u8; 16]) -> bool {
+    is_build(bytes, tables, solution) & fields::is_zero_from(solution, state.n)
+}
+
+// Each live option is at its lowest value.
+fn is_lowest(state: State, solution: &[u8; 16]) -> bool {
+    choices::are_lowest(states::free(state), &state.domains, solution)
 }
 
 // The build shown is a build, each live option at its lowest value, zero past n; with NONE or OPEN it is all zero.
 fn is_shown(bytes: &[u8], tables: &Tables, state: State, verdict: u8, solution: &[u8; 16]) -> bool {
-    if verdict == BUILT {
-        let is_lowest = choices::are_lowest(states::free(state), &state.domains, solution);
-        return is_build(bytes, tables, solution)
-            & is_lowest
-            & fields::is_zero_from(solution, state.n);
+    match verdict {
+        BUILT => is_found(bytes, tables, state, solution) & is_lowest(state, solution),
+        _ => fields::is_zero_from(solution, 0),
     }
-    fields::is_zero_from(solution, 0)
 }
 
 // The verdict, which it hands back.
@@ -212,13 +217,25 @@ fn is_borne_out(verdict: u8, builds: u64) -> bool {
     }
 }
 
+// The search always settles it.
+fn is_settled(verdict: u8, builds: u64) -> bool {
+    match verdict {
+        NONE => builds == 0,
+        BUILT => builds != 0,
+        _ => false,
+    }
+}
+
 // The search finds the first build of the sheet, or says that there is none.
 fn check_search(state: State, totals: Totals, tally: &mut Counts) {
     let answer = calls::search(state);
     let is_first = fields::same_bytes(&answer.solution, &totals.first);
-    let is_none = (answer.verdict == NONE) & (totals.builds == 0);
-    let is_built = (answer.verdict == BUILT) & (totals.builds != 0);
-    tally::expect(tally, tally::SEARCHES, is_first & (is_none | is_built));
+    let is_settled = is_settled(answer.verdict, totals.builds);
+    tally::expect(tally, tally::SEARCHES, is_first & is_settled);
+}
+
+fn are_many(state: State) -> bool {
+    choices::are_many(states::free(state), &state.domains)
 }
 
 // What a search of many choices says: it is refused, or shows a build of the sheet, or says none, which the verdict does not contradict.
@@ -229,13 +246,15 @@ fn is_sought(
     verdict: u8,
     solution: &[u8; 16],
 ) -> bool {
-    if choices::are_many(states::free(state), &state.domains) {
-        return (verdict == 23) & fields::is_zero_from(solution, 0);
+    match verdict {
+        BUILT => !are_many(state) & is_found(bytes, tables, state, solution),
+        NONE => !are_many(state) & is_none_borne_out(state, solution),
+        _ => (verdict == 23) & are_many(state) & fields::is_zero_from(solution, 0),
     }
-    if verdict == BUILT {
-        return is_build(bytes, tables, solution) & fields::is_zero_from(solution, state.n);
-    }
-    (verdict == NONE) & (expected_verdict(state) != BUILT) & fields::is_zero_from(solution, 0)
+}
+
+fn is_none_borne_out(state: State, solution: &[u8; 16]) -> bool {
+    (expected_verdict(state) != BUILT) & fields::is_zero_from(solution, 0)
 }
 
 // The search of a sheet that has too many tuples to try all.
@@ -260,29 +279,35 @@ pub fn check_all(bytes: &[u8], tables: &Tables, state: State, seed: &mut u64, ta
     tally::hold(tally, is_borne_out(verdict, totals.builds));
 }
 
-// A value at or above its size, and a buffer of another length.
-fn check_refused_tests(bytes: &[u8], state: State, seed: &mut u64, tally: &mut Counts) {
-    let n = state.n;
-    let wrong = draws::drawn_above(bytes, n, seed);
-    let answer = calls::test(state, wrong, n);
-    tally::expect(tally, tally::TESTS_REFUSED, answer == 15);
-    let length = random::index(seed, 17);
-    if length != n {
+// A buffer of another length.
+fn check_other_test(state: State, wrong: [u8; 16], length: usize, tally: &mut Counts) {
+    if length != state.n {
         let other = calls::test(state, wrong, length);
         tally::expect(tally, tally::TESTS_REFUSED, other == 14);
     }
 }
 
+// A value at or above its size, and a buffer of another length.
+fn check_refused_tests(bytes: &[u8], state: State, seed: &mut u64, tally: &mut Counts) {
+    let wrong = draws::drawn_above(bytes, state.n, seed);
+    let answer = calls::test(state, wrong, state.n);
+    tally::expect(tally, tally::TESTS_REFUSED, answer == 15);
+    check_other_test(state, wrong, random::index(seed, 17), tally);
+}
+
+// Refused with the number, and the buffer as it was.
+fn check_left(state: State, wrong: [u8; 16], length: usize, number: u8, tally: &mut Counts) {
+    let is_left = calls::is_completed(state, wrong, length, number, wrong);
+    tally::expect(tally, tally::COMPLETIONS_REFUSED, is_left);
+}
+
 // A live value that no list has, and a buffer of another length: refused, with the buffer as it was.
 fn check_refused_completions(bytes: &[u8], state: State, seed: &mut u64, tally: &mut Counts) {
-    let n = state.n;
     let wrong = draws::drawn_unlisted(bytes, states::free(state), seed);
-    let is_first_left = calls::is_completed(state, wrong, n, 15, wrong);
-    tally::expect(tally, tally::COMPLETIONS_REFUSED, is_first_left);
+    check_left(state, wrong, state.n, 15, tally);
     let length = random::index(seed, 17);
-    if length != n {
-        let is_other_left = calls::is_completed(state, wrong, length, 14, wrong);
-        tally::expect(tally, tally::COMPLETIONS_REFUSED, is_other_left);
+    if length != state.n {
+        check_left(state, wrong, length, 14, tally);
     }
 }
 

@@ -8,3 +8,5 @@ pub mod cuts;
 mod draws;
 // What a sheet comes to, against a text.
 pub mod outcomes;
+// Parts of a row of examples.
+pub mod parts;

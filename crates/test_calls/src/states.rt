@@ -2,17 +2,17 @@
 use state::State;
 use test_inputs::tables::Table;
 use test_inputs::tables::first_words;
-use test_oracle::added;
-use test_oracle::added::Sides;
 use test_oracle::brute::index_of;
 use test_oracle::choices::are_allowed;
 use test_oracle::choices::are_listed;
 use test_oracle::fields;
 use test_oracle::fields::same_bytes;
 use test_oracle::fields::same_words;
-use test_oracle::refusals;
-use test_oracle::refusals::Pair;
-use test_oracle::rules;
+use test_rules::added;
+use test_rules::added::Sides;
+use test_rules::refusals;
+use test_rules::refusals::Pair;
+use test_rules::rules;
 
 fn same_options(a: State, b: State) -> bool {
     (a.n == b.n) & same_bytes(&a.sizes, &b.sizes) & same_words(&a.domains, &b.domains)

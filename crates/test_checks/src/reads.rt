@@ -1,5 +1,4 @@
 // Reading against the judge of bytes, and writing back what was read.
-use crate::versions;
 use state::State;
 use test_calls::calls;
 use test_calls::calls::Reading;
@@ -10,39 +9,16 @@ use test_inputs::families;
 use test_inputs::families::ROOM;
 use test_oracle::brute;
 use test_oracle::fields;
-use test_oracle::judge;
-
-// A size and a list as a sheet just read has them; zero past n.
-fn is_fresh_at(bytes: &[u8], size: u8, list: u32, leader: u8, i: usize) -> bool {
-    let is_full = list == families::within(size);
-    (leader == 0) & (size as usize == brute::size(bytes, i)) & is_full
-}
-
-// "A sheet just read has full lists, no leader".
-fn are_fresh<'a>(
-    bytes: &[u8],
-    sizes: &'a [u8; 16],
-    domains: &'a [u32; 16],
-    leaders: &'a [u8; 16],
-) -> bool {
-    for i in 0..16 {
-        if !is_fresh_at(bytes, sizes[i], domains[i], leaders[i], i) {
-            return false;
-        }
-    }
-    true
-}
+use test_rules::fresh::are_fresh;
+use test_rules::fresh::is_as_judged;
+use test_rules::fresh::is_blank;
+use test_rules::versions;
 
 fn is_as_read(bytes: &[u8], state: State) -> bool {
     if state.n != brute::options(bytes) {
         return false;
     }
     are_fresh(bytes, &state.sizes, &state.domains, &state.leaders)
-}
-
-fn is_as_judged(bytes: &[u8], number: u8, place: usize) -> bool {
-    let judged = judge::judge(bytes);
-    (judged.number == number) & (judged.place == place)
 }
 
 fn check_accepted(state: State, is_right: bool, tally: &mut Counts) {
@@ -105,10 +81,20 @@ pub fn check_written(bytes: &[u8], state: State, tally: &mut Counts) {
     check_unwritten(state, version, 0, 17, tally);
 }
 
-// The judge says 26 of the bytes.
-fn is_blank(bytes: &[u8]) -> bool {
-    let judged = judge::judge(bytes);
-    judged.number == 26
+// The bytes are read as the state.
+fn check_read_as(bytes: &[u8], state: State, tally: &mut Counts) {
+    let reading = check(bytes, tally);
+    tally::hold(tally, states::same(reading.state, state));
+}
+
+// The state is written as these bytes, unless the version bans a row of them.
+fn check_made(made: &[u8], state: State, version: u8, tally: &mut Counts) {
+    if is_blank(made) {
+        check_refused(state, version as usize, 26, tally);
+        return;
+    }
+    check_written(made, state, tally);
+    check_read_as(made, state, tally);
 }
 
 // In another version the state has other bytes, which are read as the same state: where every size fits it, and it does not ban a row.
@@ -119,24 +105,19 @@ fn check_in(bytes: &[u8], state: State, version: u8, tally: &mut Counts) {
     }
     let other = versions::rewritten(bytes, version);
     let made = other.bytes;
-    let written = families::first(&made, other.length);
-    if is_blank(written) {
-        check_refused(state, version as usize, 26, tally);
-        return;
-    }
-    check_written(written, state, tally);
-    let reading = check(written, tally);
-    tally::hold(tally, states::same(reading.state, state));
+    check_made(families::first(&made, other.length), state, version, tally);
 }
 
 // A state to which tables were added and in which no option follows is written as a sheet, which is read as the same state.
 pub fn check_with_tables(state: State, seed: &mut u64, tally: &mut Counts) {
     let written = calls::write(state, 2, [UNTOUCHED; ROOM], ROOM);
     let buffer = written.buffer;
-    let bytes = families::first(&buffer, written.length);
     tally::hold(tally, written.number == 0);
-    let reading = check(bytes, tally);
-    tally::hold(tally, states::same(reading.state, state));
+    check_given_back(families::first(&buffer, written.length), state, seed, tally);
+}
+
+fn check_given_back(bytes: &[u8], state: State, seed: &mut u64, tally: &mut Counts) {
+    check_read_as(bytes, state, tally);
     check_round_trip(bytes, state, seed, tally);
 }
 

@@ -39,7 +39,7 @@ pub fn same_words(a: &[u32], b: &[u32]) -> bool {
     true
 }
 
-pub(crate) fn bit_if(is_set: bool, v: usize) -> u32 {
+pub fn bit_if(is_set: bool, v: usize) -> u32 {
     if is_set {
         return 1u32 << (v % 32);
     }
@@ -64,7 +64,7 @@ fn wide(x: u8) -> usize {
 }
 
 // The byte of the option `i`, as an index.
-pub(crate) fn byte_at(bytes: &[u8; 16], i: usize) -> usize {
+pub fn byte_at(bytes: &[u8; 16], i: usize) -> usize {
     if 15 < i {
         return 0;
     }
@@ -75,7 +75,7 @@ pub(crate) fn byte_at(bytes: &[u8; 16], i: usize) -> usize {
 const STARTS: [usize; 16] = [0, 0, 1, 3, 6, 10, 15, 21, 28, 36, 45, 55, 66, 78, 91, 105];
 
 // How many rows there are.
-pub(crate) const ROWS: usize = 3840;
+pub const ROWS: usize = 3840;
 
 // The place of the row of value `a` of the option `i` against the higher `j`; past the array where there is none.
 pub fn place(i: usize, j: usize, a: usize) -> usize {
@@ -114,7 +114,7 @@ fn column(rows: &[u32; 3840], i: usize, j: usize, b: usize) -> u32 {
 }
 
 // The values of the option `j` that go with value `a` of `i`.
-pub(crate) fn row_at(rows: &[u32; 3840], i: usize, j: usize, a: usize) -> u32 {
+pub fn row_at(rows: &[u32; 3840], i: usize, j: usize, a: usize) -> u32 {
     if i < j {
         return stored(rows, i, j, a);
     }

@@ -96,7 +96,7 @@ fn is_after(bytes: &[u8], at: usize, before: usize) -> bool {
 }
 
 // A bit of a row at or above the size.
-pub(crate) fn is_row_wide(row: usize, size: usize) -> bool {
+pub fn is_row_wide(row: usize, size: usize) -> bool {
     if 31 < size {
         return false;
     }

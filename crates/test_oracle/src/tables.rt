@@ -19,7 +19,7 @@ pub fn none() -> Tables {
 }
 
 // The row of value `c`, 0 past the last.
-pub(crate) fn row(rows: &[u32], c: usize) -> u32 {
+pub fn row(rows: &[u32], c: usize) -> u32 {
     if c < rows.len() {
         return rows[c];
     }

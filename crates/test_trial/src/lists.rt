@@ -1,24 +1,17 @@
-// Lists of rows: those of `test_checks`, and three kinds more.
-use crate::scripts;
-use crate::searches;
+// Lists of rows: those of `test_examples`, and two kinds more.
 use crate::sheets::check_sheet;
+use test_builds::builds;
 use test_builds::outcomes;
+use test_builds::parts::end_of;
+use test_builds::parts::part;
 use test_calls::tally;
 use test_calls::tally::Counts;
-use test_checks::rows;
-use test_checks::rows::end_of;
-use test_checks::rows::part;
+use test_examples::rows;
+use test_examples::texts::expect_text;
 use test_inputs::families;
 use test_oracle::brute::byte;
 use test_oracle::brute::past;
-use test_oracle::fields;
-
-// The program prints `expected` for the bytes.
-pub(crate) fn expect_text(bytes: &[u8], expected: &[u8], tally: &mut Counts) {
-    let text = text_report::report(bytes);
-    let is_same = (text.length == expected.len()) & fields::is_filled(&text.bytes, expected, 0);
-    tally::expect(tally, tally::TEXTS, is_same);
-}
+use test_scripts::scripts;
 
 // A sheet that comes to what is expected. It is then tried as the random ones are.
 fn expect_cut(bytes: &[u8], expected: &[u8], seed: &mut u64, tally: &mut Counts) {
@@ -42,26 +35,24 @@ fn sheet_at(list: &[u8], at: usize, seed: &mut u64, tally: &mut Counts) -> usize
     end_of(list, text)
 }
 
-// Two parts: bytes, and the text that is printed for them. Answers the place after them.
-fn text_at(list: &[u8], at: usize, tally: &mut Counts) -> usize {
-    let text = end_of(list, at);
-    expect_text(part(list, at), part(list, text), tally);
-    end_of(list, text)
+// The script on a sheet, and then all that is claimed of the builds of the sheet and the tables added.
+fn check_script(bytes: &[u8], script: &[u8], seed: &mut u64, tally: &mut Counts) {
+    let run = scripts::run(bytes, script, tally);
+    let tables = run.tables;
+    builds::check_all(bytes, &tables, run.state, seed, tally);
 }
 
 // Two parts: a sheet, and a script of calls on it. Answers the place after them.
 fn script_at(list: &[u8], at: usize, seed: &mut u64, tally: &mut Counts) -> usize {
     let script = end_of(list, at);
-    scripts::check(part(list, at), part(list, script), seed, tally);
+    check_script(part(list, at), part(list, script), seed, tally);
     end_of(list, script)
 }
 
 fn run_at(list: &[u8], at: usize, seed: &mut u64, tally: &mut Counts) -> usize {
     match byte(list, at) {
         b'S' => sheet_at(list, past(at, 1), seed, tally),
-        b'P' => text_at(list, past(at, 1), tally),
         b'K' => script_at(list, past(at, 1), seed, tally),
-        b'F' => searches::search_at(list, past(at, 1), tally),
         _ => rows::check_at(list, at, tally),
     }
 }

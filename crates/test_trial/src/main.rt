@@ -2,17 +2,13 @@
 use test_calls::tally;
 use test_calls::tally::Counts;
 use test_calls::tally::KINDS;
+use test_examples::fixed;
+use test_scripts::meters;
 
-// Fixed examples.
+// Fixed sheets, and tables added to them.
 mod examples;
 // Lists of rows of examples.
 mod lists;
-// Page nine.
-mod meters;
-// Lists of calls with what they must come to.
-mod scripts;
-// The search on fixed sheets.
-mod searches;
 // One input, and a list of calls on it.
 mod sheets;
 // One random input after the other.
@@ -22,6 +18,7 @@ fn run_examples() {
     let mut counts = [0u64; KINDS];
     let mut seed: u64 = 88172645463325252;
     examples::run(&mut seed, &mut counts);
+    fixed::run(&mut counts);
     meters::run(&mut counts);
     tally::print(b"examples\ntexts\n", tally::EXAMPLES, &counts);
     tally::print_checks(&counts);

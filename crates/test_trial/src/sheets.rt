@@ -7,10 +7,10 @@ use test_calls::tally::Counts;
 use test_checks::lists;
 use test_checks::lists::Run;
 use test_checks::reads;
-use test_checks::unsound;
-use test_checks::versions;
 use test_inputs::families;
 use test_inputs::random;
+use test_rules::versions;
+use test_scripts::unsound;
 
 // The writer takes a state back exactly when no step was taken since it was read: byte for byte where no table was added.
 fn check_writer(bytes: &[u8], run: Run, seed: &mut u64, tally: &mut Counts) {

@@ -1,4 +1,4 @@
--- Laws of words as sets of values, for any width: a word of w digits is below 2 ^ w.
+-- Laws of words as sets of values, for any width: a word of w bits is below 2 ^ w.
 -- All rest on `has-digit`, `word-zero` and `word-suc`, which alone look into the definitions.
 use mathlib.Core.Bool.{Bool, true, false}
 use mathlib.Core.Path.{_≡_, refl, sym, ap, ap₂, _∙_}
@@ -28,17 +28,17 @@ bit-of-digit zero h = refl
 bit-of-digit (suc zero) h = refl
 bit-of-digit (suc (suc d)) h = absurd (let x : ⊥ = omega arith in x)
 
--- The digit of x at v is 1 where v is a member, and 0 where it is none.
+-- The bit of x at v is 1 where v is a member, and 0 where it is none.
 pub has-digit : (x v : ℕ) → bit (has x v) ≡ x / 2 ^ v % 2
 unfolding has
 has-digit x v = search (bit-of-digit, mod-lt, two-pos)
 
--- No digits: the word is 0.
+-- No bits: the word is 0.
 pub word-zero : (p : ℕ → Bool) → word 0 p ≡ 0
 unfolding word sum
 word-zero p = omega arith
 
--- One more value: the word gains the digit of its weight.
+-- One more value: the word gains the bit of its weight.
 pub word-suc : (w : ℕ) (p : ℕ → Bool) → word (suc w) p ≡ bit (p w) * 2 ^ w + word w p
 unfolding word sum
 word-suc w p = omega arith
@@ -52,16 +52,16 @@ bit-inj true false e = absurd (let x : ⊥ = omega arith in x)
 bit-inj false true e = absurd (let x : ⊥ = omega arith in x)
 bit-inj false false e = refl
 
--- A membership is told by its digit.
+-- A membership is told by its bit.
 pub digit-is : (x v : ℕ) (b : Bool) → x / 2 ^ v % 2 ≡ bit b → has x v ≡ b
 digit-is x v b e = bit-inj (has x v) b (has-digit x v ∙ e)
 
--- A word of w digits is below 2 ^ w.
+-- A word of w bits is below 2 ^ w.
 pub word-lt : (w : ℕ) (p : ℕ → Bool) → word w p < 2 ^ w
 word-lt zero p = omega (arith, word-zero p)
 word-lt (suc w) p = omega (arith, word-suc w p, mul-le-mul-right (2 ^ w) (bit-le (p w)), word-lt w p)
 
--- Digits above v do not touch the digit at v.
+-- Bits above v do not touch the bit at v.
 has-low : (a w r v : ℕ) → v < w → has (a * 2 ^ w + r) v ≡ has r v
 has-low a w r v h =
     let e : 2 ^ w ≡ 2 ^ (w - suc v) * (2 ^ v * 2) =
@@ -82,6 +82,10 @@ has-word (suc w) p v h =
     (below-suc w v h
     (λ e. rw e (digit-is _ w (p w) (ap (λ (n : ℕ). n % 2) (high (bit (p w)) w (word-lt w p)) ∙ bit-mod (p w))))
     (λ l. has-low (bit (p w)) w (word w p) v l ∙ has-word w p v l))
+
+-- The same of a word that is given by a rule.
+pub has-ruled : (w : ℕ) {x : ℕ} (p : ℕ → Bool) → x ≡ word w p → (v : ℕ) → v < w → has x v ≡ p v
+has-ruled w p e v l = ap (λ (n : ℕ). has n v) e ∙ has-word w p v l
 
 -- A number below 2 ^ w has no member at or past w.
 pub has-past : (w x v : ℕ) → x < 2 ^ w → w ≤ v → has x v ≡ false
@@ -132,7 +136,7 @@ is-word w x p h e = sym (word-has w x h) ∙ word-cong w (has x) p e
 pub same-members : (w x y : ℕ) → x < 2 ^ w → y < 2 ^ w → ((v : ℕ) → v < w → has x v ≡ has y v) → x ≡ y
 same-members w x y h k e = is-word w x (has y) h e ∙ word-has w y k
 
--- More digits change nothing where none of them is set.
+-- More bits change nothing where none of them is set.
 pub word-widen : (w u : ℕ) (p : ℕ → Bool) → w ≤ u → ((v : ℕ) → w ≤ v → v < u → p v ≡ false) → word u p ≡ word w p
 word-widen w u p l h =
     sym (is-word u (word w p) p (omega (arith, word-lt w p, pow-mono l)) (λ v m. has-all w p v (λ k. h v k m)))
@@ -169,7 +173,7 @@ nonempty w x h n = by-cases (some w (has x)) (λ t. t) (λ t. absurd (n (empty w
 
 -- ---- operations on words
 
--- An operation that goes digit by digit, by f, goes member by member, by the test g that f computes.
+-- An operation that goes bit by bit, by f, goes member by member, by the test g that f computes.
 module _ (op f : ℕ → ℕ → ℕ) (g : Bool → Bool → Bool)
     (shr : (x y v : ℕ) → op x y / 2 ^ v ≡ op (x / 2 ^ v) (y / 2 ^ v))
     (step : (x y : ℕ) → op x y ≡ op (x / 2) (y / 2) * 2 + f (x % 2) (y % 2))
@@ -256,7 +260,7 @@ unfolding ones bit
 ones-bit true = refl
 ones-bit false = refl
 
--- A word has as many digits set as values pass.
+-- A word has as many bits set as values pass.
 pub ones-word : (w : ℕ) (p : ℕ → Bool) → ones (word w p) ≡ count w p
 unfolding count sum ones
 ones-word zero p = ap ones (word-zero p)
@@ -265,16 +269,16 @@ ones-word (suc w) p =
     ∙ ones-cat w (bit (p w)) (word w p) (word-lt w p)
     ∙ ap₂ (λ (a b : ℕ). a + b) (ones-bit (p w)) (ones-word w p)
 
--- A number has as many digits set as it has members.
+-- A number has as many bits set as it has members.
 pub ones-count : (w x : ℕ) → x < 2 ^ w → ones x ≡ count w (has x)
 ones-count w x h = ap ones (sym (word-has w x h)) ∙ ones-word w (has x)
 
--- With at most one digit set any two members are equal.
+-- With at most one bit set any two members are equal.
 pub ones-two : (w x : ℕ) → x < 2 ^ w → ones x ≤ 1 → (u v : ℕ) → has x u ≡ true → has x v ≡ true → u ≡ v
 ones-two w x h o u v a b =
     count-two w (has x) (omega (arith, ones-count w x h)) u v (has-below w x u a h) (has-below w x v b h) a b
 
--- Where any two members are equal at most one digit is set.
+-- Where any two members are equal at most one bit is set.
 pub ones-unique : (w x : ℕ) → x < 2 ^ w → ((u v : ℕ) → u < w → v < w → has x u ≡ true → has x v ≡ true → u ≡ v) → ones x ≤ 1
 ones-unique w x h e = omega (arith, ones-count w x h, count-unique w (has x) e)
 
@@ -286,7 +290,7 @@ unfolding bit if
 under-if true t = refl
 under-if false t = refl
 
--- The zeros below the lowest set digit lead to the lowest member; the empty word has w of them.
+-- The zeros below the lowest set bit lead to the lowest member; the empty word has w of them.
 pub trailing-first : (w x : ℕ) → trailingZeros w x ≡ first w (has x)
 unfolding trailingZeros first
 trailing-first zero x = refl

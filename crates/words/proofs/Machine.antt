@@ -22,7 +22,7 @@ unfolding bit
 eqb-bit true = refl
 eqb-bit false = refl
 
--- The lowest digit after a shift tells of one value.
+-- The lowest bit after a shift tells of one value.
 pub member-is : (x v : ℕ) → eqb (bitAnd (x / 2 ^ v) 1) 1 ≡ has x v
 member-is x v = rw (and-mask (x / 2 ^ v) 1, ← has-digit x v) (eqb-bit (has x v))
 
@@ -45,7 +45,7 @@ full-is w k m l h =
     rw (shl-is w 1 k m l (omega arith), one-mul (2 ^ k))
     (is-word w (2 ^ k - 1) _ (omega (arith, pow-mono l, pow-pos k)) (λ u b. has-full k u))
 
--- It fits a word of k digits or more, though at just k the power itself does not.
+-- It fits a word of k bits or more, though at just k the power itself does not.
 pub full-fits : (W : Width) (k m : ℕ) → k ≤ bits W → 2 ^ bits W < m → Fits W (1 * 2 ^ k % m - 1)
 full-fits W k m l h =
     record { fits = rw (shl-is (bits W) 1 k m l (omega arith)) (omega (arith, pow-mono l, pow-pos k)) }
@@ -67,7 +67,7 @@ without-is w x y h k =
 pub within-is : (w x k m : ℕ) → x < 2 ^ w → k ≤ w → 2 ^ w < m → ltb x (1 * 2 ^ k % m) ≡ every w (λ (v : ℕ). implies (has x v) (ltb v k))
 within-is w x k m h l b = rw (shl-is w 1 k m l (omega arith), one-mul (2 ^ k)) (within-every w x k h)
 
--- No count of a word's digits is above its width, so each fits a word that holds the width.
+-- No count of a word's bits is above its width, so each fits a word that holds the width.
 pub ones-fits : (W U : Width) (x : ℕ) → Fits U x → bits U < 2 ^ bits W → Fits W (ones x)
 ones-fits W U x f h = omega (arith, ones-le (bits U) x (f .fits))
 

@@ -13,7 +13,7 @@ use Rattle.bounded.specs.Fold.{every, some}
 use Rattle.bounded.proofs.Bool.{bool-ext, clash, and-i, and-l, and-r, and-holds, not-e, not-false-e, not-true→false, implies-true, implies-false}
 use Rattle.bounded.proofs.Fold.{every-i, every-e, every-cong, some-i, some-e, some-cong}
 use Rattle.words.specs.Word.{width, has, word}
-use Rattle.words.proofs.Laws.{has-word, has-zero, word-lt, empty}
+use Rattle.words.proofs.Laws.{has-ruled, has-zero, word-lt, empty}
 use Rattle.pairs.specs.Pairs.{allowsOf, partnersOf}
 use Rattle.pairs.proofs.Laws.{allows-alike}
 use Rattle.head.specs.declared.Head.{Head}
@@ -27,8 +27,8 @@ use Rattle.write_sheet.specs.Filled.{pairFilled, earlierFilled, allFille
 lacks-none : (w size f p x : ℕ) → size ≤ w → f ≡ word w (λ (u : ℕ). ltb u size) → x ≡ word w (λ (u : ℕ). and (has f u) (not (has p u)))
     → eqb x 0 ≡ every size (has p)
 lacks-none w size f p x h fe xe =
-    let full : (a : ℕ) → a < w → has f a ≡ ltb a size = λ a l. ap (λ (y : ℕ). has y a) fe ∙ has-word w _ a l in
-    let lacks : (a : ℕ) → a < w → has x a ≡ and (has f a) (not (has p a)) = λ a l. ap (λ (y : ℕ). has y a) xe ∙ has-word w _ a l in
+    let full : (a : ℕ) → a < w → has f a ≡ ltb a size = λ a l. has-ruled w _ fe a l in
+    let lacks : (a : ℕ) → a < w → has x a ≡ and (has f a) (not (has p a)) = λ a l. has-ruled w _ xe a l in
     bool-ext _ _
     (λ t. every-i size _ (λ a l.
     let m : a < w = omega arith in
@@ -38,28 +38,21 @@ lacks-none w size f p x h fe xe =
     let b : and (has f a) (not (has p a)) ≡ true = sym (lacks a l) ∙ u in
     clash (every-e size _ t a (ltb-true a size (sym (full a l) ∙ and-l _ _ b))) (not-e _ (and-r _ _ b))))))
 
-module _ (rows : List ℕ) (size stated i j : ℕ) where
-  pub unstated-filled : has stated j ≡ false → true ≡ pairFilled rows size stated i j
-  unfolding pairFilled
-  unstated-filled h = sym (implies-false _ _ h)
-
+module _ (rows : List ℕ) (i j : ℕ) where
   -- Seen from j, the partners of all its values.
   partnered : (all p a : ℕ) → all ≡ word width (λ (u : ℕ). ltb u width) → p ≡ partnersOf width rows j i all → a < width
       → has p a ≡ some width (allowsOf width rows i j a)
   unfolding partnersOf
   partnered all p a ae pe l =
-      ap (λ (y : ℕ). has y a) pe ∙ has-word width _ a l
+      has-ruled width _ pe a l
       ∙ some-cong width _ _ (λ b m.
-      and-holds (has all b) _ (ap (λ (y : ℕ). has y b) ae ∙ has-word width _ b m ∙ lt-ltb b width m) ∙ allows-alike width rows j i b a)
+      and-holds (has all b) _ (has-ruled width _ ae b m ∙ lt-ltb b width m) ∙ allows-alike width rows j i b a)
 
-  pub stated-filled : has stated j ≡ true → size ≤ width → (f all p x : ℕ) → f ≡ word width (λ (u : ℕ). ltb u size)
+  pub rows-filled : {size f all p x : ℕ} → size ≤ width → f ≡ word width (λ (u : ℕ). ltb u size)
       → all ≡ word width (λ (u : ℕ). ltb u width) → p ≡ partnersOf width rows j i all → x ≡ word width (λ (u : ℕ). and (has f u) (not (has p u)))
-      → eqb x 0 ≡ pairFilled rows size stated i j
-  unfolding pairFilled
-  stated-filled h k f all p x fe ae pe xe =
-      lacks-none width size f p x k fe xe
-      ∙ every-cong size _ _ (λ a l. partnered all p a ae pe (omega arith))
-      ∙ sym (implies-true _ _ h)
+      → eqb x 0 ≡ every size (λ (a : ℕ). some width (allowsOf width rows i j a))
+  rows-filled {size} {f} {all} {p} {x} k fe ae pe xe =
+      lacks-none width size f p x k fe xe ∙ every-cong size _ _ (λ a l. partnered all p a ae pe (omega arith))
 
 -- A test that holds of nothing from n on.
 some-widen : (n m : ℕ) (p : ℕ → Bool) → n ≤ m → ((k : ℕ) → p k ≡ true → k < n) → some n p ≡ some m p
@@ -68,7 +61,7 @@ some-widen n m p h below =
     (λ t. some-e n p t (λ k l q. some-i m p k (omega arith) q))
     (λ t. some-e m p t (λ k l q. some-i n p k (below k q) q))
 
-module _ (h : Head) (rows : List ℕ) (shaped : HeadShaped h) (t : soundIn h rows ≡ true) where
+module _ {h : Head} (rows : List ℕ) (shaped : HeadShaped h) (t : soundIn h rows ≡ true) where
   filled-held : noBlankRow (held h rows) ≡ allFilled rows (h .n) (h .sizes) (h .stated)
   unfolding noBlankRow rowsFilled allFilled earlierFilled pairFilled held
   filled-held =
@@ -77,9 +70,9 @@ module _ (h : Head) (rows : List ℕ) (shaped : HeadShaped h) (t : soundIn h row
       (λ b u. held-sound h rows shaped t .allows-in i j a b u .1)))))
 
   -- In a layout that bans blank rows that decides; the others take all rows.
-  pub banned-pass : (k : Lookup) (r : Bool) → filledIn k ≡ true → r ≡ allFilled rows (h .n) (h .sizes) (h .stated) → r ≡ rowsPass k (held h rows)
+  pub banned-pass : (k : Lookup) {r : Bool} → filledIn k ≡ true → r ≡ allFilled rows (h .n) (h .sizes) (h .stated) → r ≡ rowsPass k (held h rows)
   unfolding rowsPass
-  banned-pass k r e f = f ∙ sym (implies-true _ _ e ∙ filled-held)
+  banned-pass k e f = f ∙ sym (implies-true _ _ e ∙ filled-held)
 
   pub allowed-pass : (k : Lookup) → filledIn k ≡ false → true ≡ rowsPass k (held h rows)
   unfolding rowsPass

@@ -243,7 +243,7 @@ length-held L h rows few below =
 
 -- ---- a sound state
 
-module _ (h : Head) (rows : List ℕ) (shaped : HeadShaped h) (t : soundIn h rows ≡ true) where
+module _ {h : Head} (rows : List ℕ) (shaped : HeadShaped h) (t : soundIn h rows ≡ true) where
   -- A row has no bit at or above the size of the second variable, so the array has it as the table does.
   row-same : heldRow h rows ≡ rowOf rows
   unfolding heldRow rowOf held
@@ -274,11 +274,11 @@ module _ (h : Head) (rows : List ℕ) (shaped : HeadShaped h) (t : soundIn h row
     unfolding bytesHeld printIn
     bytes-printed = let (L, e, _) = sound-layout in (L, e, rw e)
 
-    -- What `sheet_length` counts, with the bytes of a row in this version, is how many bytes it has.
-    pub length-told : (k total : ℕ) → k ≡ widthIn (layoutOf version) → LengthIs k (h .n) (h .sizes) (h .stated) total
+    -- What `extent_of` counts, with the bytes of a row in this version, is how many bytes it has.
+    pub length-told : {k total : ℕ} → k ≡ widthIn (layoutOf version) → LengthIs k (h .n) (h .sizes) (h .stated) total
         → total ≡ length (bytesHeld version h rows)
     unfolding widthIn
-    length-told k total e l =
+    length-told e l =
         let (L, f, p) = bytes-printed in
         l L h rows (sym (e ∙ ap widthIn f)) refl refl refl ∙ sym (ap length p)
 

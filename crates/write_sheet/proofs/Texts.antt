@@ -22,7 +22,7 @@ pub wrote-whole : {a b text : List ℕ} {r : ℕ} → Wrote a b text 0 r → (r 
 wrote-whole {text} {r} w =
     let e : r ≡ length text = omega arith in (e, rw e at (w .holds))
 
--- The bytes of a number are its digits to the base 256.
+-- The bytes of a number are what it has of each power of 256.
 unfoldable pub octets : ℕ → Digits
 unfolding bytesOf
 octets v = record { text = λ k. bytesOf k v; digit = λ k. v / 256 ^ k % 256; none = refl; more = λ k. refl }
@@ -94,10 +94,11 @@ module _ (k : ℕ) (row : ℕ → ℕ → ℕ → ℕ) (size stated i j : ℕ) w
   unfolding tableText
   table-stated h = if-true _ _ _ h
 
-  pub wrote-table : {a b c d : List ℕ} {p q at second third r : ℕ} → has stated j ≡ true → p ≡ suc i → q ≡ suc j
-      → Wrote a b (p ∷ []) at second → Wrote b c (q ∷ []) second third → Wrote c d (rowsText k row size i j) third r
-      → Wrote a d (tableText k row size stated i j) at r
-  wrote-table h e f x y z = rw (table-stated h, ← e, ← f) (wrote-then x (wrote-then y z))
+-- The two numbers and the rows, one after the other.
+pub wrote-table : {a b c d text rows : List ℕ} {i j p q at second third r : ℕ} → text ≡ suc i ∷ suc j ∷ rows → p ≡ suc i → q ≡ suc j
+    → Wrote a b (p ∷ []) at second → Wrote b c (q ∷ []) second third → Wrote c d rows third r
+    → Wrote a d text at r
+wrote-table t e f x y z = rw (t, ← e, ← f) (wrote-then x (wrote-then y z))
 
 -- ---- rows, with the bytes of a row as another expression says them
 

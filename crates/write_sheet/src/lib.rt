@@ -7,5 +7,6 @@ pub use blank::rows_pass;
 pub use layout::Fixed;
 pub use layout::fits_version;
 pub use layout::fixed_by;
-pub use writing::sheet_length;
+pub use writing::Extent;
+pub use writing::extent_of;
 pub use writing::write_into;

@@ -155,18 +155,6 @@ fn later(x: u32, i: usize) -> usize
     words::count(x >> (i + 1))
 }
 
-// How many tables there are.
-fn table_count(n: usize, stated: &[u32; VARIABLES]) -> usize
-    requires { ⌜ n ≤ variables ⌝ }
-    ensures { λ r. ⌜ r ≡ tableCount n (now (stated .entry)) ⌝ }
-{
-    let mut tables = 0;
-    for i in 0..n {
-        tables += later(stated[i], i);
-    }
-    tables
-}
-
 // How many bytes `tables` tables have whose first variable has `size` values, with `bytes` to a row.
 fn tables_length(bytes: usize, size: u8, tables: usize) -> usize
     requires { ⌜ (bytes ≤ 4) × (tables ≤ width) ⌝ }
@@ -175,21 +163,30 @@ fn tables_length(bytes: usize, size: u8, tables: usize) -> usize
     (2 + bytes * size as usize) * tables
 }
 
-// How many bytes the sheet has with `bytes` to a row: 5, a size each, and for each table its pair and its rows. No variable is stated with one at `n` or above.
-pub fn sheet_length<'a>(
+// How many bytes a sheet has, and how many tables.
+pub struct Extent {
+    pub length: usize,
+    pub tables: usize,
+}
+
+// With `bytes` to a row: 5, a size each, and for each table its pair and its rows. No variable is stated with one at `n` or above.
+pub fn extent_of<'a>(
     bytes: usize,
     n: usize,
     sizes: &'a [u8; VARIABLES],
     stated: &'a [u32; VARIABLES],
-) -> usize
+) -> Extent
     requires { ⌜ (bytes ≤ 4) × (n ≤ variables) × ((i j : ℕ) → has (getD (now stated) i 0) j ≡ true → j < n) ⌝ }
-    ensures { λ r. ⌜ LengthIs bytes n (now (sizes .entry)) (now (stated .entry)) r ⌝ }
+    ensures { λ r. ⌜ LengthIs bytes n (now (sizes .entry)) (now (stated .entry)) (r .length) × (r .tables ≡ tableCount n (now (stated .entry))) ⌝ }
 {
-    let mut total = 5 + n;
+    let mut length = 5 + n;
+    let mut tables = 0;
     for i in 0..n {
-        total += tables_length(bytes, sizes[i], later(stated[i], i));
+        let more = later(stated[i], i);
+        length += tables_length(bytes, sizes[i], more);
+        tables += more;
     }
-    total
+    Extent { length, tables }
 }
 
 // The version, the count of the bytes that follow it, and the number of variables.
@@ -203,21 +200,27 @@ fn write_header(version: u8, n: u8, follow: u32, buffer: &mut [u8]) -> usize
 }
 
 // The sheet of the network that a head and rows hold, in a version whose tests it passes, at the start of the buffer; how many bytes it has.
-pub fn write_into(head: Head, rows: &Rows, version: usize, buffer: &mut [u8]) -> usize
+pub fn write_into(
+    head: Head,
+    rows: &Rows,
+    version: usize,
+    extent: Extent,
+    buffer: &mut [u8],
+) -> usize
     requires { ⌜ (soundIn head (now rows) ≡ true) × (fitsVersion (layoutOf version) (held head (now rows)) ≡ true)
         × (rowsPass (layoutOf version) (held head (now rows)) ≡ true) ⌝ }
-    requires { ⌜ length (bytesHeld version head (now rows)) ≤ length (now buffer) ⌝ }
+    requires { ⌜ (extent .length ≡ length (bytesHeld version head (now rows))) × (extent .tables ≡ tableCount (head .n) (head .stated)) ⌝ }
+    requires { ⌜ extent .length ≤ length (now buffer) ⌝ }
     ensures { λ r. ⌜ r ≡ length (bytesHeld version head (now (rows .entry))) ⌝ }
     ensures { λ r. ⌜ now (buffer .exit) ≡ bytesHeld version head (now (rows .entry))
         ++ drop (length (bytesHeld version head (now (rows .entry)))) (now (buffer .entry)) ⌝ }
 {
     let n = head.n;
     let bytes = fixed_by(version).bytes;
-    let total = sheet_length(bytes, n, &head.sizes, &head.stated);
-    let first_size = write_header(version as u8, n as u8, (total - 3) as u32, buffer);
+    let follow = (extent.length - 3) as u32;
+    let first_size = write_header(version as u8, n as u8, follow, buffer);
     let past_sizes = write_sizes(n, &head.sizes, buffer, first_size);
-    let tables = table_count(n, &head.stated) as u8;
-    let first_table = put_byte(buffer, past_sizes, tables);
+    let first_table = put_byte(buffer, past_sizes, extent.tables as u8);
     write_tables(
         bytes,
         n,

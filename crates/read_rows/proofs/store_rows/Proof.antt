@@ -1,30 +1,58 @@
--- A number of bytes that is not two is four.
-use mathlib.Core.Path.{_≡_, refl}
+-- The loop's invariant: the rows before the `a`th are stored and joined.
+use mathlib.Core.Path.{_≡_}
+use Prim.Native.Nat.{_-_, _≤_}
 use native.Mathlib.Omega.{arith}
+use borrow.Author.Needs.{needs}
+use Rattle.read_rows.specs.Rows.{RowsJoined}
+use Rattle.read_rows.proofs.Rows.{row-inside, joined-none, joined-more}
 use Rattle.read_rows.proofs.store_rows.Statement.{statement}
 use Rattle.read_rows.proofs.store_rows.Tie as tie
+use Rattle.read_rows.proofs.store_rows.Reads as reads
+use Rattle.read_rows.proofs.store_rows.Lts as lts
 
-two : (c : tie.Then1) → c .before .before .args .k ≡ 2
-two c = c .if1 .taken
+abbrev Inv-loop : tie.InvT-loop
+Inv-loop bytes from k i j count rows₀ union₀ a₀ rows union a = (a ≤ count) × RowsJoined k bytes from i j a rows₀ rows union
 
-four : (c : tie.Else1) → c .before .before .args .k ≡ 4
-four c = omega (arith, c .before .before .pre .1, c .if1 .left)
+abbrev μ-loop : tie.MeasureT-loop
+μ-loop bytes from k i j count rows₀ union₀ a₀ rows union a = count - a
 
-store-each-requires : tie.Need-store-each-requires
-store-each-requires c κs =
-    let pre = c .before .before .before .pre in
-    (rw (two (c .before)) at (pre .0), (omega arith, omega arith, refl), pre .2, pre .3, pre .4, pre .5)
+loop-holds : tie.Need-loop-holds Inv-loop μ-loop
+loop-holds c = (omega arith, joined-none)
 
-returns : tie.Need-returns
-returns c = rw (two (c .before .before)) (c .store-each .ensures)
+mul-number : tie.Need-mul-number Inv-loop μ-loop
+mul-number c = omega (arith, row-inside (c .before .before .before .args .k) (c .loop-test .taken))
 
-store-each-requires-2 : tie.Need-store-each-requires-2
-store-each-requires-2 c κs =
-    let pre = c .before .before .before .pre in
-    (rw (four (c .before)) at (pre .0), (omega arith, omega arith, refl), pre .2, pre .3, pre .4, pre .5)
+add-number : tie.Need-add-number Inv-loop μ-loop
+add-number c = omega (arith, row-inside (c .before .before .before .args .k) (c .loop-test .taken))
 
-returns-2 : tie.Need-returns-2
-returns-2 c = rw (four (c .before .before)) (c .store-each2 .ensures)
+number-requires : tie.Need-number-requires Inv-loop μ-loop
+number-requires c κs = omega (arith, row-inside (c .before .before .before .args .k) (c .loop-test .taken))
+
+put-row-requires : tie.Need-put-row-requires Inv-loop μ-loop
+put-row-requires c κs = omega (arith, c .before .before .before .loop .inv .1 .stored .size)
+
+loop-again : tie.Need-loop-again Inv-loop μ-loop
+loop-again c =
+    let put = c .before in
+    let read = put .before .before in
+    (omega arith, joined-more (read .before .before .loop .inv .1) (read .number .ensures) (put .put-row .ensures) (c .either .ensures))
+
+returns : tie.Need-returns Inv-loop μ-loop
+returns c = let e : c .before .loop .a ≡ c .before .before .before .args .count = omega arith in rw e at (c .before .loop .inv .1)
 
 pub store-rows-spec : {M : Type 1} → statement M
-store-rows-spec = tie.close (tie.spec store-each-requires returns store-each-requires-2 returns-2)
+store-rows-spec =
+    tie.close
+    (tie.spec
+    Inv-loop
+    μ-loop
+    loop-holds
+    mul-number
+    add-number
+    number-requires
+    put-row-requires
+    (λ c κs. search needs)
+    (λ c. search needs)
+    (λ c. search needs)
+    loop-again
+    returns)

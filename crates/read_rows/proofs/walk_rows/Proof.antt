@@ -15,7 +15,7 @@ abbrev μ-loop : tie.MeasureT-loop
 μ-loop bytes from k count size filled at₀ counter₀ at counter = count - counter
 
 loop-holds : tie.Need-loop-holds Inv-loop μ-loop
-loop-holds c = rows-none _ _ _ _ _ (omega arith)
+loop-holds c = rows-none (omega arith)
 
 returns : tie.Need-returns Inv-loop μ-loop
 returns c =

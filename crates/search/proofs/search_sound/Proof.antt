@@ -18,7 +18,7 @@ product-requires c κs = held-n _ _ (c .pre)
 returns : tie.Need-returns
 returns c =
     let s = c .before .before in
-    product-settled _ _ (shaped s) (s .pre) (product-zero _ _ (c .before .product .ensures _ (s .pre)) (c .if1 .taken))
+    product-settled _ (shaped s) (s .pre) (product-zero _ _ (c .before .product .ensures _ (s .pre)) (c .if1 .taken))
 
 free-variables-requires : tie.Need-free-variables-requires
 free-variables-requires c κs = held-n _ _ (c .before .before .before .before .before .before .pre)
@@ -33,14 +33,15 @@ returns-2 : tie.Need-returns-2
 returns-2 c =
     let a = c .before in
     let s = a .before .before .before .before .before .before .before .before .before .before .before in
-    chosen-none _ _ (shaped s) (s .pre) _ (a .before .before .before .before .free-variables .ensures) _ _ (a .choose .ensures .chooses) (not-true _ (c .if2 .taken))
+    chosen-none _ (shaped s) (s .pre) (a .before .before .before .before .free-variables .ensures) (a .choose .ensures .chooses) (not-true _ (c .if2 .taken))
 
 complete-values-requires : tie.Need-complete-values-requires
 complete-values-requires c κs =
     let f = c .before .before .before in
     let a = f .before in
     let s = a .before .before .before .before .before .before .before .before .before .before .before in
-    chosen-led _ _ (shaped s) (s .pre) _ (a .before .before .before .before .free-variables .ensures) _ _ (a .choose .ensures .chooses) (not-false _ (f .if2 .left)) (a .choose .ensures .whole)
+    chosen-led _ (shaped s) (s .pre) (a .before .before .before .before .free-variables .ensures) (a .choose .ensures .chooses) (not-false _ (f .if2 .left))
+    (a .choose .ensures .whole)
 
 returns-3 : tie.Need-returns-3
 returns-3 c =
@@ -48,7 +49,7 @@ returns-3 c =
     let a = f .before in
     let s = a .before .before .before .before .before .before .before .before .before .before .before in
     let done = c .before .complete-values .ensures in
-    chosen-found _ _ (shaped s) (s .pre) _ (a .before .before .before .before .free-variables .ensures) _ _ (a .choose .ensures .chooses) (not-false _ (f .if2 .left)) _
+    chosen-found _ (shaped s) (s .pre) (a .before .before .before .before .free-variables .ensures) (a .choose .ensures .chooses) (not-false _ (f .if2 .left))
     (done .same-length ∙ a .choose .ensures .whole) done
 
 pub search-sound-spec : {M : Type 1} → statement M

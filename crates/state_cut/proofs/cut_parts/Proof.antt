@@ -1,6 +1,7 @@
 -- Either case of reading: `cut-refused`, or `cut-accepted` over a state that is known to be sound.
 use native.Mathlib.Omega.{arith}
 use borrow.Author.Needs.{needs}
+use Rattle.state.proofs.Worked.{reduction-told}
 use Rattle.state_read.proofs.RoundTrip.{AsRead}
 use Rattle.state_cut.specs.Parts.{cutPartsTold}
 use Rattle.state_cut.proofs.Cuts.{stateRead, cut-refused, cut-read, cut-sound, cut-accepted}
@@ -29,7 +30,7 @@ verdict-of-requires c κs =
     let d = c .before .before in
     let t = d .before .before in
     let a = read t .read-parts in
-    cut-sound _ (a .result) _ (a .ensures) (read-as t) _ (d .reduce-sound .ensures)
+    cut-sound _ (a .result) _ (a .ensures) (read-as t) (reduction-told (d .reduce-sound .ensures))
 
 returns-2 : tie.Need-returns-2
 unfolding cutPartsTold
@@ -37,7 +38,7 @@ returns-2 c =
     let d = c .before .before .before .before in
     let t = d .before .before in
     let a = read t .read-parts in
-    cut-accepted _ (a .result) _ (a .ensures) (read-as t) _ (d .reduce-sound .ensures) _ (c .before .verdict-of .ensures)
+    cut-accepted _ (a .result) _ (a .ensures) (read-as t) (reduction-told (d .reduce-sound .ensures)) (c .before .verdict-of .ensures)
 
 pub cut-parts-spec : {M : Type 1} → statement M
 cut-parts-spec =

@@ -10,22 +10,22 @@ full-domains-requires c κs i =
     let r = c .before .before .before in
     omega (
       arith,
-      read-sizes _ _ _ _ _ (r .read-into .ensures)
-          (λ k. omega (arith, r .before .before .before .before .shared-slice-known .given k)) _ _ (c .before .n .given .1) i,
+      read-sizes _ (r .read-into .ensures)
+          (λ k. omega (arith, r .before .before .before .before .shared-slice-known .given k)) (c .before .n .given .1) i,
     )
 
 returns : tie.Need-returns
 unfolding readPartsTold headRead fullDomains
 returns c =
     rw (c .full-domains .ensures)
-    (read-accepted _ _ _ _ _ (c .before .before .before .before .read-into .ensures) _ _ (c .before .before .n .given .1))
+    (read-accepted _ (c .before .before .before .before .read-into .ensures) (c .before .before .n .given .1))
 
 returns-2 : tie.Need-returns-2
 unfolding readPartsTold
 returns-2 c =
     let k = c .before .before .before .before in
     rw (c .zero-head .ensures, c .before .zero-rows .ensures)
-    (read-refused _ _ _ _ _ (k .before .before .read-into .ensures) _ _ (k .cause .given .1))
+    (read-refused _ (k .before .before .read-into .ensures) (k .cause .given .1))
 
 pub read-parts-spec : {M : Type 1} → statement M
 read-parts-spec =

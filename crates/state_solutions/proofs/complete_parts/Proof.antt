@@ -12,7 +12,7 @@ use Rattle.answers.specs.Answers.{outcomeNumber}
 use Rattle.solutions.specs.Choices.{valuesKept, pairsKept}
 use Rattle.state.specs.declared.state.State.{State}
 use Rattle.state.specs.View.{stateOf, soundState}
-use Rattle.state_solutions.proofs.Solutions.{complete-9, complete-14, complete-15, complete-16, complete-led, complete-done}
+use Rattle.state_solutions.proofs.Solutions.{mirrored, complete-9, complete-14, complete-15, complete-16, complete-led, complete-done}
 use Rattle.state_solutions.proofs.complete_parts.Statement.{statement}
 use Rattle.state_solutions.proofs.complete_parts.Tie as tie
 
@@ -78,7 +78,7 @@ returns-3 c =
 pairs-kept-requires : tie.Need-pairs-kept-requires
 pairs-kept-requires c κs =
     let e = c .before .before .before .before in
-    (held-n _ _ (is-sound (first e)), omega (arith, is-long e))
+    (held-n _ _ (is-sound (first e)), omega (arith, is-long e), mirrored (at e) (shaped (start (first e))) (is-sound (first e)))
 
 returns-4 : tie.Need-returns-4
 unfolding outcomeNumber

@@ -8,15 +8,18 @@ use lib.ListN.{replicate}
 use borrow.Author.Needs.{needs}
 use borrow.Author.Tests.{not-true, not-false}
 use Rattle.pairs.specs.Pairs.{variables}
-use Rattle.head.proofs.Held.{held-n}
+use Rattle.head.proofs.Held.{HeadShaped, shape, held-n}
 use Rattle.answers.specs.Answers.{testTold, says}
 use Rattle.solutions.specs.Choices.{valuesKept, pairsKept}
 use Rattle.state.specs.declared.state.State.{State}
 use Rattle.state.specs.View.{stateOf, soundState}
 use Rattle.state.specs.Solutions.{tested}
-use Rattle.state_solutions.proofs.Solutions.{all-free, tested-9, tested-14, tested-15, tested-outside, tested-pairs}
+use Rattle.state_solutions.proofs.Solutions.{mirrored, all-free, tested-9, tested-14, tested-15, tested-outside, tested-pairs}
 use Rattle.state_solutions.proofs.test_parts.Statement.{statement}
 use Rattle.state_solutions.proofs.test_parts.Tie as tie
+
+shaped : (c : tie.Start) → HeadShaped (c .args .t1)
+shaped c = search shape
 
 abbrev state : tie.Start → State
 state c = stateOf (c .args .t1) (c .args .rows .now)
@@ -83,7 +86,9 @@ abbrev third : tie.After-pairs-kept-arg → tie.Else3
 third c = fourth c .before .before .before .before .before
 
 pairs-kept-requires : tie.Need-pairs-kept-requires
-pairs-kept-requires c κs = (held-n _ _ (is-sound (first (third c))), omega (arith, third c .before .before .before .before .if2 .left))
+pairs-kept-requires c κs =
+    let e = first (third c) in
+    (held-n _ _ (is-sound e), omega (arith, third c .before .before .before .before .if2 .left), mirrored (state (start e)) (shaped (start e)) (is-sound e))
 
 -- The last test is the answer.
 answer : (c : tie.After-pairs-kept) → says (c .pairs-kept .result) ≡ tested (at (third (c .before))) (build (third (c .before)))

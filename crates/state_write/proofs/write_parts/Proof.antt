@@ -31,39 +31,39 @@ is-sound c = sym (c .before .sound-parts .ensures) ∙ not-false _ (c .if1 .left
 
 -- What is measured of a sound state: whether it is fresh, whether it fits the version, whether that takes its rows, and, where it does, how many bytes its
 -- sheet has.
-abbrev fixed : tie.After-sheet-length → tie.After-fixed-by
+abbrev fixed : tie.After-extent-of → tie.After-fixed-by
 fixed c = c .before .before .before .before
 
-abbrev passed : tie.After-sheet-length → tie.After-rows-pass
+abbrev passed : tie.After-extent-of → tie.After-rows-pass
 passed c = fixed c .before
 
-abbrev tested : tie.After-sheet-length → tie.After-fits-version
+abbrev tested : tie.After-extent-of → tie.After-fits-version
 tested c = passed c .before
 
-abbrev past : tie.After-sheet-length → tie.After-fresh-parts
+abbrev past : tie.After-extent-of → tie.After-fresh-parts
 past c = tested c .before .before .before
 
-abbrev sound : tie.After-sheet-length → tie.Else1
+abbrev sound : tie.After-extent-of → tie.Else1
 sound c = past c .before
 
-abbrev told : tie.After-sheet-length → Network
+abbrev told : tie.After-extent-of → Network
 told c = let a = start (sound c) .args in held (a .t1) (a .rows .now)
 
-fresh-measured : (c : tie.After-sheet-length) → fresh (told c) ≡ past c .fresh-parts .result
+fresh-measured : (c : tie.After-extent-of) → fresh (told c) ≡ past c .fresh-parts .result
 fresh-measured c = let e = sound c in fresh-told _ (shaped (start e)) (is-sound e) ∙ sym (past c .fresh-parts .ensures)
 
-fits-measured : (c : tie.After-sheet-length) → fitsVersion (layoutOf (start (sound c) .args .version)) (told c) ≡ tested c .fits-version .result
+fits-measured : (c : tie.After-extent-of) → fitsVersion (layoutOf (start (sound c) .args .version)) (told c) ≡ tested c .fits-version .result
 fits-measured c = let a = start (sound c) .args in sym (tested c .fits-version .ensures (a .t1) (a .rows .now) refl refl)
 
-pass-measured : (c : tie.After-sheet-length) → rowsPass (layoutOf (start (sound c) .args .version)) (told c) ≡ passed c .rows-pass .result
+pass-measured : (c : tie.After-extent-of) → rowsPass (layoutOf (start (sound c) .args .version)) (told c) ≡ passed c .rows-pass .result
 pass-measured c = sym (passed c .rows-pass .ensures)
 
-length-measured : (c : tie.After-sheet-length) → fitsVersion (layoutOf (start (sound c) .args .version)) (told c) ≡ true
+length-measured : (c : tie.After-extent-of) → fitsVersion (layoutOf (start (sound c) .args .version)) (told c) ≡ true
     → rowsPass (layoutOf (start (sound c) .args .version)) (told c) ≡ true
-    → let a = start (sound c) .args in c .sheet-length .result ≡ length (bytesHeld (a .version) (a .t1) (a .rows .now))
+    → let a = start (sound c) .args in c .extent-of .result .length ≡ length (bytesHeld (a .version) (a .t1) (a .rows .now))
 length-measured c v p =
     let e = sound c in
-    length-told _ _ (shaped (start e)) (is-sound e) _ v p _ _ (fixed c .fixed-by .ensures .bytes-are) (c .sheet-length .ensures)
+    length-told _ (shaped (start e)) (is-sound e) _ v p (fixed c .fixed-by .ensures .bytes-are) (c .extent-of .ensures .0)
 
 -- Past the second test it is fresh, past the third it fits, past the fourth its rows pass, and past the fifth there is room.
 is-fresh : (c : tie.Else2) → fresh (told (c .before)) ≡ true
@@ -80,7 +80,7 @@ room : (c : tie.Else5)
 room c = let p = c .before in omega (arith, c .if5 .left, length-measured (p .before .before .before) (fits (p .before)) (pass p))
 
 returns : tie.Need-returns
-returns c = refused-told _ _ _ _ (write-unsound _ _ _ (sym (c .before .sound-parts .ensures) ∙ not-true _ (c .if1 .taken)))
+returns c = refused-told _ _ _ (write-unsound _ _ _ (sym (c .before .sound-parts .ensures) ∙ not-true _ (c .if1 .taken)))
 
 fresh-parts-requires : tie.Need-fresh-parts-requires
 fresh-parts-requires c κs = (held-n _ _ (is-sound c), λ i. omega (arith, held-size _ _ (shaped (start c)) (is-sound c) i))
@@ -91,26 +91,26 @@ fits-version-requires c κs = held-n _ _ (is-sound (c .before .before .before))
 rows-pass-requires : tie.Need-rows-pass-requires
 rows-pass-requires c κs = is-sound (c .before .before .before .before)
 
-sheet-length-requires : tie.Need-sheet-length-requires
-sheet-length-requires c κs =
+extent-of-requires : tie.Need-extent-of-requires
+extent-of-requires c κs =
     let f = c .before .before .before in
     let e = f .before .before .before .before .before .before in
-    (f .fixed-by .ensures .bytes-most, held-n _ _ (is-sound e), stated-below _ _ (shaped (start e)) (is-sound e))
+    (f .fixed-by .ensures .bytes-most, held-n _ _ (is-sound e), stated-below _ (shaped (start e)) (is-sound e))
 
 returns-2 : tie.Need-returns-2
 returns-2 c =
-    let m = c .before in refused-told _ _ _ _ (write-not-fresh _ _ _ (is-sound (sound m)) (fresh-measured m ∙ not-true _ (c .if2 .taken)))
+    let m = c .before in refused-told _ _ _ (write-not-fresh _ _ _ (is-sound (sound m)) (fresh-measured m ∙ not-true _ (c .if2 .taken)))
 
 returns-3 : tie.Need-returns-3
 returns-3 c =
     let m = c .before .before in
-    refused-told _ _ _ _ (write-not-in-version _ _ _ (is-sound (sound m)) (is-fresh (c .before)) (fits-measured m ∙ not-true _ (c .if3 .taken)))
+    refused-told _ _ _ (write-not-in-version _ _ _ (is-sound (sound m)) (is-fresh (c .before)) (fits-measured m ∙ not-true _ (c .if3 .taken)))
 
 returns-4 : tie.Need-returns-4
 returns-4 c =
     let t = c .before in
     let m = t .before .before in
-    refused-told _ _ _ _ (write-blank-row _ _ _ (is-sound (sound m)) (is-fresh (t .before)) (fits t) (pass-measured m ∙ not-true _ (c .if4 .taken)))
+    refused-told _ _ _ (write-blank-row _ _ _ (is-sound (sound m)) (is-fresh (t .before)) (fits t) (pass-measured m ∙ not-true _ (c .if4 .taken)))
 
 returns-5 : tie.Need-returns-5
 unfolding bytesHeld sheetBytes
@@ -118,14 +118,15 @@ returns-5 c =
     let p = c .before in
     let t = p .before in
     let m = t .before .before in
-    refused-told _ _ _ _ (write-no-room _ _ _ (is-sound (sound m)) (is-fresh (t .before)) (fits t) (pass p)
+    refused-told _ _ _ (write-no-room _ _ _ (is-sound (sound m)) (is-fresh (t .before)) (fits t) (pass p)
     (omega (arith, c .if5 .taken, length-measured m (fits t) (pass p))))
 
 write-into-requires : tie.Need-write-into-requires
 write-into-requires c κs =
     let p = c .before .before in
     let t = p .before in
-    ((is-sound (sound (t .before .before)), fits t, pass p), room (c .before))
+    let m = t .before .before in
+    ((is-sound (sound m), fits t, pass p), ((length-measured m (fits t) (pass p), m .extent-of .ensures .1), c .before .if5 .left))
 
 returns-6 : tie.Need-returns-6
 returns-6 c =
@@ -133,7 +134,7 @@ returns-6 c =
     let r = w .before .before in
     let p = r .before in
     let t = p .before in
-    written-told _ _ _ _ _ (is-sound (sound (t .before .before))) (is-fresh (t .before)) (fits t) (pass p) (room r) (w .write-into .ensures .0)
+    written-told _ _ _ (is-sound (sound (t .before .before))) (is-fresh (t .before)) (fits t) (pass p) (room r) (w .write-into .ensures .0)
     (w .write-into .ensures .1)
 
 pub write-parts-spec : {M : Type 1} → statement M
@@ -146,7 +147,7 @@ write-parts-spec =
     fits-version-requires
     rows-pass-requires
     (λ c κs. search needs)
-    sheet-length-requires
+    extent-of-requires
     returns-2
     returns-3
     returns-4

@@ -37,14 +37,14 @@ judge-pair-requires : tie.Need-judge-pair-requires
 judge-pair-requires c κs =
     let s = c .before .before .before .before .before .before .before .before in
     let h : HeadShaped (s .args .head) = search shape in
-    (omega (arith, held-n), omega (arith, held-n), stated-apart _ _ h (s .pre) _ _)
+    (omega (arith, held-n), omega (arith, held-n), stated-apart _ h (s .pre))
 
 returns-6 : tie.Need-returns-6
 returns-6 c =
     let e = c .before .before .before .before in
     let s = e .before .before .before .before .before in
     let h : HeadShaped (s .args .head) = search shape in
-    c .judge-pair .ensures ∙ refusal-counted _ _ h (s .pre) _ _ (named (e .before)) (e .if5 .left)
+    c .judge-pair .ensures ∙ refusal-counted _ h (s .pre) (named (e .before)) (e .if5 .left)
 
 pub judge-spec : {M : Type 1} → statement M
 judge-spec =

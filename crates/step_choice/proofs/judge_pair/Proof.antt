@@ -11,17 +11,17 @@ use Rattle.step_choice.proofs.judge_pair.Tie as tie
 
 returns : tie.Need-returns
 unfolding judgedNumber
-returns c = sym (leader-led _ _ _ _ (ne-eqb _ _ (c .if1 .taken)))
+returns c = sym (leader-led _ _ _ (ne-eqb _ _ (c .if1 .taken)))
 
 returns-2 : tie.Need-returns-2
 unfolding judgedNumber
-returns-2 c = sym (follower-led _ _ _ _ (ne-eqb _ _ (c .if2 .taken)))
+returns-2 c = sym (follower-led _ _ _ (ne-eqb _ _ (c .if2 .taken)))
 
 returns-3 : tie.Need-returns-3
 unfolding judgedNumber
 returns-3 c =
     let e = c .before .before in
-    sym (not-stated _ _ _ _ (eq-eqb _ _ (e .before .if1 .left)) (eq-eqb _ _ (e .if2 .left)) (sym (c .before .member .ensures) ∙ not-true _ (c .if3 .taken)))
+    sym (not-stated (eq-eqb _ _ (e .before .if1 .left)) (eq-eqb _ _ (e .if2 .left)) _ (sym (c .before .member .ensures) ∙ not-true _ (c .if3 .taken)))
 
 -- Past the third test the pair is stated,
 is-stated : (c : tie.Else3) → has (c .before .before .before .before .args .stated) (c .before .before .before .before .args .j) ≡ true
@@ -38,7 +38,7 @@ unfolding judgedNumber
 returns-4 c =
     let d = c .before .before in
     let e = d .before .before in
-    sym (not-functional _ _ _ _ (eq-eqb _ _ (e .before .if1 .left)) (eq-eqb _ _ (e .if2 .left)) (is-stated d)
+    sym (not-functional (eq-eqb _ _ (e .before .if1 .left)) (eq-eqb _ _ (e .if2 .left)) (is-stated d)
     (sym (c .before .partners-within .ensures) ∙ not-true _ (c .if4 .taken)))
 
 returns-5 : tie.Need-returns-5
@@ -46,7 +46,7 @@ unfolding judgedNumber
 returns-5 c =
     let d = c .before .before in
     let e = d .before .before in
-    sym (step-legal _ _ _ _ (eq-eqb _ _ (e .before .if1 .left)) (eq-eqb _ _ (e .if2 .left)) (is-stated d)
+    sym (step-legal (eq-eqb _ _ (e .before .if1 .left)) (eq-eqb _ _ (e .if2 .left)) (is-stated d)
     (sym (c .before .partners-within .ensures) ∙ not-false _ (c .if4 .left)))
 
 pub judge-pair-spec : {M : Type 1} → statement M

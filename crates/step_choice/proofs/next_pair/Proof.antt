@@ -35,7 +35,7 @@ search-holds c = (omega arith, refl, λ x l. absurd (let b : ⊥ = omega arith i
 search-again : tie.Need-search-again Inv-loop μ-loop Inv-search μ-search
 search-again c =
     let s = c .before .before .search in
-    (omega arith, s .inv .1, below-more _ _ (s .inv .2) (λ y l. led-leads-none _ _ _ _ (c .if1 .taken)))
+    (omega arith, s .inv .1, below-more _ _ (s .inv .2) (λ y l. led-leads-none _ _ _ (c .if1 .taken)))
 
 loop-holds : tie.Need-loop-holds Inv-loop μ-loop Inv-search μ-search
 loop-holds c = (omega arith, c .before .before .search .inv .1, λ x l. absurd (let b : ⊥ = omega arith in b))
@@ -44,7 +44,7 @@ judge-pair-requires : tie.Need-judge-pair-requires Inv-loop μ-loop Inv-search �
 judge-pair-requires c κs =
     let s = c .before .before .before .before .before .before .before .before in
     let h : HeadShaped (s .args .head) = search shape in
-    (omega (arith, held-n), omega (arith, held-n), stated-apart _ _ h (s .pre) _ _)
+    (omega (arith, held-n), omega (arith, held-n), stated-apart _ h (s .pre))
 
 loop-again : tie.Need-loop-again Inv-loop μ-loop Inv-search μ-search
 loop-again c =
@@ -65,7 +65,7 @@ returns c =
     let s = c .before .search in
     let b = c .before .before .before .before .before in
     let h : HeadShaped (b .args .head) = search shape in
-    s .inv .1 ∙ next-none _ _ h (b .pre) (λ x k. s .inv .2 x (omega arith))
+    s .inv .1 ∙ next-none _ h (b .pre) (λ x k. s .inv .2 x (omega arith))
 
 returns-2 : tie.Need-returns-2 Inv-loop μ-loop Inv-search μ-search
 returns-2 c =
@@ -73,7 +73,7 @@ returns-2 c =
     let a = c .before .before .before .before .before .before .before in
     let b = a .before .before .before .before in
     let h : HeadShaped (b .args .head) = search shape in
-    next-found _ _ h (b .pre) _ _ (omega arith) (omega arith)
+    next-found _ h (b .pre) (omega arith) (omega arith)
     (judged-legal _ (ap judgedNumber (sym (c .enum-told .given .1)) ∙ c .before .before .judge-pair .ensures)) (a .search .inv .2) (l .inv .2)
 
 pub next-pair-spec : {M : Type 1} → statement M

@@ -19,7 +19,7 @@ abbrev μ-loop : tie.MeasureT-loop
 μ-loop rows₀ i j k ti dj dk was c₀ rows c = 32 - c
 
 loop-holds : tie.Need-loop-holds Inv-loop μ-loop
-loop-holds c = (omega arith, refl, λ given u. composing-none 32 given _ _ _ _ _ _ _ _ u)
+loop-holds c = (omega arith, refl, λ given u. composing-none u)
 
 loop-again : tie.Need-loop-again Inv-loop μ-loop
 loop-again c =

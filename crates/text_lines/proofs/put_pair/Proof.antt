@@ -31,7 +31,8 @@ returns c =
     let n = c .before .before in
     let s = n .before .before .before .before .before in
     let f = s .before .before .before .before in
-    wrote-pair _ _ _ _ (f .put-titled .ensures) (s .put-titled2 .ensures) (n .put-text .ensures)
+    let a = f .before .before .before .before .before .args in
+    wrote-pair _ (a .one) _ (a .two) (f .put-titled .ensures) (s .put-titled2 .ensures) (n .put-text .ensures)
 
 pub put-pair-spec : {M : Type 1} → statement M
 put-pair-spec =

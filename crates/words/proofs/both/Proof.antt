@@ -1,4 +1,4 @@
--- `&` goes digit by digit: `both-is`.
+-- `&` goes bit by bit: `both-is`.
 use Rattle.words.proofs.Machine.{machine}
 use Rattle.words.proofs.both.Statement.{statement}
 use Rattle.words.proofs.both.Tie as tie

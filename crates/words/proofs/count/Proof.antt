@@ -1,4 +1,4 @@
--- The set digits are the members: `ones-count`.
+-- The set bits are the members: `ones-count`.
 use Rattle.words.proofs.Machine.{machine}
 use Rattle.words.proofs.count.Statement.{statement}
 use Rattle.words.proofs.count.Tie as tie

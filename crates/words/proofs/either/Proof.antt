@@ -1,4 +1,4 @@
--- `|` goes digit by digit: `either-is`.
+-- `|` goes bit by bit: `either-is`.
 use Rattle.words.proofs.Machine.{machine}
 use Rattle.words.proofs.either.Statement.{statement}
 use Rattle.words.proofs.either.Tie as tie

@@ -1,4 +1,4 @@
--- The zeros below the lowest set digit count up to the lowest member: `trailing-first`.
+-- The zeros below the lowest set bit count up to the lowest member: `trailing-first`.
 use Rattle.words.proofs.Machine.{machine}
 use Rattle.words.proofs.lowest.Statement.{statement}
 use Rattle.words.proofs.lowest.Tie as tie

@@ -1,4 +1,4 @@
--- The digit at `v`, moved to the lowest place, tells of `v` alone: `member-is`.
+-- The bit at `v`, moved to the lowest place, tells of `v` alone: `member-is`.
 use Rattle.words.proofs.Machine.{machine}
 use Rattle.words.proofs.member.Statement.{statement}
 use Rattle.words.proofs.member.Tie as tie

@@ -1,4 +1,4 @@
--- A word is below 2 ^ k exactly when no digit at or above k is set: `within-is`.
+-- A word is below 2 ^ k exactly when no bit at or above k is set: `within-is`.
 use Rattle.words.proofs.Machine.{machine}
 use Rattle.words.proofs.within.Statement.{statement}
 use Rattle.words.proofs.within.Tie as tie

@@ -1,4 +1,4 @@
--- `&` and `!` go digit by digit: `without-is`.
+-- `&` and `!` go bit by bit: `without-is`.
 use Rattle.words.proofs.Machine.{machine}
 use Rattle.words.proofs.without.Statement.{statement}
 use Rattle.words.proofs.without.Tie as tie

@@ -3,22 +3,15 @@ use mathlib.Core.Path.{ap}
 use borrow.Author.Needs.{needs}
 use Rattle.head.specs.Held.{HeadShaped}
 use Rattle.head.proofs.Held.{shape}
-use Rattle.state.specs.View.{Shaped}
 use Rattle.meter.specs.Fitted.{MeterTold}
-use Rattle.capi.specs.Answers.{stateWith, fitTold}
+use Rattle.meter_parts.specs.Parts.{fitTold}
 use Rattle.capi.proofs.Laws.{verdict-out}
 use Rattle.capi.proofs.PageNine.{fit-stored}
 use Rattle.capi.proofs.fit.meter_fit_parts.Statement.{statement}
 use Rattle.capi.proofs.fit.meter_fit_parts.Tie as tie
 
--- What the types say of the state that is lent.
-shaped : (c : tie.After-head-of)
-    → Shaped (stateWith (c .before .before .before .before .before .before .args .n) (c .before .before .before .before .before .before .args .sizes .now)
-    (c .before .before .before .before .before .before .args .lists .now) (c .before .before .before .before .before .before .args .leaders .now)
-    (c .before .before .before .before .before .before .args .stated .now) (c .before .before .before .before .before .before .args .rows .now))
-shaped c =
-    let h : HeadShaped (c .head-of .result) = search shape in
-    record { head-shaped = rw (c .head-of .ensures) at h; rows-shaped = c .before .before .before .before .whole .ensures }
+shaped : (c : tie.After-head-of) → HeadShaped (c .head-of .result)
+shaped c = search shape
 
 returns : tie.Need-returns
 unfolding fitTold
@@ -28,14 +21,13 @@ returns c =
     let h = f .before .before in
     let told = rw (h .head-of .ensures) at (f .fit-parts .ensures) in (
       verdict-out _ (ap (λ (t : MeterTold). t .verdict) told) (c .before .verdict-number .ensures _) (c .verdict-kind .ensures _),
-      fit-stored _ _ _ _ _ _ _ _ _ _ (f .fit-parts .result) _ (shaped h) told (l .left .ensures),
+      fit-stored _ (f .fit-parts .result) (rw (h .head-of .ensures) at (shaped h)) told (l .left .ensures),
     )
 
 pub meter-fit-parts-spec : {M : Type 1} → statement M
 meter-fit-parts-spec =
     tie.close
     (tie.spec
-    (λ c κs. search needs)
     (λ c κs. search needs)
     (λ c κs. search needs)
     (λ c κs. search needs)

@@ -7,12 +7,12 @@ use Rattle.pairs.proofs.read.partners.Statement.{statement}
 use Rattle.pairs.proofs.read.partners.Tie as tie
 
 returns : tie.Need-returns
-returns c = partners-up 32 _ _ _ _ _ _ (omega arith) (omega arith) (c .before .place .ensures .0) (search needs)
+returns c = partners-up 32 _ _ (omega arith) (omega arith) (c .before .place .ensures .0) (search needs)
 
 returns-2 : tie.Need-returns-2
 returns-2 c =
     let s = c .before .before .before in
-    partners-down 32 _ _ _ _ _ _ (higher (c .before .before .if1 .left) (s .pre .2)) (s .pre .0) (c .before .place2 .ensures .0) (search needs)
+    partners-down 32 _ _ (higher (c .before .before .if1 .left) (s .pre .2)) (s .pre .0) (c .before .place2 .ensures .0) (search needs)
 
 pub partners-spec : {M : Type 1} → statement M
 partners-spec =

@@ -18,7 +18,7 @@ abbrev μ-loop : tie.MeasureT-loop
 μ-loop rows i j di dj least most rest₀ rest = count 32 (has rest)
 
 loop-holds : tie.Need-loop-holds Inv-loop μ-loop
-loop-holds c = passed-none 32 _ _ _ _ _ _ _ (c .fits .di .fits)
+loop-holds c = passed-none (c .fits .di .fits)
 
 row-requires : tie.Need-row-requires Inv-loop μ-loop
 row-requires c κs =
@@ -31,29 +31,31 @@ counted : (c : tie.After-count Inv-loop μ-loop)
     ≡ partnersAt 32 (c .before .before .before .before .before .before .args .rows .now) (c .before .before .before .before .before .before .args .i)
     (c .before .before .before .before .before .before .args .j) (c .before .before .before .before .before .before .args .dj)
     (c .before .before .before .lowest .result)
-counted c = partners-count 32 _ _ _ _ _ _ _ _ (c .before .before .row .ensures) (c .before .both .ensures) (c .count .ensures)
+unfolding partnersAt
+counted c = partners-count 32 _ _ (c .before .before .row .ensures) (c .before .both .ensures) (c .count .ensures)
 
 returns : tie.Need-returns Inv-loop μ-loop
 returns c =
     let n = c .before .before in
     let l = n .before .before .before in
-    sym (passed-not 32 _ _ _ _ _ _ _ _ 0 _ _ (l .before .before .loop .inv) (l .before .loop-test .taken) (l .lowest .ensures) (counted n) (sym (c .before .between .ensures) ∙ not-true _ (c .if1 .taken)))
+    sym (passed-not (l .before .before .loop .inv) (l .before .loop-test .taken) (l .lowest .ensures) (counted n)
+    (sym (c .before .between .ensures) ∙ not-true _ (c .if1 .taken)))
 
 loop-less : tie.Need-loop-less Inv-loop μ-loop
 loop-less c =
     let l = c .before .before .before .before .before .before in
-    rest-less 32 _ _ _ (l .before .before .loop .inv .rest-fits) (l .before .loop-test .taken) (l .lowest .ensures) (c .dropped .ensures)
+    rest-less 32 (l .before .before .loop .inv .rest-fits) (l .before .loop-test .taken) (l .lowest .ensures) (c .dropped .ensures)
 
 loop-again : tie.Need-loop-again Inv-loop μ-loop
 loop-again c =
     let e = c .before in
     let n = e .before .before in
     let l = n .before .before .before in
-    passed-more 32 _ _ _ _ _ _ _ _ _ _ _ (l .before .before .loop .inv) (l .before .loop-test .taken) (l .lowest .ensures) (counted n)
+    passed-more (l .before .before .loop .inv) (l .before .loop-test .taken) (l .lowest .ensures) (counted n)
     (sym (e .before .between .ensures) ∙ not-false _ (e .if1 .left)) (c .dropped .ensures)
 
 returns-2 : tie.Need-returns-2 Inv-loop μ-loop
-returns-2 c = sym (passed-all 32 _ _ _ _ _ _ _ _ (c .before .loop .inv) (c .loop-test .left))
+returns-2 c = sym (passed-all (c .before .loop .inv) (c .loop-test .left))
 
 pub partners-within-spec : {M : Type 1} → statement M
 partners-within-spec =

@@ -10,8 +10,8 @@ returns-2 : tie.Need-returns-2
 returns-2 c =
     let p = c .before .before in
     let s = p .before .before in
-    partners-one 32 _ _ _ _ _ _ (s .pre .3) (c .before .single .ensures)
-    (partners-down 32 _ _ _ _ _ _ (higher (p .before .if1 .left) (s .pre .2)) (s .pre .0) (p .place .ensures .0) (c .hits .ensures))
+    partners-one 32 _ _ _ (s .pre .3) (c .before .single .ensures)
+    (partners-down 32 _ _ (higher (p .before .if1 .left) (s .pre .2)) (s .pre .0) (p .place .ensures .0) (c .hits .ensures))
 
 pub row-spec : {M : Type 1} → statement M
 row-spec =

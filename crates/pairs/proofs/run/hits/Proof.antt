@@ -26,11 +26,11 @@ loop-holds c = (omega arith, sym (word-zero _))
 loop-again : tie.Need-loop-again Inv-loop μ-loop
 loop-again c = (
   omega arith,
-  bit-joins (2 ^ 32) _ _ _ _ (pow-mono {j = 32} (omega arith)) (c .before .before .before .loop .inv .1) (c .meets .ensures),
+  bit-joins (2 ^ 32) _ _ (pow-mono {j = 32} (omega arith)) (c .before .before .before .loop .inv .1) (c .meets .ensures),
 )
 
 returns : tie.Need-returns Inv-loop μ-loop
-returns c = hits-is 32 _ _ _ _ _ (omega arith) (c .before .loop .inv .1)
+returns c = hits-is 32 _ _ _ (omega arith) (c .before .loop .inv .1)
 
 pub hits-spec : {M : Type 1} → statement M
 hits-spec =

@@ -1,7 +1,7 @@
 -- The loop's invariant: the rows up to `k` have been joined.
 use mathlib.Core.List.{List}
 use mathlib.Core.Path.{_≡_}
-use Prim.Native.Nat.{ℕ, suc, _+_, _-_, _≤_}
+use Prim.Native.Nat.{ℕ, _+_, _-_, _≤_}
 use native.Mathlib.Omega.{arith}
 use lib.ListN.{getD}
 use borrow.Author.Needs.{needs}
@@ -18,23 +18,24 @@ Inv-loop rows at end all₀ k₀ all k = (at ≤ k) × (k ≤ end) × (all ≡ j
 abbrev μ-loop : tie.MeasureT-loop
 μ-loop rows at end all₀ k₀ all k = end - k
 
-joins : (rows : List ℕ) (at n m all : ℕ) → n ≡ m → all ≡ joinOf 32 rows at n → all ≡ joinOf 32 rows at m
-joins rows at n m all e h = rw e at h
+joins : (rows : List ℕ) (at : ℕ) {n m all : ℕ} → n ≡ m → all ≡ joinOf 32 rows at n → all ≡ joinOf 32 rows at m
+joins rows at e h = rw e at h
 
-next : (rows : List ℕ) (at k n all r : ℕ) → at + n ≡ k → all ≡ joinOf 32 rows at n → r ≡ word 32 (λ (u : ℕ). or (has all u) (has (getD rows k 0) u))
+next : (rows : List ℕ) (at : ℕ) {k : ℕ} (n : ℕ) {all r : ℕ} → at + n ≡ k → all ≡ joinOf 32 rows at n
+    → r ≡ word 32 (λ (u : ℕ). or (has all u) (has (getD rows k 0) u))
     → r ≡ joinOf 32 rows at (k + 1 - at)
-next rows at k n all r e h q = joins rows at (suc n) (k + 1 - at) r (omega arith) (join-more 32 rows at n all r h (rw e q))
+next rows at n {all} {r} e h q = joins rows at (omega arith) (join-more 32 rows at n all r h (rw e q))
 
 loop-holds : tie.Need-loop-holds Inv-loop μ-loop
-loop-holds c = (omega arith, omega arith, joins _ _ _ _ _ (omega arith) (join-none 32 _ _))
+loop-holds c = (omega arith, omega arith, joins _ _ (omega arith) (join-none 32 _ _))
 
 loop-again : tie.Need-loop-again Inv-loop μ-loop
 loop-again c =
     let i = c .before .before .before .loop .inv in
-    (omega arith, omega arith, next _ _ _ _ _ _ (omega arith) (i .2) (c .either .ensures))
+    (omega arith, omega arith, next _ _ _ (omega arith) (i .2) (c .either .ensures))
 
 returns : tie.Need-returns Inv-loop μ-loop
-returns c = joins _ _ _ _ _ (omega arith) (c .before .loop .inv .2)
+returns c = joins _ _ (omega arith) (c .before .loop .inv .2)
 
 pub joined-spec : {M : Type 1} → statement M
 joined-spec =

@@ -26,7 +26,7 @@ found c = lowest-in 32 _ _ (c .before .before .loop .inv .0) (c .before .loop-te
 loop-less : tie.Need-loop-less Inv-loop μ-loop
 loop-less c =
     let at = c .before .before .before in
-    rest-less 32 _ _ _ (at .before .before .loop .inv .0) (at .before .loop-test .taken) (at .lowest .ensures) (c .dropped .ensures)
+    rest-less 32 (at .before .before .loop .inv .0) (at .before .loop-test .taken) (at .lowest .ensures) (c .dropped .ensures)
 
 loop-again : tie.Need-loop-again Inv-loop μ-loop
 loop-again c =
@@ -35,10 +35,10 @@ loop-again c =
     let n = at .before .loop-test .taken in
     let low = at .lowest .ensures in
     let re = c .dropped .ensures in
-    (rest-lt 32 _ _ _ (i .0) n low re, rest-within 32 _ _ _ (i .0) n low re _ (i .1), union-step 32 _ _ _ _ _ _ _ _ (i .0) n low re (i .1) (i .2) (c .before .either .ensures))
+    (rest-lt 32 (i .0) n low re, rest-within 32 (i .0) n low re _ (i .1), union-step 32 _ _ _ (i .0) n low re (i .1) (i .2) (c .before .either .ensures))
 
 returns : tie.Need-returns Inv-loop μ-loop
-returns c = union-all 32 _ _ _ _ _ (c .loop-test .left) (c .before .loop .inv .2)
+returns c = union-all 32 _ _ _ (c .loop-test .left) (c .before .loop .inv .2)
 
 pub union-spec : {M : Type 1} → statement M
 union-spec =

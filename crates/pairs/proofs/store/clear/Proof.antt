@@ -5,7 +5,6 @@ use mathlib.Core.Path.{_≡_}
 use Prim.Native.Nat.{ℕ, _*_, _^_, _<_}
 use native.Mathlib.Omega.{arith}
 use borrow.Author.Needs.{needs}
-use Rattle.words.specs.Word.{has}
 use Rattle.words.proofs.Laws.{has-zero}
 use Rattle.pairs.specs.Pairs.{slot}
 use Rattle.pairs.specs.Frames.{RunPut, Cleared}
@@ -14,22 +13,22 @@ use Rattle.pairs.proofs.Frames.{run-stored, stored-turned, stored-cong}
 use Rattle.pairs.proofs.store.clear.Statement.{statement}
 use Rattle.pairs.proofs.store.clear.Tie as tie
 
-cleared : (before after : List ℕ) (i j at : ℕ) → i < j → j < 16 → at ≡ slot i j * 32 → RunPut before after at (λ (a : ℕ). 0) 32 → Cleared 32 before after i j
-cleared before after i j at l m e p =
-    stored-cong 32 before after i j (λ (a v : ℕ). has 0 v) _ 32
+cleared : {before after : List ℕ} {i j at : ℕ} → i < j → j < 16 → at ≡ slot i j * 32 → RunPut before after at (λ (a : ℕ). 0) 32 → Cleared 32 before after i j
+cleared {before} {after} {i} {j} {at} l m e p =
+    stored-cong 32 before after 32
     (run-stored 32 before after i j 32 (λ (a : ℕ). 0) l m (omega arith) (rw e at p) (λ a k. omega arith))
     (λ a b _ _ _. has-zero b)
 
 returns : tie.Need-returns
 returns c =
     let s = c .before .before .before .before in
-    cleared _ _ _ _ _ (omega arith) (s .pre .1) (c .before .place .ensures .0) (c .clear-run .ensures)
+    cleared (omega arith) (s .pre .1) (c .before .place .ensures .0) (c .clear-run .ensures)
 
 returns-2 : tie.Need-returns-2
 returns-2 c =
     let s = c .before .before .before .before in
-    stored-turned 32 _ _ _ _ _
-    (cleared _ _ _ _ _ (higher (c .before .before .before .if1 .left) (s .pre .2)) (s .pre .0) (c .before .place2 .ensures .0) (c .clear-run2 .ensures))
+    stored-turned 32
+    (cleared (higher (c .before .before .before .if1 .left) (s .pre .2)) (s .pre .0) (c .before .place2 .ensures .0) (c .clear-run2 .ensures))
 
 pub clear-spec : {M : Type 1} → statement M
 clear-spec = tie.close (tie.spec (λ c κs. search needs) (λ c κs. search needs) returns (λ c κs. search needs) (λ c κs. search needs) returns-2)

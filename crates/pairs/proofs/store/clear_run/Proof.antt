@@ -26,7 +26,7 @@ element-write-rows : tie.Need-element-write-rows Inv-loop μ-loop
 element-write-rows c = search needs
 
 loop-again : tie.Need-loop-again Inv-loop μ-loop
-loop-again c = let p = c .before .loop .inv .1 in (omega arith, rw add-one (run-more _ _ _ _ _ _ p (omega arith) refl))
+loop-again c = let p = c .before .loop .inv .1 in (omega arith, rw add-one (run-more p (omega arith) refl))
 
 returns : tie.Need-returns Inv-loop μ-loop
 returns c = ended (omega arith) (c .before .loop .inv .1)

@@ -7,7 +7,7 @@ use Rattle.pairs.proofs.store.marked.Tie as tie
 returns : tie.Need-returns
 returns c =
     let m = c .before in
-    marked-is 32 _ _ _ _ _ _ _ _ (m .before .before .single .ensures) (m .before .without .ensures) (m .moved .ensures) (c .either .ensures)
+    marked-is 32 _ _ _ (m .before .before .single .ensures) (m .before .without .ensures) (m .moved .ensures) (c .either .ensures)
 
 pub marked-spec : {M : Type 1} → statement M
 marked-spec = tie.close (tie.spec (λ c κs. search needs) (λ c κs. search needs) (λ c κs. search needs) (λ c κs. search needs) returns)

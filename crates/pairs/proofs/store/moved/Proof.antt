@@ -6,7 +6,7 @@ use Rattle.pairs.proofs.store.moved.Statement.{statement}
 use Rattle.pairs.proofs.store.moved.Tie as tie
 
 returns : tie.Need-returns
-returns c = moved-is 32 _ _ _ _ (c .pre .0) (omega arith)
+returns c = moved-is 32 _ _ (c .pre .0) (omega arith)
 
 pub moved-spec : {M : Type 1} → statement M
 moved-spec = tie.close (tie.spec (λ c. search needs) (λ c. search needs) (λ c. search needs) (λ c. search needs) returns)

@@ -18,7 +18,7 @@ at-place e h = rw e h
 returns : tie.Need-returns
 returns c =
     let p = c .before .pre in
-    at-place (c .place .ensures .0) (row-put 32 _ _ _ _ _ (p .0) (p .1) (p .2) (p .3) (c .before .fits .x .fits))
+    at-place (c .place .ensures .0) (row-put 32 _ _ (p .0) (p .1) (p .2) (p .3) (c .before .fits .x .fits))
 
 pub put-row-spec : {M : Type 1} → statement M
 put-row-spec =

@@ -6,22 +6,22 @@ use Rattle.read_field.proofs.field.pair_field.Statement.{statement}
 use Rattle.read_field.proofs.field.pair_field.Tie as tie
 
 returns : tie.Need-returns
-returns c = field-cut _ _ _ _ (omega arith)
+returns c = field-cut 2 _ _ _ (omega arith)
 
 returns-2 : tie.Need-returns-2
-returns-2 c = field-fault _ _ _ _ (c .before .number .ensures) (omega arith) (pair-range _ _ _ (c .if2 .taken))
+returns-2 c = field-fault 2 _ _ _ (c .before .number .ensures) (omega arith) (pair-range _ _ _ (c .if2 .taken))
 
 returns-3 : tie.Need-returns-3
-returns-3 c = field-fault _ _ _ _ (c .before .before .number .ensures) (omega arith) (pair-order _ _ _ (c .before .if2 .left) (omega arith))
+returns-3 c = field-fault 2 _ _ _ (c .before .before .number .ensures) (omega arith) (pair-order _ _ _ (c .before .if2 .left) (omega arith))
 
 returns-4 : tie.Need-returns-4
 returns-4 c =
-    field-fault _ _ _ _ (c .before .before .before .number .ensures) (omega arith)
+    field-fault 2 _ _ _ (c .before .before .before .number .ensures) (omega arith)
     (pair-repeated _ _ _ (c .before .before .if2 .left) (omega arith) (omega arith))
 
 returns-5 : tie.Need-returns-5
 returns-5 c =
-    field-fine _ _ _ _ (c .before .before .before .number .ensures) (omega arith) (omega arith)
+    field-fine 2 _ _ _ (c .before .before .before .number .ensures) (omega arith) (omega arith)
     (pair-fine _ _ _ (c .before .before .if2 .left) (omega arith) (omega arith))
 
 pub pair-field-spec : {M : Type 1} → statement M

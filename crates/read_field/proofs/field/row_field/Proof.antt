@@ -8,23 +8,23 @@ use Rattle.read_field.proofs.field.row_field.Statement.{statement}
 use Rattle.read_field.proofs.field.row_field.Tie as tie
 
 returns : tie.Need-returns
-returns c = field-cut _ _ _ _ (omega arith)
+returns c = field-cut (c .before .before .args .k) _ _ _ (omega arith)
 
 returns-2 : tie.Need-returns-2
 returns-2 c =
-    field-fault _ _ _ _ (c .before .before .number .ensures) (omega arith)
+    field-fault (c .before .before .before .before .before .args .k) _ _ _ (c .before .before .number .ensures) (omega arith)
     (within-fault 32 _ _ _ (omega arith) (sym (c .before .within .ensures) ∙ not-true _ (c .if2 .taken)))
 
 returns-3 : tie.Need-returns-3
 returns-3 c =
     let test = c .before in
-    field-fault _ _ _ _ (test .before .before .number .ensures) (omega arith)
+    field-fault (test .before .before .before .before .before .args .k) _ _ _ (test .before .before .number .ensures) (omega arith)
     (blank-fault 32 _ _ _ (omega arith) (c .if3 .taken))
 
 returns-4 : tie.Need-returns-4
 returns-4 c =
     let test = c .before in
-    field-fine _ _ _ _ (test .before .before .number .ensures) refl (omega arith)
+    field-fine (test .before .before .before .before .before .args .k) _ _ _ (test .before .before .number .ensures) refl (omega arith)
     (within-fine 32 _ _ _ (omega arith) (sym (test .before .within .ensures) ∙ not-false _ (test .if2 .left)) (c .if3 .left))
 
 pub row-field-spec : {M : Type 1} → statement M

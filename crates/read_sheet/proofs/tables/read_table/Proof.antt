@@ -13,7 +13,7 @@ use Rattle.read_sheet.proofs.tables.read_table.Tie as tie
 returns : tie.Need-returns
 returns c =
     rw (c .enum-told .given .1)
-    (table-no-pair (c .before .before .before .before .pre .4) (omega arith) _ _ _ _ _
+    (table-no-pair (c .before .before .before .before .pre .4) (omega arith) _ _ _
     (read-bad (c .before .before .pair-field .ensures) (c .enum-told .given .1)))
 
 -- The pair is read; what is known of it.
@@ -55,7 +55,7 @@ returns-2 c =
     let body = c .before .before in
     let pair = body .before .before .before .before in
     rw (c .enum-told2 .given .1)
-    (table-no-rows (pair .before .before .before .before .before .pre .4) (omega arith) _ _ _ _ _ (pair-read pair)
+    (table-no-rows (pair .before .before .before .before .before .pre .4) (omega arith) _ _ _ (pair-read pair)
     (body .read-rows .ensures) (c .enum-told2 .given .1))
 
 mark-requires : tie.Need-mark-requires
@@ -69,7 +69,7 @@ returns-3 c =
     let told = c .before .before .before .before in
     let body = told .before .before .before in
     let pair = body .before .before .before .before in
-    table-read (pair .before .before .before .before .before .pre .4) (omega arith) _ _ _ _ _ (pair-read pair)
+    table-read (pair .before .before .before .before .before .pre .4) (omega arith) _ _ _ (pair-read pair)
     (body .read-rows .ensures) (told .before .body .given .1) (c .before .before .mark .ensures) (c .mark2 .ensures)
 
 pub read-table-spec : {M : Type 1} → statement M

@@ -31,7 +31,7 @@ mul-capped c =
 loop-again : tie.Need-loop-again Inv-loop μ-loop
 loop-again c = (
   omega arith,
-  capped-more 1000001 _ _ _ _ (c .before .before .before .loop .inv .1) (c .capped .ensures ∙ rw (c .before .open-values .ensures)),
+  capped-more 1000001 _ _ (c .before .before .before .loop .inv .1) (c .capped .ensures ∙ rw (c .before .open-values .ensures)),
 )
 
 returns : tie.Need-returns Inv-loop μ-loop

@@ -79,7 +79,7 @@ module _ (t : ℕ) where
   -- ---- attempt
 
   returns : attempt-lts.Need-returns (attempt-calls t) (attempt-at t) attempt.Post
-  returns c = record { whole = c .before .pre .1 .3; chooses = λ N L f. tried-none N _ _ _ _ _ _ _ L f (c .if1 .taken) }
+  returns c = record { whole = c .before .pre .1 .3; chooses = λ N L f. tried-none _ L f (c .if1 .taken) }
 
   -- The value that is tried is one of the rest.
   tried : (c : attempt-lts.After-next-value (attempt-calls t) (attempt-at t) attempt.Post)
@@ -147,7 +147,7 @@ module _ (t : ℕ) where
       let a = c .before .before .before .before in
       let l = a .before .before .before .before .before .before .before .before in
       let s = l .before .before in
-      let less = rest-less width _ _ _ (s .fits .rest .fits) (l .before .if1 .left) (l .next-value .ensures) (c .before .dropped .ensures) in
+      let less = rest-less width (s .fits .rest .fits) (l .before .if1 .left) (l .next-value .ensures) (c .before .dropped .ensures) in
       (omega (arith, less, s .pre .0), (s .pre .1 .0, s .pre .1 .1, s .pre .1 .2, a .choose .ensures .whole))
 
   returns-4 : attempt-lts.Need-returns-4 (attempt-calls t) (attempt-at t) attempt.Post
@@ -162,7 +162,7 @@ module _ (t : ℕ) where
   -- ---- choose
 
   choose-returns : choose-lts.Need-returns (choose-calls t) (choose-at t) choose.Post
-  choose-returns c = record { whole = c .before .pre .1 .2; chooses = λ N k L. chosen-end N _ _ k _ L _ _ (c .if1 .taken) }
+  choose-returns c = record { whole = c .before .pre .1 .2; chooses = λ N k L. chosen-end L (c .if1 .taken) }
 
   -- The variable that is chosen is one of those that are left.
   chosen : (c : choose-lts.After-lowest (choose-calls t) (choose-at t) choose.Post) → c .lowest .result < variables
@@ -180,7 +180,7 @@ module _ (t : ℕ) where
       let fits = s .fits .left .fits in
       let some = l .before .if1 .left in
       let e = c .before .dropped .ensures in
-      let less = rest-less width _ _ _ fits some (l .lowest .ensures) e in
+      let less = rest-less width fits some (l .lowest .ensures) e in
       let most = count-le width (has (getD (s .args .domains .now) (l .lowest .result) 0)) in (
         omega (arith, less, most, s .pre .0),
         (chosen l, λ j h. let q = above-lowest width _ _ _ fits some (l .lowest .ensures) e j h in (q .1, s .pre .1 .0 j (q .0)), s .pre .1 .1, s .pre .1 .2),
@@ -193,8 +193,8 @@ module _ (t : ℕ) where
       record {
         whole = c .attempt .ensures .whole;
         chooses = λ N k L.
-            chosen-next N _ _ k _ L (s .fits .left .fits) (l .before .if1 .left) _ (l .lowest .ensures) _ (c .before .before .dropped .ensures)
-            _ _ _ _ (c .attempt .ensures .chooses N);
+            chosen-next L (s .fits .left .fits) (l .before .if1 .left) (l .lowest .ensures) (c .before .before .dropped .ensures)
+            _ (c .attempt .ensures .chooses N);
       }
 
 pub +attempt+choose-spec : {M : Type 1} → statement M

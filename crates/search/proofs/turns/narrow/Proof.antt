@@ -17,7 +17,7 @@ abbrev μ-loop : tie.MeasureT-loop
 μ-loop domains₀ rows among k v changed₀ rest₀ domains changed rest = count width (has rest)
 
 loop-holds : tie.Need-loop-holds Inv-loop μ-loop
-loop-holds c = narrowing-none _ _ _ _ _ (c .fits .among .fits)
+loop-holds c = narrowing-none (c .fits .among .fits)
 
 -- The next variable is above k.
 next : (c : tie.After-lowest Inv-loop μ-loop) → (c .before .before .before .args .k < c .lowest .result) × (c .lowest .result < variables)
@@ -37,18 +37,18 @@ mul-domains c = let l = next (c .before .before) .1 in search needs
 loop-less : tie.Need-loop-less Inv-loop μ-loop
 loop-less c =
     let l = c .before .before .before in
-    rest-less width _ _ _ (l .before .before .loop .inv .rest-fits) (l .before .loop-test .taken) (l .lowest .ensures) (c .dropped .ensures)
+    rest-less width (l .before .before .loop .inv .rest-fits) (l .before .loop-test .taken) (l .lowest .ensures) (c .dropped .ensures)
 
 loop-again : tie.Need-loop-again Inv-loop μ-loop
 loop-again c =
     let l = c .before .before .before in
     let long = l .before .before .before .pre .2 in
     let inside = next l .1 in
-    narrowing-more _ _ _ _ _ _ _ _ (l .before .before .loop .inv) (l .before .loop-test .taken) _ (l .lowest .ensures) (omega arith) _
-    (c .before .cut .ensures) _ (c .dropped .ensures)
+    narrowing-more (l .before .before .loop .inv) (l .before .loop-test .taken) (l .lowest .ensures) (omega arith)
+    (c .before .cut .ensures) (c .dropped .ensures)
 
 returns : tie.Need-returns Inv-loop μ-loop
-returns c = narrowing-end _ _ _ _ _ _ _ _ (c .before .loop .inv) (c .loop-test .left)
+returns c = narrowing-end (c .before .loop .inv) (c .loop-test .left)
 
 pub narrow-spec : {M : Type 1} → statement M
 narrow-spec =

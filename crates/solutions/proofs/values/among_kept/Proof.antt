@@ -3,12 +3,14 @@ use mathlib.Core.Path.{sym, _∙_}
 use Prim.Native.Nat.{ℕ, _<_}
 use lib.ListN.{length, getD}
 use borrow.Author.Needs.{needs}
-use borrow.Author.Tests.{not-true, not-false}
+use borrow.Author.Tests.{eq-eqb, ne-eqb, not-true, not-false}
 use Rattle.bounded.specs.Fold.{count}
+use Rattle.bounded.proofs.Bool.{implies-true, implies-false}
 use Rattle.words.specs.Word.{width, has}
 use Rattle.pairs.specs.Pairs.{variables, allowsOf}
 use Rattle.pairs.proofs.Runs.{rest-less}
-use Rattle.solutions.proofs.Choices.{Seen, seen-none, seen-all, seen-next, seen-not, seen-more, among-led, among-live}
+use Rattle.solutions.specs.Choices.{amongKept}
+use Rattle.solutions.proofs.Choices.{Seen, seen-none, seen-all, seen-next, seen-not, seen-more}
 use Rattle.solutions.proofs.values.among_kept.Statement.{statement}
 use Rattle.solutions.proofs.values.among_kept.Tie as tie
 
@@ -19,44 +21,48 @@ abbrev μ-loop : tie.MeasureT-loop
 μ-loop leader among rows values i rest₀ rest = count width (has rest)
 
 returns : tie.Need-returns Inv-loop μ-loop
-returns c = among-led _ _ _ _ _ (c .if1 .taken)
+unfolding amongKept
+returns c = sym (implies-false _ _ (ne-eqb _ _ (c .if1 .taken)))
 
 loop-holds : tie.Need-loop-holds Inv-loop μ-loop
 loop-holds c = seen-none width _ _ (c .before .before .fits .among .fits)
 
--- The next variable is one that has a value.
+-- The next variable is a higher one that has a value.
 next : (c : tie.After-lowest Inv-loop μ-loop) → let s = c .before .before .before .before .before in
-    (c .lowest .result < variables) × (c .lowest .result < length (s .args .values .now))
+    (s .args .i < c .lowest .result) × (c .lowest .result < variables) × (c .lowest .result < length (s .args .values .now))
 next c =
     let s = c .before .before .before .before .before in
-    s .pre .2 _ (seen-next width _ _ _ _ (c .before .before .loop .inv) (c .before .loop-test .taken) (c .lowest .ensures) .1)
+    s .pre .1 _ (seen-next width _ _ (c .before .before .loop .inv) (c .before .loop-test .taken) (c .lowest .ensures) .1)
 
-shared-slice-read-pair-allows-2 : tie.Need-shared-slice-read-pair-allows-2 Inv-loop μ-loop
-shared-slice-read-pair-allows-2 c = next (c .before .before) .1
+shared-slice-read-row-allows-2 : tie.Need-shared-slice-read-row-allows-2 Inv-loop μ-loop
+shared-slice-read-row-allows-2 c = next (c .before .before) .2
 
-pair-allows-requires : tie.Need-pair-allows-requires Inv-loop μ-loop
-pair-allows-requires c κs = (search needs, next (c .before .before) .0)
+row-allows-requires : tie.Need-row-allows-requires Inv-loop μ-loop
+row-allows-requires c κs = let n = next (c .before .before) in (n .0, n .1)
 
 returns-2 : tie.Need-returns-2 Inv-loop μ-loop
+unfolding amongKept
 returns-2 c =
     let l = c .before .before .before .before in
-    among-live _ _ _ _ _ (l .before .before .before .if1 .left)
-    (seen-not width _ _ _ _ (l .before .before .loop .inv) (l .before .loop-test .taken) (l .lowest .ensures) (sym (c .before .pair-allows .ensures) ∙ not-true _ (c .if2 .taken)))
+    sym (implies-true _ _ (eq-eqb _ _ (l .before .before .before .if1 .left))
+    ∙ seen-not width _ _ (l .before .before .loop .inv) (l .before .loop-test .taken) (l .lowest .ensures)
+    (sym (c .before .row-allows .ensures) ∙ not-true _ (c .if2 .taken)))
 
 loop-less : tie.Need-loop-less Inv-loop μ-loop
 loop-less c =
     let l = c .before .before .before .before .before in
-    rest-less width _ _ _ (l .before .before .loop .inv .rest-fits) (l .before .loop-test .taken) (l .lowest .ensures) (c .dropped .ensures)
+    rest-less width (l .before .before .loop .inv .rest-fits) (l .before .loop-test .taken) (l .lowest .ensures) (c .dropped .ensures)
 
 loop-again : tie.Need-loop-again Inv-loop μ-loop
 loop-again c =
     let e = c .before in
     let l = e .before .before .before .before in
-    seen-more width _ _ _ _ (l .before .before .loop .inv) (l .before .loop-test .taken) (l .lowest .ensures) _
-    (sym (e .before .pair-allows .ensures) ∙ not-false _ (e .if2 .left)) (c .dropped .ensures)
+    seen-more width _ _ (l .before .before .loop .inv) (l .before .loop-test .taken) (l .lowest .ensures)
+    (sym (e .before .row-allows .ensures) ∙ not-false _ (e .if2 .left)) (c .dropped .ensures)
 
 returns-3 : tie.Need-returns-3 Inv-loop μ-loop
-returns-3 c = among-live _ _ _ _ _ (c .before .before .if1 .left) (seen-all width _ _ _ (c .before .loop .inv) (c .loop-test .left))
+unfolding amongKept
+returns-3 c = sym (implies-true _ _ (eq-eqb _ _ (c .before .before .if1 .left)) ∙ seen-all width _ _ _ (c .before .loop .inv) (c .loop-test .left))
 
 pub among-kept-spec : {M : Type 1} → statement M
 among-kept-spec =
@@ -68,8 +74,8 @@ among-kept-spec =
     loop-holds
     (λ c κs. search needs)
     (λ c. search needs)
-    shared-slice-read-pair-allows-2
-    pair-allows-requires
+    shared-slice-read-row-allows-2
+    row-allows-requires
     returns-2
     (λ c κs. search needs)
     loop-less

@@ -15,13 +15,13 @@ abbrev μ-loop : tie.MeasureT-loop
 μ-loop n domains leaders rows values₀ i₀ values i = n - i
 
 loop-holds : tie.Need-loop-holds Inv-loop μ-loop
-loop-holds c = (omega arith, completed-none _ _ _ _)
+loop-holds c = (omega arith, completed-none)
 
 value-completed-requires : tie.Need-value-completed-requires Inv-loop μ-loop
 value-completed-requires c κs = (
   omega (arith, c .before .before .before .before .pre .led-n),
   omega (arith, c .before .before .before .before .pre .led-length, c .before .before .loop .inv .1 .same-length),
-  leader-ready _ _ _ _ _ _ _ (c .before .before .before .before .pre) (c .before .before .loop .inv .1) (c .before .loop-test .taken),
+  leader-ready (c .before .before .before .before .pre) (c .before .before .loop .inv .1) (c .before .loop-test .taken),
 )
 
 slice-write-values : tie.Need-slice-write-values Inv-loop μ-loop
@@ -30,7 +30,8 @@ slice-write-values c = omega (arith, c .before .before .before .before .before .
 loop-again : tie.Need-loop-again Inv-loop μ-loop
 loop-again c = (
   omega arith,
-  completed-more _ _ _ _ _ _ _ (c .before .before .before .before .before .pre) (c .before .before .before .loop .inv .1) (c .before .before .loop-test .taken) _ (c .value-completed .ensures),
+  completed-more (c .before .before .before .before .before .pre) (c .before .before .before .loop .inv .1) (c .before .before .loop-test .taken)
+      (c .value-completed .ensures),
 )
 
 same-length : tie.Need-same-length Inv-loop μ-loop

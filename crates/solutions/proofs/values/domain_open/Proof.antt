@@ -1,4 +1,4 @@
--- A follower's list is not looked at.
+-- A follower's domain is not looked at.
 use Rattle.solutions.proofs.Choices.{domain-led, domain-live}
 use Rattle.solutions.proofs.values.domain_open.Statement.{statement}
 use Rattle.solutions.proofs.values.domain_open.Tie as tie

@@ -1,4 +1,4 @@
--- The loop's invariant: the first `i` options pass. A turn tests one more.
+-- The loop's invariant: the first `i` variables pass. A turn tests one more.
 use native.Mathlib.Omega.{arith}
 use borrow.Author.Needs.{needs}
 use mathlib.Core.Path.{_≡_, refl}
@@ -21,7 +21,7 @@ unfolding every
 loop-holds c = (omega arith, refl)
 
 loop-again : tie.Need-loop-again Inv-loop μ-loop
-loop-again c = (omega arith, test-joins _ _ _ _ (c .before .before .before .before .loop .inv .1) (c .domain-open .ensures))
+loop-again c = (omega arith, test-joins _ _ (c .before .before .before .before .loop .inv .1) (c .domain-open .ensures))
 
 returns : tie.Need-returns Inv-loop μ-loop
 unfolding domainsOpen

@@ -31,8 +31,8 @@ loop-again c =
     let turn = c .before .before .before .before in
     let entry = turn .before in (
       omega arith,
-      test-joins _ _ _ _ (turn .loop .inv .1)
-          (c .side-apart .ensures ∙ side-pairs _ _ _ _ (omega arith) (entry .free-variables .ensures) _),
+      test-joins _ _ (turn .loop .inv .1)
+          (c .side-apart .ensures ∙ side-pairs _ _ (omega arith) (entry .free-variables .ensures) _),
     )
 
 returns : tie.Need-returns Inv-loop μ-loop

@@ -22,7 +22,7 @@ loop-holds c = (omega arith, sym (word-zero _))
 
 loop-again : tie.Need-loop-again Inv-loop μ-loop
 unfolding freeWord
-loop-again c = (omega arith, bit-joins 4294967296 _ _ _ _ (pow-mono {j = 32} (omega arith)) (c .before .before .loop .inv .1) refl)
+loop-again c = (omega arith, bit-joins 4294967296 _ _ (pow-mono {j = 32} (omega arith)) (c .before .before .loop .inv .1) refl)
 
 returns : tie.Need-returns Inv-loop μ-loop
 returns c = rw (let e : c .before .loop .i ≡ c .before .before .args .n = omega arith in e) at (c .before .loop .inv .1)

@@ -1,4 +1,4 @@
--- The loop's invariant: the first `i` options are fresh. A turn tests one more.
+-- The loop's invariant: the first `i` variables are fresh. A turn tests one more.
 use mathlib.Core.Path.{_≡_, refl}
 use Prim.Native.Nat.{ℕ, _-_, _≤_}
 use native.Mathlib.Omega.{arith}
@@ -24,7 +24,7 @@ fresh-value-requires : tie.Need-fresh-value-requires Inv-loop μ-loop
 fresh-value-requires c κs = c .before .before .before .before .before .pre .1 _
 
 loop-again : tie.Need-loop-again Inv-loop μ-loop
-loop-again c = (omega arith, test-joins _ _ _ _ (c .before .before .loop .inv .1) (c .fresh-value .ensures))
+loop-again c = (omega arith, test-joins _ _ (c .before .before .loop .inv .1) (c .fresh-value .ensures))
 
 returns : tie.Need-returns Inv-loop μ-loop
 unfolding freshParts

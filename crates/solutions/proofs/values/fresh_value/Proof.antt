@@ -1,4 +1,4 @@
--- A follower's list is not looked at.
+-- A follower's domain is not looked at.
 use mathlib.Core.Path.{ap, _∙_}
 use Prim.Native.Nat.{ℕ}
 use lib.Dec.{ltb}
@@ -9,11 +9,11 @@ use Rattle.solutions.proofs.values.fresh_value.Statement.{statement}
 use Rattle.solutions.proofs.values.fresh_value.Tie as tie
 
 returns : tie.Need-returns
-returns c = fresh-led _ _ _ (c .if1 .taken)
+returns c = fresh-led _ _ (c .if1 .taken)
 
 returns-2 : tie.Need-returns-2
 returns-2 c =
-    fresh-live _ _ _ _ (c .before .before .if1 .left)
+    fresh-live _ _ (c .before .before .if1 .left)
     (c .full .ensures ∙ ap (λ (k : ℕ). word width (λ (v : ℕ). ltb v k)) (c .before .wide .ensures))
 
 pub fresh-value-spec : {M : Type 1} → statement M

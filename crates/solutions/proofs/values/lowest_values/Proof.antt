@@ -20,7 +20,7 @@ loop-holds : tie.Need-loop-holds Inv-loop μ-loop
 loop-holds c = (omega arith, lowest-none _)
 
 loop-again : tie.Need-loop-again Inv-loop μ-loop
-loop-again c = (omega arith, lowest-more _ _ _ _ (omega arith) (c .before .before .before .loop .inv .1) (c .lowest-value .ensures))
+loop-again c = (omega arith, lowest-more _ (omega arith) (c .before .before .before .loop .inv .1) (c .lowest-value .ensures))
 
 returns : tie.Need-returns Inv-loop μ-loop
 returns c = rw (let e : c .before .loop .i ≡ c .before .before .args .n = omega arith in e) at (c .before .loop .inv .1)

@@ -1,4 +1,4 @@
--- A live option keeps its value; a follower gets the partner of its leader's.
+-- A free variable keeps its value; a follower gets the partner of its leader's.
 use native.Mathlib.Omega.{arith}
 use mathlib.Core.Path.{_∙_}
 use Prim.Native.Nat.{_-_}
@@ -14,7 +14,9 @@ led : (c : tie.After-wide)
 led c = c .before .before .before .before .pre .2 (c .wide .result - 1) (omega (arith, c .wide .ensures, c .before .if1 .left))
 
 returns : tie.Need-returns
-returns c = completed-live _ _ _ _ _ (c .before .if1 .taken)
+returns c =
+    let s = c .before .before .before .before .args in
+    completed-live (s .domains .now) (s .leaders .now) (s .rows .now) (s .values .now) (s .i) (c .before .if1 .taken)
 
 shared-slice-read-wide : tie.Need-shared-slice-read-wide
 shared-slice-read-wide c = led (c .before .before) .leader-read
@@ -25,8 +27,11 @@ partner-of-requires c κs =
     (l .leader-in, c .before .before .before .before .before .before .before .pre .0, l .leader-other, omega (arith, c .wide2 .ensures, l .leader-fits))
 
 returns-2 : tie.Need-returns-2
-returns-2 c = c .partner-of .ensures
-    ∙ completed-follower _ _ _ _ _ _ _ (c .before .before .before .before .before .if1 .left) (omega (arith, c .before .before .before .before .wide .ensures)) (c .before .wide2 .ensures)
+returns-2 c =
+    let s = c .before .before .before .before .before .before .before .before .args in
+    c .partner-of .ensures
+    ∙ completed-follower (s .domains .now) (s .leaders .now) (s .rows .now) (s .values .now) (s .i) _ _
+    (c .before .before .before .before .before .if1 .left) (omega (arith, c .before .before .before .before .wide .ensures)) (c .before .wide2 .ensures)
 
 pub value-completed-spec : {M : Type 1} → statement M
 value-completed-spec =

@@ -29,7 +29,7 @@ loop-again : tie.Need-loop-again Inv-loop μ-loop
 unfolding within
 loop-again c = (
   omega arith,
-  test-joins _ _ _ _ (c .before .before .before .before .before .loop .inv .1) (within-same _ (c .within .ensures) (c .before .wide .ensures)),
+  test-joins _ _ (c .before .before .before .before .before .loop .inv .1) (within-same _ (c .within .ensures) (c .before .wide .ensures)),
 )
 
 returns : tie.Need-returns Inv-loop μ-loop

@@ -2,20 +2,27 @@
 use mathlib.Core.Path.{sym, _∙_}
 use native.Mathlib.Omega.{arith}
 use borrow.Author.Needs.{needs}
+use borrow.Author.Tests.{lt-ltb, le-ltb, eq-eqb, ne-eqb}
+use Rattle.bounded.proofs.Bool.{and-fails, and-holds}
 use Rattle.words.specs.Word.{width}
-use Rattle.soundness.proofs.Tests.{leader-past, leader-led, follower-loose, follower-tied, not-itself}
+use Rattle.soundness.specs.Parts.{followerFits}
+use Rattle.soundness.proofs.Tests.{not-itself}
 use Rattle.soundness.proofs.sound.follower_sound.Statement.{statement}
 use Rattle.soundness.proofs.sound.follower_sound.Tie as tie
 
 returns : tie.Need-returns
-returns c = leader-past _ _ _ _ _ (c .if1 .taken)
+unfolding followerFits
+returns c = sym (and-fails _ _ (le-ltb _ _ (c .if1 .taken)))
 
 returns-2 : tie.Need-returns-2
-returns-2 c = leader-led _ _ _ _ _ (c .before .before .if1 .left) (c .if2 .taken)
+unfolding followerFits
+returns-2 c = sym (and-holds _ _ (lt-ltb _ _ (c .before .before .if1 .left)) ∙ and-fails _ _ (ne-eqb _ _ (c .if2 .taken)))
 
 returns-3 : tie.Need-returns-3
-returns-3 c = follower-loose _ _ _ _ _ (c .before .before .before .before .if1 .left) (c .before .before .if2 .left)
-    (λ e. c .if3 .taken (e ∙ sym (c .before .single .ensures)))
+unfolding followerFits
+returns-3 c =
+    sym (and-holds _ _ (lt-ltb _ _ (c .before .before .before .before .if1 .left)) ∙ and-holds _ _ (eq-eqb _ _ (c .before .before .if2 .left))
+    ∙ and-fails _ _ (ne-eqb _ _ (λ e. c .if3 .taken (e ∙ sym (c .before .single .ensures)))))
 
 partners-within-requires : tie.Need-partners-within-requires
 partners-within-requires c κs =
@@ -26,10 +33,12 @@ partners-within-requires c κs =
     )
 
 returns-4 : tie.Need-returns-4
+unfolding followerFits
 returns-4 c =
-    let tied = c .before .before .before in
     c .partners-within .ensures
-    ∙ follower-tied _ _ _ _ _ (tied .before .before .before .before .if1 .left) (tied .before .before .if2 .left) (tied .if3 .left ∙ tied .before .single .ensures)
+    ∙ sym (and-holds _ _ (lt-ltb _ _ (c .before .before .before .before .before .before .before .if1 .left))
+    ∙ and-holds _ _ (eq-eqb _ _ (c .before .before .before .before .before .if2 .left))
+    ∙ and-holds _ _ (eq-eqb _ _ (c .before .before .before .if3 .left ∙ c .before .before .before .before .single .ensures)))
 
 pub follower-sound-spec : {M : Type 1} → statement M
 follower-sound-spec =

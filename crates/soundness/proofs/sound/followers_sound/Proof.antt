@@ -29,7 +29,7 @@ free-or-sound-requires c κs =
     (search needs, search needs, start .pre .1 (loop .loop .i))
 
 loop-again : tie.Need-loop-again Inv-loop μ-loop
-loop-again c = (omega arith, test-joins _ _ _ _ (c .before .before .before .before .loop .inv .1) (c .free-or-sound .ensures))
+loop-again c = (omega arith, test-joins _ _ (c .before .before .before .before .loop .inv .1) (c .free-or-sound .ensures))
 
 returns : tie.Need-returns Inv-loop μ-loop
 unfolding followersFit

@@ -35,7 +35,7 @@ loop-again : tie.Need-loop-again Inv-loop μ-loop
 loop-again c =
     let loop = c .before .before .before .before .before in (
       omega arith,
-      test-joins _ _ _ _ (loop .loop .inv .1)
+      test-joins _ _ (loop .loop .inv .1)
           (pair-same _ _ _ (c .pair-rows-sound .ensures) (c .before .before .before .member .ensures) (c .before .wide2 .ensures) (loop .before .wide .ensures)),
     )
 

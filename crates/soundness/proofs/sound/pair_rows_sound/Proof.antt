@@ -1,15 +1,25 @@
 -- Each way through the test is a case of the definition.
+use mathlib.Core.Path.{sym, ap, _∙_}
+use Prim.Native.Nat.{ℕ}
+use native.Mathlib.Omega.{arith}
+use lib.Dec.{eqb}
 use borrow.Author.Needs.{needs}
 use borrow.Author.Tests.{not-true, not-false}
-use Rattle.soundness.proofs.Tests.{pair-unstated, pair-stated}
+use Rattle.bounded.proofs.Bool.{if-true, if-false}
+use Rattle.soundness.specs.Parts.{pairRowsFit}
+use Rattle.soundness.proofs.Tests.{run-same}
 use Rattle.soundness.proofs.sound.pair_rows_sound.Statement.{statement}
 use Rattle.soundness.proofs.sound.pair_rows_sound.Tie as tie
 
 returns : tie.Need-returns
-returns c = pair-unstated _ _ _ _ _ (c .before .before .place .ensures .0) (not-true _ (c .before .if1 .taken)) (c .joined .ensures)
+unfolding pairRowsFit
+returns c =
+    ap (λ (x : ℕ). eqb x 0) (run-same _ (c .joined .ensures) (c .before .before .place .ensures .0) (omega arith))
+    ∙ sym (if-false _ _ _ (not-true _ (c .before .if1 .taken)))
 
 returns-2 : tie.Need-returns-2
-returns-2 c = pair-stated _ _ _ _ _ (c .before .before .place .ensures .0) (not-false _ (c .before .if1 .left)) (c .constraint-sound .ensures)
+unfolding pairRowsFit
+returns-2 c = rw (c .before .before .place .ensures .0) at (c .constraint-sound .ensures) ∙ sym (if-true _ _ _ (not-false _ (c .before .if1 .left)))
 
 pub pair-rows-sound-spec : {M : Type 1} → statement M
 pair-rows-sound-spec =

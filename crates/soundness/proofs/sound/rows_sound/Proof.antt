@@ -30,7 +30,7 @@ lower-rows-sound-requires : tie.Need-lower-rows-sound-requires Inv-loop μ-loop
 lower-rows-sound-requires c κs = (search needs, c .before .before .before .before .before .pre .2)
 
 loop-again : tie.Need-loop-again Inv-loop μ-loop
-loop-again c = (omega arith, test-joins _ _ _ _ (c .before .before .before .loop .inv .1) (c .lower-rows-sound .ensures))
+loop-again c = (omega arith, test-joins _ _ (c .before .before .before .loop .inv .1) (c .lower-rows-sound .ensures))
 
 returns-2 : tie.Need-returns-2 Inv-loop μ-loop
 unfolding rowsFit

@@ -25,7 +25,7 @@ loop-holds c = (omega arith, refl)
 loop-again : tie.Need-loop-again Inv-loop μ-loop
 loop-again c = (
   omega arith,
-  test-joins _ _ _ _ (c .before .before .before .before .loop .inv .1) (size-same _ _ (c .size-sound .ensures) (c .before .wide .ensures)),
+  test-joins _ _ (c .before .before .before .before .loop .inv .1) (size-same _ _ (c .size-sound .ensures) (c .before .wide .ensures)),
 )
 
 returns : tie.Need-returns Inv-loop μ-loop

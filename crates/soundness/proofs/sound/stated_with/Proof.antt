@@ -25,7 +25,7 @@ loop-holds c = (omega arith, sym (word-zero _))
 loop-again : tie.Need-loop-again Inv-loop μ-loop
 loop-again c = (
   omega arith,
-  bit-joins (2 ^ width) _ _ _ _ (pow-mono {j = width} (omega arith)) (c .before .before .before .loop .inv .1) (c .member .ensures),
+  bit-joins (2 ^ width) _ _ (pow-mono {j = width} (omega arith)) (c .before .before .before .loop .inv .1) (c .member .ensures),
 )
 
 returns : tie.Need-returns Inv-loop μ-loop

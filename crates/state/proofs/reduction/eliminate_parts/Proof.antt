@@ -1,31 +1,31 @@
--- What refuses the step decides: `step-refused`, or `step-taken` with the step itself.
+-- What refuses the step decides: `refusal-told`, or `step-told` with the step itself.
 use borrow.Author.Needs.{needs}
-use Rattle.state.proofs.Reducing.{step-state, step-refused, taken-sound, leader-some, follower-some, step-is-legal, step-taken}
+use Rattle.state.specs.View.{stateOf}
+use Rattle.state.specs.Steps.{stepped}
+use Rattle.state.proofs.Steps.{refusal-told}
+use Rattle.state.proofs.Worked.{StepTaken, not-refused-step, step-state, step-told}
 use Rattle.state.proofs.reduction.eliminate_parts.Statement.{statement}
 use Rattle.state.proofs.reduction.eliminate_parts.Tie as tie
 
 returns : tie.Need-returns
-returns c =
-    let r = c .before .before .refuse-step in
-    step-refused _ _ _ (r .result) _ (c .enum-told2 .given .1) (r .ensures)
+unfolding stepped
+returns c = refusal-told _ (c .enum-told2 .given .1) (c .before .before .refuse-step .ensures)
+
+taken : (t : tie.After-enum-told) → let a = t .before .before .before .before .args in
+    StepTaken (stateOf (a .head) (a .rows .now)) (a .leader) (a .follower)
+taken t = not-refused-step (t .enum-told .given .1) (t .before .before .refuse-step .ensures)
 
 sub-step : tie.Need-sub-step
-sub-step c = let t = c .before in leader-some _ _ _ _ (t .enum-told .given .1) (t .before .before .refuse-step .ensures)
+sub-step c = taken (c .before .before .before) .leader-some
 
 sub-step-2 : tie.Need-sub-step-2
-sub-step-2 c = let t = c .before in follower-some _ _ _ _ (t .enum-told .given .1) (t .before .before .refuse-step .ensures)
+sub-step-2 c = taken (c .before .before .before) .follower-some
 
 step-requires : tie.Need-step-requires
-step-requires c κs =
-    let t = c .before in
-    let r = t .before .before in
-    let e = t .enum-told .given .1 in
-    (taken-sound _ _ _ _ e (r .refuse-step .ensures), r .before .before .pre, step-is-legal _ _ _ _ e (r .refuse-step .ensures))
+step-requires c κs = let T = taken (c .before .before .before) in (T .of-sound, c .before .whole .ensures, T .is-legal)
 
 returns-2 : tie.Need-returns-2
-returns-2 c =
-    let t = c .before .before in
-    step-taken _ _ _ _ (t .enum-told .given .1) (t .before .before .refuse-step .ensures) _ (step-state (c .step .ensures))
+returns-2 c = let t = c .before .before .before .before in step-told (taken t) (t .enum-told .given .1) (step-state (c .step .ensures))
 
 pub eliminate-parts-spec : {M : Type 1} → statement M
 eliminate-parts-spec =
@@ -35,6 +35,7 @@ eliminate-parts-spec =
     (λ c. search needs)
     (λ c. search needs)
     returns
+    (λ c κs. search needs)
     sub-step
     sub-step-2
     step-requires

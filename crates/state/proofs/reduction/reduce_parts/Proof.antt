@@ -1,11 +1,11 @@
--- Soundness comes first: `reduce-unsound`.
+-- Soundness comes first: `reduce-unsound`, or `reduction-told` with the reduction itself.
 use mathlib.Core.Bool.{true}
 use mathlib.Core.Path.{_≡_, sym, _∙_}
 use borrow.Author.Needs.{needs}
 use borrow.Author.Tests.{not-true, not-false}
 use Rattle.head.specs.Held.{soundIn}
 use Rattle.state.proofs.Steps.{reduced-done}
-use Rattle.state.proofs.Reducing.{reduce-unsound}
+use Rattle.state.proofs.Worked.{reduction-told, reduce-unsound}
 use Rattle.state.proofs.reduction.reduce_parts.Statement.{statement}
 use Rattle.state.proofs.reduction.reduce_parts.Tie as tie
 
@@ -16,10 +16,10 @@ returns : tie.Need-returns
 returns c = reduce-unsound _ (sym (c .before .sound-parts .ensures) ∙ not-true _ (c .if1 .taken))
 
 reduce-sound-requires : tie.Need-reduce-sound-requires
-reduce-sound-requires c κs = (c .before .before .before .before .pre, sound (c .before))
+reduce-sound-requires c κs = let w = c .before in (w .whole .ensures, sound (w .before .before))
 
 returns-2 : tie.Need-returns-2
-returns-2 c = c .reduce-sound .ensures ∙ sym (reduced-done _ (sound (c .before .before)))
+returns-2 c = let r = c .before in reduction-told (r .reduce-sound .ensures) ∙ sym (reduced-done _ (sound (r .before .before .before .before)))
 
 pub reduce-parts-spec : {M : Type 1} → statement M
-reduce-parts-spec = tie.close (tie.spec (λ c κs. search needs) returns reduce-sound-requires returns-2)
+reduce-parts-spec = tie.close (tie.spec (λ c κs. search needs) returns (λ c κs. search needs) reduce-sound-requires returns-2)

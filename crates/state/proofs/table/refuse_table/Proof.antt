@@ -3,10 +3,12 @@ use mathlib.Core.Bool.{true}
 use mathlib.Core.Path.{_≡_, sym, ap, _∙_}
 use borrow.Author.Needs.{needs}
 use borrow.Author.Tests.{not-true, not-false}
+use Rattle.bounded.proofs.Bool.{if-true, if-false}
+use Rattle.answers.specs.Answers.{outcomeNumber}
 use Rattle.step_add.specs.Judging.{tableNumber}
 use Rattle.head.specs.Held.{soundIn}
 use Rattle.head.proofs.Held.{held-n, held-size, shape}
-use Rattle.state.proofs.Tables.{unsound-number, legal-number, judged-number}
+use Rattle.state.specs.Tables.{tableRefusal}
 use Rattle.state.proofs.table.refuse_table.Statement.{statement}
 use Rattle.state.proofs.table.refuse_table.Tie as tie
 
@@ -14,20 +16,23 @@ sound : (c : tie.Else1) → soundIn (c .before .before .before .args .head) (c .
 sound c = sym (c .before .sound-parts .ensures) ∙ not-false _ (c .if1 .left)
 
 returns : tie.Need-returns
-returns c = unsound-number _ _ _ _ (sym (c .before .sound-parts .ensures) ∙ not-true _ (c .if1 .taken))
+unfolding outcomeNumber tableRefusal
+returns c = sym (if-false _ _ _ (sym (c .before .sound-parts .ensures) ∙ not-true _ (c .if1 .taken)))
 
 judge-table-requires : tie.Need-judge-table-requires
 judge-table-requires c κs = (held-n _ _ (sound c), held-size _ _ (search shape) (sound c))
 
 returns-2 : tie.Need-returns-2
+unfolding outcomeNumber tableNumber tableRefusal
 returns-2 c =
     let j = c .before .before in
-    legal-number _ _ _ _ (sound (j .before)) (ap tableNumber (sym (c .enum-told .given .1)) ∙ j .judge-table .ensures _)
+    ap tableNumber (sym (c .enum-told .given .1)) ∙ j .judge-table .ensures _ ∙ sym (if-true _ _ _ (sound (j .before)))
 
 returns-3 : tie.Need-returns-3
+unfolding outcomeNumber tableNumber tableRefusal
 returns-3 c =
     let j = c .before .before .before in
-    judged-number _ _ _ _ (sound (j .before)) _ (ap tableNumber (sym (c .before .cause .given .1)) ∙ j .judge-table .ensures _)
+    ap tableNumber (sym (c .before .cause .given .1)) ∙ j .judge-table .ensures _ ∙ sym (if-true _ _ _ (sound (j .before)))
 
 pub refuse-table-spec : {M : Type 1} → statement M
 refuse-table-spec =

@@ -6,20 +6,22 @@ use native.Mathlib.Omega.{arith}
 use lib.Dec.{eqb, ltb}
 use borrow.Author.Needs.{needs}
 use Rattle.bounded.specs.Bool.{or}
+use Rattle.bounded.proofs.Bool.{or-l, or-r, if-true}
 use Rattle.network.specs.Step.{outside}
+use Rattle.network.specs.Added.{addRefusal}
 use Rattle.head.specs.Held.{held}
 use Rattle.step_add.specs.Judging.{tableNumber}
-use Rattle.step_add.proofs.Judging.{first-outside, second-outside, rest-decides, numbered}
+use Rattle.step_add.proofs.Judging.{rest-decides, numbered}
 use Rattle.step_add.proofs.judge.judge_table.Statement.{statement}
 use Rattle.step_add.proofs.judge.judge_table.Tie as tie
 
 returns : tie.Need-returns
-unfolding held outside tableNumber
-returns c rows = first-outside _ _ _ _ (sym (c .before .outside .ensures) ∙ c .if1 .taken)
+unfolding held outside tableNumber addRefusal
+returns c rows = sym (if-true _ _ _ (or-l _ _ (sym (c .before .outside .ensures) ∙ c .if1 .taken)))
 
 returns-2 : tie.Need-returns-2
-unfolding held outside tableNumber
-returns-2 c rows = second-outside _ _ _ _ (sym (c .before .outside2 .ensures) ∙ c .if2 .taken)
+unfolding held outside tableNumber addRefusal
+returns-2 c rows = sym (if-true _ _ _ (or-r _ _ (sym (c .before .outside2 .ensures) ∙ c .if2 .taken)))
 
 -- Past these two both numbers name a variable.
 first-in : (c : tie.Else2) → let a = c .before .before .before .before .before .args in or (eqb (a .first) 0) (ltb (a .head .n) (a .first)) ≡ false
@@ -46,8 +48,9 @@ returns-3 c rows =
     let f = c .before in
     let other = f .before in
     let size = other .before in
-    rest-decides _ _ _ _ (first-in (size .before)) (second-in (size .before)) (size .size-of .ensures) (other .size-of2 .ensures) (f .rows-fit .ensures)
-    (c .decided .ensures)
+    let a = size .before .before .before .before .before .before .args in
+    rest-decides _ (a .first) (a .second) _ (first-in (size .before)) (second-in (size .before)) (size .size-of .ensures) (other .size-of2 .ensures)
+    (f .rows-fit .ensures) (c .decided .ensures)
 
 pub judge-table-spec : {M : Type 1} → statement M
 judge-table-spec =

@@ -27,7 +27,7 @@ loop-holds c = (search needs, below-none _)
 returns-2 : tie.Need-returns-2 Inv-loop μ-loop
 returns-2 c =
     let w = c .before in
-    wrong-row _ _ _ _ (omega arith) (row-within 32 _ _ false (w .before .shared-slice-known2 .given _ .fits) (w .within .ensures) (not-true _ (c .if2 .taken)))
+    wrong-row _ _ _ (omega arith) (row-within 32 _ _ false (w .before .shared-slice-known2 .given _ .fits) (w .within .ensures) (not-true _ (c .if2 .taken)))
 
 loop-again : tie.Need-loop-again Inv-loop μ-loop
 loop-again c =

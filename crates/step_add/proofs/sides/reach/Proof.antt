@@ -5,7 +5,7 @@ use Rattle.step_add.proofs.sides.reach.Statement.{statement}
 use Rattle.step_add.proofs.sides.reach.Tie as tie
 
 returns : tie.Need-returns
-returns c = reach-is 32 _ _ _ _ _ _ _ (c .before .before .partner .ensures) (c .told .ensures)
+returns c = let a = c .before .before .before .before .args in reach-is 32 _ _ (a .first) (a .second) _ (c .before .before .partner .ensures) (c .told .ensures)
 
 pub reach-spec : {M : Type 1} → statement M
 reach-spec =

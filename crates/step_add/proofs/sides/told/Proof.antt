@@ -10,7 +10,7 @@ returns c = told-own 32 _ _ _ (c .before .fits .row .fits) (c .if1 .taken)
 returns-2 : tie.Need-returns-2
 returns-2 c =
     let e = c .before .before in
-    told-led 32 _ (e .before .args .side) _ _ _ (e .if1 .left) (c .before .both .ensures) (c .partners .ensures)
+    told-led 32 _ (e .before .args .side) _ (e .if1 .left) (c .before .both .ensures) (c .partners .ensures)
 
 pub told-spec : {M : Type 1} → statement M
 told-spec = tie.close (tie.spec returns (λ c κs. search needs) (λ c κs. search needs) returns-2)

@@ -51,7 +51,7 @@ returns-2 c =
     let two = was .before .before .before in
     let second = two .before in
     let first = second .before in
-    added-apart (given (first .before)) (first .side-of .ensures .0) (second .side-of2 .ensures .0) _ _ _ _ _ _ (two .if1 .left)
+    added-apart (given (first .before)) (first .side-of .ensures .0) (second .side-of2 .ensures .0) (two .if1 .left)
     (was .member .ensures) (cut .cut .ensures) (one .before .single .ensures) (one .either .ensures) (c .before .single2 .ensures) (c .either2 .ensures)
 
 pub add-spec : {M : Type 1} → statement M

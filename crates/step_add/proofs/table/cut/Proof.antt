@@ -12,7 +12,7 @@ cut-pair-requires-2 c κs =
     let p = e .before .before .before .before .pre in (
       p .1,
       p .0,
-      apart-turned 32 _ _ (p .2),
+      apart-turned 32 (p .2),
       higher (e .if1 .left) (p .2 .leaders-apart),
       rw (t .turned .ensures) (p .4 .columns-in),
       p .5,
@@ -21,7 +21,7 @@ cut-pair-requires-2 c κs =
 returns-2 : tie.Need-returns-2
 returns-2 c =
     let t = c .before .before .before in
-    cut-turned 32 _ _ _ _ _ _ _ (t .before .before .before .before .before .pre .4) (t .turned .ensures) (c .cut-pair2 .ensures)
+    cut-turned 32 _ (t .before .before .before .before .before .pre .4) (t .turned .ensures) (c .cut-pair2 .ensures)
 
 pub cut-spec : {M : Type 1} → statement M
 cut-spec =

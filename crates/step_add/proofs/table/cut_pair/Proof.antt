@@ -18,19 +18,19 @@ abbrev μ-loop : tie.MeasureT-loop
 μ-loop rows₀ table first second was p q a₀ rows a = 32 - a
 
 loop-holds : tie.Need-loop-holds Inv-loop μ-loop
-loop-holds c = (omega arith, stored-none 32 _ _ _ _)
+loop-holds c = (omega arith, stored-none 32)
 
 cut-row-requires : tie.Need-cut-row-requires Inv-loop μ-loop
 cut-row-requires c κs =
     let at = c .before .before in
     let p = at .before .before .pre in
-    (p .0, p .1, p .2, p .3, c .before .loop-test .taken, partners-stay 32 _ _ _ _ (p .2) _ _ (at .loop .inv .1) (at .before .before .args .table .now) (p .4))
+    (p .0, p .1, p .2, p .3, c .before .loop-test .taken, partners-stay 32 (p .2) (at .loop .inv .1) (at .before .before .args .table .now) (p .4))
 
 loop-again : tie.Need-loop-again Inv-loop μ-loop
 loop-again c =
     let r = c .before .before in
     let at = r .before .before .before in
-    (omega arith, cut-more 32 _ _ _ _ _ _ _ _ _ (at .before .before .pre .2) (at .loop .inv .1) (r .cut-row .ensures) (c .put-row .ensures))
+    (omega arith, cut-more 32 _ _ (at .before .before .pre .2) (at .loop .inv .1) (r .cut-row .ensures) (c .put-row .ensures))
 
 returns : tie.Need-returns Inv-loop μ-loop
 returns c = rw (let e : c .before .loop .a ≡ 32 = omega arith in e) at (c .before .loop .inv .1)

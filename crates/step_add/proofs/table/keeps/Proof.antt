@@ -1,15 +1,18 @@
--- A value outside the domain does not stay, and another does where the table allows it: `kept-none`, `kept-some`.
+-- A value outside the domain does not stay, and another does where the table allows it: `kept-some`.
 use mathlib.Core.Bool.{true}
 use mathlib.Core.Path.{_≡_, sym, _∙_}
 use borrow.Author.Needs.{needs}
 use borrow.Author.Tests.{not-true, not-false}
+use Rattle.bounded.proofs.Bool.{and-fails}
 use Rattle.words.specs.Word.{has}
-use Rattle.step_add.proofs.Cut.{kept-none, kept-some}
+use Rattle.step_add.specs.Sides.{keptAt}
+use Rattle.step_add.proofs.Cut.{kept-some}
 use Rattle.step_add.proofs.table.keeps.Statement.{statement}
 use Rattle.step_add.proofs.table.keeps.Tie as tie
 
 returns : tie.Need-returns
-returns c = kept-none 32 _ _ _ _ _ (sym (c .before .member .ensures) ∙ not-true _ (c .if1 .taken))
+unfolding keptAt
+returns c = sym (and-fails _ _ (sym (c .before .member .ensures) ∙ not-true _ (c .if1 .taken)))
 
 in-domain : (c : tie.Else1) → has (c .before .before .before .args .first .values) (c .before .before .before .args .a) ≡ true
 in-domain c = sym (c .before .member .ensures) ∙ not-false _ (c .if1 .left)
@@ -20,7 +23,8 @@ reach-requires c κs = let p = c .before .before .before .pre in (p .0, p .1, p 
 returns-2 : tie.Need-returns-2
 returns-2 c =
     let e = c .before .before in
-    c .member2 .ensures ∙ kept-some 32 _ _ _ _ _ _ (e .before .before .before .pre .2) (in-domain e) (c .before .reach .ensures)
+    let a = e .before .before .before .args in
+    c .member2 .ensures ∙ kept-some 32 _ _ (a .first) (a .second) _ (e .before .before .before .pre .2) (in-domain e) (c .before .reach .ensures)
 
 pub keeps-spec : {M : Type 1} → statement M
 keeps-spec = tie.close (tie.spec (λ c κs. search needs) returns reach-requires (λ c κs. search needs) returns-2)

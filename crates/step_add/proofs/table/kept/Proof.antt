@@ -23,7 +23,7 @@ loop-holds c = (omega arith, sym (word-zero _))
 loop-again : tie.Need-loop-again Inv-loop μ-loop
 loop-again c = (
   omega arith,
-  bit-joins (2 ^ 32) _ _ _ _ (pow-mono {j = 32} (omega arith)) (c .before .before .loop .inv .1) (c .keeps .ensures),
+  bit-joins (2 ^ 32) _ _ (pow-mono {j = 32} (omega arith)) (c .before .before .loop .inv .1) (c .keeps .ensures),
 )
 
 returns : tie.Need-returns Inv-loop μ-loop

@@ -5,11 +5,13 @@ use native.Mathlib.Omega.{arith}
 use lib.Pow.{pow-mono}
 use borrow.Author.Needs.{needs}
 use borrow.Author.Tests.{not-true, not-false}
+use Rattle.bounded.proofs.Bool.{and-holds}
 use Rattle.words.specs.Word.{word}
 use Rattle.words.proofs.Laws.{word-zero}
 use Rattle.pairs.proofs.Runs.{bit-joins}
+use Rattle.network.specs.Added.{tableAllows}
 use Rattle.step_add.specs.Turned.{columnAt}
-use Rattle.step_add.proofs.Turned.{column-none, column-some}
+use Rattle.step_add.proofs.Turned.{column-none}
 use Rattle.step_add.proofs.turn.column.Statement.{statement}
 use Rattle.step_add.proofs.turn.column.Tie as tie
 
@@ -26,12 +28,13 @@ loop-holds : tie.Need-loop-holds Inv-loop μ-loop
 loop-holds c = (omega arith, sym (word-zero _))
 
 loop-again : tie.Need-loop-again Inv-loop μ-loop
+unfolding columnAt tableAllows
 loop-again c =
     let at = c .before .before .before in
     let e = at .before in (
       omega arith,
-      bit-joins (2 ^ 32) _ _ _ _ (pow-mono {j = 32} (omega arith)) (at .loop .inv .1)
-          (column-some 32 _ _ _ _ _ (sym (e .before .member .ensures) ∙ not-false _ (e .if1 .left)) (c .holds .ensures)),
+      bit-joins (2 ^ 32) _ _ (pow-mono {j = 32} (omega arith)) (at .loop .inv .1)
+          (c .holds .ensures ∙ sym (and-holds _ _ (sym (e .before .member .ensures) ∙ not-false _ (e .if1 .left)))),
     )
 
 returns-2 : tie.Need-returns-2 Inv-loop μ-loop

@@ -5,7 +5,7 @@ use Rattle.step_add.proofs.turn.holds.Statement.{statement}
 use Rattle.step_add.proofs.turn.holds.Tie as tie
 
 returns : tie.Need-returns
-returns c = holds-is 32 _ _ _ _ (c .before .before .pre) (c .before .single .ensures) (c .both .ensures)
+returns c = holds-is 32 _ (c .before .before .pre) (c .before .single .ensures) (c .both .ensures)
 
 pub holds-spec : {M : Type 1} → statement M
 holds-spec = tie.close (tie.spec (λ c κs. search needs) (λ c κs. search needs) returns)

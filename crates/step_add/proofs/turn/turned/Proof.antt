@@ -22,7 +22,7 @@ loop-again : tie.Need-loop-again Inv-loop μ-loop
 loop-again c =
     let t = c .before .before in
     let at = t .before in
-    (omega arith, filled-more 32 (at .loop .inv .1) (t .loop-test .taken) (column-of 32 _ _ _ _ _ (at .before .whole .ensures) (c .column .ensures)))
+    (omega arith, filled-more 32 (at .loop .inv .1) (t .loop-test .taken) (column-of 32 _ _ _ (at .before .whole .ensures) (c .column .ensures)))
 
 returns : tie.Need-returns Inv-loop μ-loop
 unfolding turnedOf

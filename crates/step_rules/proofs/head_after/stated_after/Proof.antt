@@ -35,7 +35,7 @@ found c =
 loop-less : tie.Need-loop-less Inv-loop μ-loop
 loop-less c =
     let l = c .before .before .before .before .before in
-    rest-less 32 _ _ _ (l .before .before .loop .inv .0 .fits) (l .before .loop-test .taken) (l .lowest .ensures) (c .dropped .ensures)
+    rest-less 32 (l .before .before .loop .inv .0 .fits) (l .before .loop-test .taken) (l .lowest .ensures) (c .dropped .ensures)
 
 loop-again : tie.Need-loop-again Inv-loop μ-loop
 loop-again c =

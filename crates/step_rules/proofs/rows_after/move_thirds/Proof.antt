@@ -41,12 +41,12 @@ clear-requires c κs =
     let l = c .before .before .before .before in
     let p = l .before .before .before .pre in
     let f = found l in
-    (p .1, f .0, (λ q. third-apart _ _ _ (f .1) (p .4) (sym q)), c .before .compose .ensures _ (unread-all 32 _ _ _ _) .size ∙ l .before .before .loop .inv .1 .same-length ∙ p .6)
+    (p .1, f .0, (λ q. third-apart _ _ _ (f .1) (p .4) (sym q)), c .before .compose .ensures _ (unread-all 32) .size ∙ l .before .before .loop .inv .1 .same-length ∙ p .6)
 
 loop-less : tie.Need-loop-less Inv-loop μ-loop
 loop-less c =
     let l = c .before .before .before .before .before .before in
-    rest-less 32 _ _ _ (l .before .before .loop .inv .0 .fits) (l .before .loop-test .taken) (l .lowest .ensures) (c .dropped .ensures)
+    rest-less 32 (l .before .before .loop .inv .0 .fits) (l .before .loop-test .taken) (l .lowest .ensures) (c .dropped .ensures)
 
 loop-again : tie.Need-loop-again Inv-loop μ-loop
 loop-again c =

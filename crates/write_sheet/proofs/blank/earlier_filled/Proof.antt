@@ -27,7 +27,7 @@ pair-filled-requires c κs =
     search needs
 
 loop-again : tie.Need-loop-again Inv-loop μ-loop
-loop-again c = (omega arith, test-joins _ _ _ _ (c .before .before .before .before .loop .inv .1) (c .pair-filled .ensures))
+loop-again c = (omega arith, test-joins _ _ (c .before .before .before .before .loop .inv .1) (c .pair-filled .ensures))
 
 returns : tie.Need-returns Inv-loop μ-loop
 unfolding earlierFilled

@@ -15,7 +15,7 @@ returns : tie.Need-returns
 returns c =
     let f = c .before .before in
     let s = f .before in
-    allowed-pass _ _ (shaped s) (s .pre) _ (sym (f .fixed-by .ensures .filled-is) ∙ not-true _ (c .if1 .taken))
+    allowed-pass _ (shaped s) (s .pre) _ (sym (f .fixed-by .ensures .filled-is) ∙ not-true _ (c .if1 .taken))
 
 all-filled-requires : tie.Need-all-filled-requires
 all-filled-requires c κs =
@@ -27,7 +27,7 @@ returns-2 c =
     let e = c .before .before .before .before in
     let f = e .before .before in
     let s = f .before in
-    banned-pass _ _ (shaped s) (s .pre) _ _ (sym (f .fixed-by .ensures .filled-is) ∙ not-false _ (e .if1 .left)) (c .all-filled .ensures)
+    banned-pass _ (shaped s) (s .pre) _ (sym (f .fixed-by .ensures .filled-is) ∙ not-false _ (e .if1 .left)) (c .all-filled .ensures)
 
 pub rows-pass-spec : {M : Type 1} → statement M
 rows-pass-spec =

@@ -25,7 +25,7 @@ unfolding every
 loop-holds c = (omega arith, refl)
 
 loop-again : tie.Need-loop-again Inv-loop μ-loop
-loop-again c = (omega arith, test-joins _ _ _ _ (c .before .before .loop .inv .1) refl)
+loop-again c = (omega arith, test-joins _ _ (c .before .before .loop .inv .1) refl)
 
 returns-2 : tie.Need-returns-2 Inv-loop μ-loop
 returns-2 c h rows n sizes =

@@ -1,13 +1,9 @@
 -- The head and the rows are those of the state.
 use mathlib.Core.Path.{_∙_}
 use borrow.Author.Needs.{needs}
-use Rattle.head.proofs.Held.{shape}
 use Rattle.state.proofs.View.{state-whole}
 use Rattle.state.proofs.state.State.add_table.Statement.{statement}
 use Rattle.state.proofs.state.State.add_table.Tie as tie
-
-add-parts-requires : tie.Need-add-parts-requires
-add-parts-requires c κs = search shape
 
 returns : tie.Need-returns
 returns c =
@@ -15,4 +11,4 @@ returns c =
     c .handed-back .ensures ∙ rw (state-whole (d .before .before .args .self) _ (d .head-in .ensures)) at (c .before .add-parts .ensures)
 
 pub add-table-spec : {M : Type 1} → statement M
-add-table-spec = tie.close (tie.spec (λ c κs. search needs) add-parts-requires (λ c κs. search needs) returns)
+add-table-spec = tie.close (tie.spec (λ c κs. search needs) (λ c κs. search needs) (λ c κs. search needs) returns)

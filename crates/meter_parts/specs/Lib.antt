@@ -1,0 +1,2 @@
+-- Page nine on a head and lent rows.
+pub mod Parts

@@ -1,0 +1,17 @@
+-- `test_examples::rows::run` is safe and ends: the loop counts up to its end. Assumes nothing.
+use Prim.Native.Nat.{_-_}
+use borrow.Author.Needs.{needs}
+use Rattle.test_examples.proofs.rows.run.Statement.{statement}
+use Rattle.test_examples.proofs.rows.run.Tie as tie
+
+abbrev Inv-loop : tie.InvT-loop
+Inv-loop list tally₀ length at₀ counter₀ tally at counter = Unit
+
+abbrev μ-loop : tie.MeasureT-loop
+μ-loop list tally₀ length at₀ counter₀ tally at counter = length - counter
+
+pub run-spec : {M : Type 1} → statement M
+run-spec =
+    tie.close
+    (tie.spec Inv-loop μ-loop (λ c. search needs) (λ c κs. search needs) (λ c. search needs) (λ c. search needs)
+    (λ c. search needs) (λ c. search needs))

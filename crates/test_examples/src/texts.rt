@@ -1,0 +1,20 @@
+// Bytes, and the text that the program prints for them.
+use test_builds::parts::end_of;
+use test_builds::parts::part;
+use test_calls::tally;
+use test_calls::tally::Counts;
+use test_oracle::fields;
+
+// The program prints `expected` for the bytes.
+pub fn expect_text(bytes: &[u8], expected: &[u8], tally: &mut Counts) {
+    let text = text_report::report(bytes);
+    let is_same = (text.length == expected.len()) & fields::is_filled(&text.bytes, expected, 0);
+    tally::expect(tally, tally::TEXTS, is_same);
+}
+
+// Two parts: bytes, and the text that is printed for them. Answers the place after them.
+pub(crate) fn text_at(list: &[u8], at: usize, tally: &mut Counts) -> usize {
+    let text = end_of(list, at);
+    expect_text(part(list, at), part(list, text), tally);
+    end_of(list, text)
+}

@@ -1,0 +1,220 @@
+// What an added table is to be refused with, and what it makes of a state, by the words of document 02.
+use crate::refusals::is_option;
+use crate::rules::put_row;
+use crate::rules::was_allowed;
+use test_oracle::brute::index_of;
+use test_oracle::fields::bit_if;
+use test_oracle::fields::byte_at;
+use test_oracle::fields::has;
+use test_oracle::fields::row_at;
+use test_oracle::fields::word_at;
+use test_oracle::judge::is_row_wide;
+use test_oracle::tables::row;
+
+fn is_wide(rows: &[u32], size: usize) -> bool {
+    let count = rows.len();
+    for c in 0..count {
+        if is_row_wide(row(rows, c) as usize, size) {
+            return true;
+        }
+    }
+    false
+}
+
+// "10, then 21 for two equal options, then 22 for a wrong count of rows or a bit at or above the size": 0 where none refuses. Options are counted from 1.
+pub fn refusal(n: usize, sizes: &[u8; 16], first: usize, second: usize, rows: &[u32]) -> u8 {
+    if !(is_option(n, first) & is_option(n, second)) {
+        return 10;
+    }
+    if first == second {
+        return 21;
+    }
+    if rows.len() != byte_at(sizes, index_of(first)) {
+        return 22;
+    }
+    if is_wide(rows, byte_at(sizes, index_of(second))) {
+        return 22;
+    }
+    0
+}
+
+// The options named, counted from 0, and the leaders that they are traced to.
+pub struct Sides {
+    pub first: usize,
+    pub second: usize,
+    pub first_leader: usize,
+    pub second_leader: usize,
+}
+
+// "Each option is traced to its live leader; a live option is its own."
+fn traced(leaders: &[u8; 16], x: usize) -> usize {
+    let leader = byte_at(leaders, x);
+    if leader == 0 {
+        return x;
+    }
+    index_of(leader)
+}
+
+// The sides of a table for two options, counted from 1.
+pub fn sides_of(leaders: &[u8; 16], first: usize, second: usize) -> Sides {
+    let x = index_of(first);
+    let y = index_of(second);
+    Sides {
+        first: x,
+        second: y,
+        first_leader: traced(leaders, x),
+        second_leader: traced(leaders, y),
+    }
+}
+
+// The partners in `x` of value `a` of its leader `l`: "A live option's value is its own partner."
+fn partners<'a>(
+    domains: &'a [u32; 16],
+    rows: &'a [u32; 3840],
+    l: usize,
+    x: usize,
+    a: usize,
+) -> u32 {
+    if l == x {
+        return bit_if(true, a);
+    }
+    row_at(rows, l, x, a) & word_at(domains, x)
+}
+
+fn row_if(is_wanted: bool, table: &[u32], c: usize) -> u32 {
+    if is_wanted {
+        return row(table, c);
+    }
+    0
+}
+
+// What the rows of the values in `set` have together.
+fn reached(table: &[u32], set: u32) -> u32 {
+    let mut word: u32 = 0;
+    for c in 0..32 {
+        word = word | row_if(has(set, c), table, c);
+    }
+    word
+}
+
+// "the new table allows their partners", of value `a` of the first leader and `b` of the second
+fn allows_partners<'a>(
+    domains: &'a [u32; 16],
+    rows: &'a [u32; 3840],
+    table: &[u32],
+    sides: Sides,
+    a: usize,
+    b: usize,
+) -> bool {
+    let first = partners(domains, rows, sides.first_leader, sides.first, a);
+    let second = partners(domains, rows, sides.second_leader, sides.second, b);
+    reached(table, first) & second != 0
+}
+
+// "If they are one, its list loses the values whose partners the new table forbids."
+pub fn trimmed<'a>(
+    domains: &'a [u32; 16],
+    rows: &'a [u32; 3840],
+    table: &[u32],
+    sides: Sides,
+) -> u32 {
+    let list = word_at(domains, sides.first_leader);
+    let mut left: u32 = 0;
+    for a in 0..32 {
+        left = left
+            | bit_if(
+                has(list, a) & allows_partners(domains, rows, table, sides, a, a),
+                a,
+            );
+    }
+    left
+}
+
+// "It then allows two values exactly when both are in the leaders' lists, the new table allows their partners, and the pair, if stated before, allowed
+// them."
+fn is_allowed<'a>(
+    domains: &'a [u32; 16],
+    stated: &'a [u32; 16],
+    rows: &'a [u32; 3840],
+    table: &[u32],
+    sides: Sides,
+    a: usize,
+    b: usize,
+) -> bool {
+    let p = sides.first_leader;
+    let q = sides.second_leader;
+    if !(has(word_at(domains, p), a) & has(word_at(domains, q), b)) {
+        return false;
+    }
+    was_allowed(stated, rows, p, q, a, b) & allows_partners(domains, rows, table, sides, a, b)
+}
+
+// The same for value `a` of the lower of the two leaders and `b` of the higher.
+fn is_allowed_from<'a>(
+    domains: &'a [u32; 16],
+    stated: &'a [u32; 16],
+    rows: &'a [u32; 3840],
+    table: &[u32],
+    sides: Sides,
+    a: usize,
+    b: usize,
+) -> bool {
+    if sides.first_leader < sides.second_leader {
+        return is_allowed(domains, stated, rows, table, sides, a, b);
+    }
+    is_allowed(domains, stated, rows, table, sides, b, a)
+}
+
+// The row of value `a` of the lower of the two leaders.
+fn row_after<'a>(
+    domains: &'a [u32; 16],
+    stated: &'a [u32; 16],
+    rows: &'a [u32; 3840],
+    table: &[u32],
+    sides: Sides,
+    a: usize,
+) -> u32 {
+    let mut row: u32 = 0;
+    for b in 0..32 {
+        row = row
+            | bit_if(
+                is_allowed_from(domains, stated, rows, table, sides, a, b),
+                b,
+            );
+    }
+    row
+}
+
+fn lower(p: usize, q: usize) -> usize {
+    if p < q {
+        return p;
+    }
+    q
+}
+
+// The rows where the two leaders differ.
+pub fn rows_after<'a>(
+    domains: &'a [u32; 16],
+    stated: &'a [u32; 16],
+    rows: &'a [u32; 3840],
+    table: &[u32],
+    sides: Sides,
+) -> [u32; 3840] {
+    let low = lower(sides.first_leader, sides.second_leader);
+    let high = sides.first_leader ^ sides.second_leader ^ low;
+    let mut after = *rows;
+    for a in 0..32 {
+        let made = row_after(domains, stated, rows, table, sides, a);
+        put_row(&mut after, low, high, a, made);
+    }
+    after
+}
+
+// "If the leaders differ, their pair becomes stated."
+pub fn stated_after(stated: &[u32; 16], p: usize, q: usize) -> [u32; 16] {
+    let mut after = [0u32; 16];
+    for u in 0..16 {
+        after[u] = stated[u] | bit_if(u == p, q) | bit_if(u == q, p);
+    }
+    after
+}
