@@ -138,7 +138,10 @@ fn fields<const K: usize, const FILLED: bool>(bytes: &[u8], most: u8, state: &mu
 /// The number in K bytes.
 #[inline(always)]
 fn number<const K: usize>(bytes: &[u8]) -> u32 {
-    bytes[..K].iter().fold(0, |number, &byte| number << 8 | byte as u32)
+    match K {
+        2 => u16::from_be_bytes(*bytes.first_chunk().unwrap()) as u32,
+        _ => u32::from_be_bytes(*bytes.first_chunk().unwrap()),
+    }
 }
 
 /// The rows of one table; the place after them.
@@ -257,7 +260,7 @@ fn rows_within(s: &State) -> bool {
                     return false;
                 }
             } else {
-                let (inside, past) = rows.split_at(s.sizes[i] as usize & 63);
+                let (inside, past) = rows.split_at((s.sizes[i] as usize).min(PAIR_ROWS));
                 if together(inside) & outside | together(past) != 0 {
                     return false;
                 }

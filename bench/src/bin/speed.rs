@@ -10,10 +10,23 @@ const SHEETS: usize = 8;
 const ROUNDS: usize = 61;
 const REPEATS: usize = 4;
 
+/// A state at the start of a cache line, wherever it stands: how long it takes to read depends on that.
+#[derive(Clone, Copy)]
+#[repr(align(64))]
+struct Lined(State);
+
+impl std::ops::Deref for Lined {
+    type Target = State;
+
+    fn deref(&self) -> &State {
+        &self.0
+    }
+}
+
 struct Case {
     sheet: Sheet,
-    fresh: State,
-    reduced: State,
+    fresh: Lined,
+    reduced: Lined,
     /// The lowest legal step, or else one that is refused.
     step: (usize, usize),
     /// For the first option and the last, and for the last and the second.
@@ -38,8 +51,8 @@ fn case(sheet: Sheet, random: &mut Random) -> Case {
         turned: table(n, 2),
         step: lowest(0).or_else(|| lowest(13)).unwrap_or((1, 2)),
         sheet,
-        fresh,
-        reduced,
+        fresh: Lined(fresh),
+        reduced: Lined(reduced),
     }
 }
 
@@ -148,15 +161,15 @@ fn build<'a>(case: &Case, buffer: &'a mut [u8]) -> &'a mut [u8] {
 }
 
 /// The time of one call over all cases: each scratch state is set anew outside the time that is taken.
-fn timed(cases: &[Case], start: Start, scratch: &mut [State], buffer: &mut [u8], call: Call) -> f64 {
+fn timed(cases: &[Case], start: Start, scratch: &mut [Lined], buffer: &mut [u8], call: Call) -> f64 {
     let mut total = 0;
     for _ in 0..REPEATS {
         for (case, state) in cases.iter().zip(scratch.iter_mut()) {
-            *state = *start(case);
+            state.0 = *start(case);
         }
         let clock = Instant::now();
         for (case, state) in cases.iter().zip(scratch.iter_mut()) {
-            call(black_box(case), state, buffer);
+            call(black_box(case), &mut state.0, buffer);
         }
         total += clock.elapsed().as_nanos();
     }
@@ -170,7 +183,7 @@ fn median(mut times: Vec<f64>) -> f64 {
 
 /// Both by turns; the medians.
 fn both(cases: &[Case], start: Start, one: Call, other: Call) -> (f64, f64) {
-    let mut scratch = vec![State::ZERO; cases.len()];
+    let mut scratch = vec![Lined(State::ZERO); cases.len()];
     let mut buffer = vec![0u8; 15621];
     let (mut ones, mut others) = (Vec::new(), Vec::new());
     for _ in 0..ROUNDS {
@@ -199,11 +212,12 @@ fn main() {
     let mut ratios = Vec::new();
     for (size, (version, options, values)) in SIZES.into_iter().enumerate() {
         for family in FAMILIES {
-            let mut random = Random(values as u64);
+            // tables have random numbers of their own, so that the sheets do not depend on them
+            let (mut random, mut tables) = (Random(values as u64), Random(values as u64 + 1));
             let cases: Vec<Case> = (0..SHEETS)
                 .map(|_| {
                     let sheet = sheet_in(version, family, &vec![values; options], &mut random);
-                    case(sheet, &mut random)
+                    case(sheet, &mut tables)
                 })
                 .collect();
             for (call, &(name, start, one, other)) in CALLS.iter().enumerate() {
