@@ -132,7 +132,8 @@ pub fn complete(state: State, given: [u8; 16], n: usize) -> Completion {
 // The completer, on the first `n` bytes, answers the number and leaves the bytes `after`.
 pub fn is_completed(state: State, before: [u8; 16], n: usize, number: u8, after: [u8; 16]) -> bool {
     let done = complete(state, before, n);
-    (done.number == number) & same_bytes(&done.buffer, &after)
+    let left = done.buffer;
+    (done.number == number) & same_bytes(left, after)
 }
 
 // The writer in a version, on the first `room` bytes.

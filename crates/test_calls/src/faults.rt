@@ -68,6 +68,7 @@ fn with_fault(state: State, fault: Fault) -> State {
 
 // A sound state with one fault, whatever is drawn.
 pub fn damaged(state: State, seed: &mut u64) -> State {
-    let fault = faults::drawn(state.n, &state.sizes, &state.stated, seed);
-    with_fault(state, fault)
+    let sizes = state.sizes;
+    let stated = state.stated;
+    with_fault(state, faults::drawn(state.n, sizes, stated, seed))
 }

@@ -15,16 +15,19 @@ use test_rules::refusals::Pair;
 use test_rules::rules;
 
 fn same_options(a: State, b: State) -> bool {
-    (a.n == b.n) & same_bytes(&a.sizes, &b.sizes) & same_words(&a.domains, &b.domains)
-}
-
-fn same_tables(a: State, b: State) -> bool {
-    same_words(&a.stated, &b.stated) & same_words(&a.rows, &b.rows)
+    let sizes = a.sizes;
+    let other_sizes = b.sizes;
+    let leaders = a.leaders;
+    let other_leaders = b.leaders;
+    (a.n == b.n) & same_bytes(sizes, other_sizes) & same_bytes(leaders, other_leaders)
 }
 
 // The two states are the same in every field.
 pub fn same(a: State, b: State) -> bool {
-    same_options(a, b) & same_bytes(&a.leaders, &b.leaders) & same_tables(a, b)
+    same_options(a, b)
+        & same_words(&a.domains, &b.domains)
+        & same_words(&a.stated, &b.stated)
+        & same_words(&a.rows, &b.rows)
 }
 
 // The state that a refused reading hands back.
@@ -41,7 +44,8 @@ pub fn zero() -> State {
 
 // The live options, as bits.
 pub fn free(state: State) -> u32 {
-    fields::free(state.n, &state.leaders)
+    let leaders = state.leaders;
+    fields::free(state.n, leaders)
 }
 
 fn wide(x: u32) -> usize {
@@ -56,10 +60,12 @@ pub fn free_count(state: State) -> usize {
 // What the completer is to refuse a choice with, 0 where it is allowed.
 pub fn choice_number(state: State, tuple: [u8; 16]) -> u8 {
     let free = free(state);
-    if !are_listed(free, &state.domains, &tuple) {
+    let domains = state.domains;
+    let stated = state.stated;
+    if !are_listed(free, domains, tuple) {
         return 15;
     }
-    if !are_allowed(free, &state.stated, &state.rows, &tuple) {
+    if !are_allowed(free, stated, &state.rows, tuple) {
         return 16;
     }
     0
@@ -67,11 +73,13 @@ pub fn choice_number(state: State, tuple: [u8; 16]) -> u8 {
 
 // What a step is to be refused with, options counted from 1; 0 where it is legal.
 pub fn refusal(state: State, leader: usize, follower: usize) -> u8 {
+    let domains = state.domains;
+    let stated = state.stated;
     refusals::refusal(
         state.n,
         free(state),
-        &state.domains,
-        &state.stated,
+        domains,
+        stated,
         &state.rows,
         leader,
         follower,
@@ -80,20 +88,17 @@ pub fn refusal(state: State, leader: usize, follower: usize) -> u8 {
 
 // The first legal pair from the pair number `start` on.
 pub fn legal_pair(state: State, start: usize) -> Pair {
-    refusals::legal_from(
-        free(state),
-        &state.domains,
-        &state.stated,
-        &state.rows,
-        start,
-    )
+    let domains = state.domains;
+    let stated = state.stated;
+    refusals::legal_from(free(state), domains, stated, &state.rows, start)
 }
 
 // Rule 1.
 fn with_trimmed(state: State, i: usize, j: usize) -> State {
     let mut after = state;
+    let domains = state.domains;
     if i < 16 {
-        after.domains[i] = rules::trimmed(&state.domains, &state.rows, i, j);
+        after.domains[i] = rules::trimmed(domains, &state.rows, i, j);
     }
     after
 }
@@ -103,13 +108,15 @@ fn with_composed(state: State, i: usize, j: usize) -> State {
     let n = state.n;
     let sizes = state.sizes;
     let domains = state.domains;
+    let leaders = state.leaders;
+    let stated = state.stated;
     State {
         n,
         sizes,
         domains,
-        leaders: rules::leaders_after(&state.leaders, i, j),
-        stated: rules::stated_after(&state.stated, i, j),
-        rows: rules::rows_after(&state.domains, &state.stated, &state.rows, i, j),
+        leaders: rules::leaders_after(leaders, i, j),
+        stated: rules::stated_after(stated, i, j),
+        rows: rules::rows_after(domains, stated, &state.rows, i, j),
     }
 }
 
@@ -147,22 +154,25 @@ pub fn is_counted(before: State, after: State, steps: usize) -> bool {
 pub fn table_refusal(state: State, table: Table) -> u8 {
     let rows = table.rows;
     let given = first_words(&rows, table.count);
-    added::refusal(state.n, &state.sizes, table.first, table.second, given)
+    let sizes = state.sizes;
+    added::refusal(state.n, sizes, table.first, table.second, given)
 }
 
 // The two options of a table, and the leaders that they are traced to.
 pub fn sides(state: State, table: Table) -> Sides {
-    added::sides_of(&state.leaders, table.first, table.second)
+    let leaders = state.leaders;
+    added::sides_of(leaders, table.first, table.second)
 }
 
 // The list of the one leader is trimmed.
 fn with_list(state: State, sides: Sides, table: Table) -> State {
     let rows = table.rows;
     let given = first_words(&rows, table.count);
+    let domains = state.domains;
     let mut after = state;
     let i = sides.first_leader;
     if i < 16 {
-        after.domains[i] = added::trimmed(&state.domains, &state.rows, given, sides);
+        after.domains[i] = added::trimmed(domains, &state.rows, given, sides);
     }
     after
 }
@@ -175,13 +185,14 @@ fn with_pair(state: State, sides: Sides, table: Table) -> State {
     let sizes = state.sizes;
     let domains = state.domains;
     let leaders = state.leaders;
+    let stated = state.stated;
     State {
         n,
         sizes,
         domains,
         leaders,
-        stated: added::stated_after(&state.stated, sides.first_leader, sides.second_leader),
-        rows: added::rows_after(&state.domains, &state.stated, &state.rows, given, sides),
+        stated: added::stated_after(stated, sides.first_leader, sides.second_leader),
+        rows: added::rows_after(domains, stated, &state.rows, given, sides),
     }
 }
 

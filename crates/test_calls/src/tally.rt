@@ -1,9 +1,13 @@
-// How often each thing was tried, and how often it came out wrong.
+// How often each thing was tried, how often it came out wrong, and where the random numbers are.
 
 // One more than the greatest of the kinds that are counted.
 pub const KINDS: usize = 45;
 
-pub type Counts = [u64; KINDS];
+// The counts, and the seed of the number that is drawn next. Checks take it and hand it back: two loans would make a proof three times as long.
+pub struct Tally {
+    pub counts: [u64; KINDS],
+    pub seed: u64,
+}
 
 pub const DIFFERENCES: usize = 0;
 // Inputs: families of sheets stand at their own numbers from here on.
@@ -74,29 +78,45 @@ pub const TABLES_ROWS: usize = 43;
 
 pub const SEARCHES: usize = 44;
 
-// One more of the kind `k`.
-pub fn count(tally: &mut Counts, k: usize) {
-    add(tally, k, 1);
+// Nothing is counted yet.
+pub fn start(seed: u64) -> Tally {
+    Tally {
+        counts: [0; KINDS],
+        seed,
+    }
+}
+
+// Once numbers are drawn, with the seed that they leave.
+pub fn with_seed(tally: Tally, seed: u64) -> Tally {
+    let counts = tally.counts;
+    Tally { counts, seed }
 }
 
 // So many more of the kind `k`.
-pub fn add(tally: &mut Counts, k: usize, more: u64) {
+pub fn add(tally: Tally, k: usize, more: u64) -> Tally {
+    let mut after = tally;
     if k < KINDS {
-        tally[k] = std::num::wrapping_add_u64(tally[k], more);
+        after.counts[k] = std::num::wrapping_add_u64(after.counts[k], more);
     }
+    after
+}
+
+// One more of the kind `k`.
+pub fn count(tally: Tally, k: usize) -> Tally {
+    add(tally, k, 1)
 }
 
 // One comparison of the kind `k`.
-pub fn expect(tally: &mut Counts, k: usize, is_right: bool) {
-    count(tally, k);
-    hold(tally, is_right);
+pub fn expect(tally: Tally, k: usize, is_right: bool) -> Tally {
+    hold(count(tally, k), is_right)
 }
 
 // A comparison that is counted only where it comes out wrong.
-pub fn hold(tally: &mut Counts, is_right: bool) {
-    if !is_right {
-        count(tally, DIFFERENCES);
+pub fn hold(tally: Tally, is_right: bool) -> Tally {
+    if is_right {
+        return tally;
     }
+    count(tally, DIFFERENCES)
 }
 
 fn print_number(number: u64) {
@@ -106,7 +126,7 @@ fn print_number(number: u64) {
 }
 
 // One byte of the titles, and the number `k` where a title ends. Answers the number that comes next.
-fn print_byte(byte: u8, k: usize, tally: &Counts) -> usize {
+fn print_byte(byte: u8, k: usize, counts: &[u64; KINDS]) -> usize {
     if byte != 10 {
         io::write_all(1, &[byte]);
         return k;
@@ -114,21 +134,21 @@ fn print_byte(byte: u8, k: usize, tally: &Counts) -> usize {
     if KINDS <= k {
         return k;
     }
-    print_number(tally[k]);
+    print_number(counts[k]);
     k + 1
 }
 
 // A line for each title, with the numbers from `first` on. Each title ends with a line feed.
-pub fn print(titles: &[u8], first: usize, tally: &Counts) {
+pub fn print(titles: &[u8], first: usize, counts: &[u64; KINDS]) {
     let length = titles.len();
     let mut k = first;
     for i in 0..length {
-        k = print_byte(titles[i], k, tally);
+        k = print_byte(titles[i], k, counts);
     }
 }
 
 // What every program counts.
-pub fn print_checks(tally: &Counts) {
+pub fn print_checks(counts: &[u64; KINDS]) {
     print(
         b"damaged states\nsheets with all tuples tried\nbuilds\nreads accepted\nreads refused\n\
         steps taken\nsteps refused\nreductions\ntests\ntests refused\ncompletions\n\
@@ -138,7 +158,7 @@ pub fn print_checks(tally: &Counts) {
         tables added for two followers of one leader\ntables added for a follower and its leader\n\
         tables refused with 9\ntables refused with 10\ntables refused with 21\ntables refused with 22\nsearches\n",
         DAMAGED_STATES,
-        tally,
+        counts,
     );
-    print(b"differences\n", DIFFERENCES, tally);
+    print(b"differences\n", DIFFERENCES, counts);
 }

@@ -5,7 +5,7 @@ use test_calls::calls::Stepping;
 use test_calls::calls::is_refused;
 use test_calls::states;
 use test_calls::tally;
-use test_calls::tally::Counts;
+use test_calls::tally::Tally;
 use test_inputs::random;
 use test_inputs::tables;
 use test_inputs::tables::Table;
@@ -13,40 +13,56 @@ use test_inputs::tables::first_words;
 use test_oracle::tables::Tables;
 use test_oracle::tables::none;
 use test_oracle::tables::with;
+use test_rules::added::Sides;
 
-// The state handed back last, how many steps were taken, and the tables that calls not refused added.
+// The state handed back last, how many steps were taken, the tables that calls not refused added, and what was counted.
 pub struct Run {
     pub state: State,
     pub steps: usize,
     pub tables: Tables,
     pub added: usize,
+    pub tally: Tally,
 }
 
 // Before the first call.
-pub fn start(state: State) -> Run {
+pub fn start(state: State, tally: Tally) -> Run {
     Run {
         state,
         steps: 0,
         tables: none(),
         added: 0,
+        tally,
     }
 }
 
-// After a call that took so many steps more.
-fn later(run: Run, state: State, steps: usize) -> Run {
+// With what was counted since.
+pub fn counted(run: Run, tally: Tally) -> Run {
+    let mut after = run;
+    after.tally = tally;
+    after
+}
+
+fn with_seed(run: Run, seed: u64) -> Run {
+    counted(run, tally::with_seed(run.tally, seed))
+}
+
+// After a call that answered this.
+fn later(run: Run, answer: Stepping, tally: Tally) -> Run {
+    let state = answer.state;
     let tables = run.tables;
     Run {
         state,
-        steps: std::num::wrapping_add_usize(run.steps, steps),
+        steps: std::num::wrapping_add_usize(run.steps, answer.steps),
         tables,
         added: run.added,
+        tally,
     }
 }
 
 // A call of the kind `k` that must come to `expected`, which is sound.
-fn check_done(k: usize, after: State, expected: State, is_counted: bool, tally: &mut Counts) {
-    tally::expect(tally, k, is_counted & states::same(after, expected));
-    tally::expect(tally, tally::SOUND, calls::is_sound(after));
+fn check_done(k: usize, after: State, expected: State, is_counted: bool, tally: Tally) -> Tally {
+    let done = tally::expect(tally, k, is_counted & states::same(after, expected));
+    tally::expect(done, tally::SOUND, calls::is_sound(after))
 }
 
 // What a step answers, where it is to be refused with `expected`, or legal where that is 0.
@@ -56,75 +72,83 @@ fn check_stepping(
     follower: usize,
     expected: u8,
     answer: Stepping,
-    tally: &mut Counts,
-) {
+    tally: Tally,
+) -> Tally {
     if expected != 0 {
         let is_refused = is_refused(state, answer, expected);
-        tally::expect(tally, tally::STEPS_REFUSED, is_refused);
-        return;
+        return tally::expect(tally, tally::STEPS_REFUSED, is_refused);
     }
     let is_taken = (answer.number == 0) & (answer.steps == 1);
     let stepped = states::step(state, leader, follower);
-    check_done(tally::STEPS, answer.state, stepped, is_taken, tally);
+    check_done(tally::STEPS, answer.state, stepped, is_taken, tally)
 }
 
 // One follow step, whose refusal is decided here by the fields alone.
-pub fn check_step(run: Run, leader: usize, follower: usize, tally: &mut Counts) -> Run {
+pub fn check_step(run: Run, leader: usize, follower: usize) -> Run {
     let state = run.state;
     let expected = states::refusal(state, leader, follower);
     let answer = calls::eliminate(state, leader, follower);
-    check_stepping(state, leader, follower, expected, answer, tally);
-    later(run, answer.state, answer.steps)
+    let tally = check_stepping(state, leader, follower, expected, answer, run.tally);
+    later(run, answer, tally)
 }
 
 // A reduction that must come to `expected`.
-fn check_reduction_to(run: Run, expected: State, tally: &mut Counts) -> Run {
-    let state = run.state;
-    let answer = calls::reduce(state);
-    let after = answer.state;
-    let steps = answer.steps;
-    let is_counted = (answer.number == 0) & states::is_counted(state, after, steps);
-    check_done(tally::REDUCTIONS, after, expected, is_counted, tally);
-    later(run, after, steps)
+fn check_reduction_to(run: Run, expected: State) -> Run {
+    let answer = calls::reduce(run.state);
+    let is_counted = states::is_counted(run.state, answer.state, answer.steps);
+    let is_right = (answer.number == 0) & is_counted;
+    let tally = check_done(
+        tally::REDUCTIONS,
+        answer.state,
+        expected,
+        is_right,
+        run.tally,
+    );
+    later(run, answer, tally)
 }
 
 // A full reduction, and a second one, which takes no step.
-pub fn check_reduction(run: Run, tally: &mut Counts) -> Run {
-    let first = check_reduction_to(run, states::reduced_by_steps(run.state), tally);
-    check_reduction_to(first, first.state, tally)
+pub fn check_reduction(run: Run) -> Run {
+    let first = check_reduction_to(run, states::reduced_by_steps(run.state));
+    check_reduction_to(first, first.state)
 }
 
-// A legal step, where there is one.
-fn check_legal_step(run: Run, seed: &mut u64, tally: &mut Counts) -> Run {
-    let pair = states::legal_pair(run.state, random::index(seed, 256));
-    check_step(run, pair.leader, pair.follower, tally)
+// A legal step, where there is one from a pair drawn on.
+fn check_legal_step(run: Run, seed: u64) -> Run {
+    let mut next = seed;
+    let pair = states::legal_pair(run.state, random::index(&mut next, 256));
+    let drawn = with_seed(run, next);
+    check_step(drawn, pair.leader, pair.follower)
 }
 
 // A step with any two numbers.
-fn check_any_step(run: Run, seed: &mut u64, tally: &mut Counts) -> Run {
+fn check_any_step(run: Run, seed: u64) -> Run {
     let state = run.state;
-    let leader = tables::option_number(state.n, seed);
-    let follower = tables::option_number(state.n, seed);
-    check_step(run, leader, follower, tally)
+    let mut next = seed;
+    let leader = tables::option_number(state.n, &mut next);
+    let follower = tables::option_number(state.n, &mut next);
+    let drawn = with_seed(run, next);
+    check_step(drawn, leader, follower)
 }
 
 // How an added table that is not refused is counted, by the options named.
-fn count_sides(state: State, table: Table, tally: &mut Counts) {
-    let sides = states::sides(state, table);
-    let is_first_led = sides.first != sides.first_leader;
-    let is_second_led = sides.second != sides.second_leader;
-    if !(is_first_led | is_second_led) {
-        return;
-    }
+fn kind_of_sides(sides: Sides) -> usize {
+    let are_led = (sides.first != sides.first_leader) & (sides.second != sides.second_leader);
     if sides.first_leader != sides.second_leader {
-        tally::count(tally, tally::TABLES_LED);
-        return;
+        return tally::TABLES_LED;
     }
-    if is_first_led & is_second_led {
-        tally::count(tally, tally::TABLES_OF_FOLLOWERS);
-        return;
+    if are_led {
+        return tally::TABLES_OF_FOLLOWERS;
     }
-    tally::count(tally, tally::TABLES_WITH_LEADER);
+    tally::TABLES_WITH_LEADER
+}
+
+// Counted only where an option named is a follower.
+fn count_sides(sides: Sides, tally: Tally) -> Tally {
+    if (sides.first == sides.first_leader) & (sides.second == sides.second_leader) {
+        return tally;
+    }
+    tally::count(tally, kind_of_sides(sides))
 }
 
 // What a refused table counts as.
@@ -136,20 +160,19 @@ fn kind_of_refusal(number: u8) -> usize {
     }
 }
 
-fn check_adding(state: State, table: Table, expected: u8, answer: Stepping, tally: &mut Counts) {
+fn check_adding(state: State, table: Table, expected: u8, answer: Stepping, tally: Tally) -> Tally {
     if expected != 0 {
         let is_refused = is_refused(state, answer, expected);
-        tally::expect(tally, kind_of_refusal(expected), is_refused);
-        return;
+        return tally::expect(tally, kind_of_refusal(expected), is_refused);
     }
     let is_added = (answer.number == 0) & (answer.steps == 0);
-    let expected_state = states::with_table(state, table);
-    check_done(tally::TABLES, answer.state, expected_state, is_added, tally);
-    count_sides(state, table, tally);
+    let with_table = states::with_table(state, table);
+    let counted = count_sides(states::sides(state, table), tally);
+    check_done(tally::TABLES, answer.state, with_table, is_added, counted)
 }
 
 // With a table that was not refused.
-fn with_added(run: Run, table: Table, state: State) -> Run {
+fn with_added(run: Run, table: Table, state: State, tally: Tally) -> Run {
     let rows = table.rows;
     let given = first_words(&rows, table.count);
     let before = run.tables;
@@ -159,42 +182,47 @@ fn with_added(run: Run, table: Table, state: State) -> Run {
         steps: run.steps,
         tables,
         added: std::num::wrapping_add_usize(run.added, 1),
+        tally,
     }
 }
 
 // One added table, whose refusal is decided here by the fields alone.
-pub fn check_table(run: Run, table: Table, tally: &mut Counts) -> Run {
+pub fn check_table(run: Run, table: Table) -> Run {
     let state = run.state;
     let expected = states::table_refusal(state, table);
     let answer = calls::add_table(state, table);
-    check_adding(state, table, expected, answer, tally);
+    let tally = check_adding(state, table, expected, answer, run.tally);
     if expected != 0 {
-        return later(run, answer.state, answer.steps);
+        return later(run, answer, tally);
     }
-    with_added(run, table, answer.state)
+    with_added(run, table, answer.state, tally)
 }
 
 // A table for any two options.
-fn check_any_table(run: Run, seed: &mut u64, tally: &mut Counts) -> Run {
+fn check_any_table(run: Run, seed: u64) -> Run {
     let state = run.state;
-    let table = tables::drawn(state.n, &state.sizes, seed);
-    check_table(run, table, tally)
+    let mut next = seed;
+    let sizes = state.sizes;
+    let table = tables::drawn(state.n, sizes, &mut next);
+    check_table(with_seed(run, next), table)
 }
 
-fn check_call(run: Run, seed: &mut u64, tally: &mut Counts) -> Run {
-    match random::below(seed, 12) {
-        0 => check_reduction(run, tally),
-        1 | 2 | 3 => check_legal_step(run, seed, tally),
-        4 | 5 | 6 | 7 => check_any_table(run, seed, tally),
-        _ => check_any_step(run, seed, tally),
+fn check_call(run: Run) -> Run {
+    let tally = run.tally;
+    let mut seed = tally.seed;
+    match random::below(&mut seed, 12) {
+        0 => check_reduction(with_seed(run, seed)),
+        1 | 2 | 3 => check_legal_step(run, seed),
+        4 | 5 | 6 | 7 => check_any_table(run, seed),
+        _ => check_any_step(run, seed),
     }
 }
 
 // So many calls, each on the state that the one before it handed back.
-pub fn check_list(state: State, calls: usize, seed: &mut u64, tally: &mut Counts) -> Run {
-    let mut run = start(state);
+pub fn check_list(state: State, calls: usize, tally: Tally) -> Run {
+    let mut run = start(state, tally);
     for _ in 0..calls {
-        run = check_call(run, seed, tally);
+        run = check_call(run);
     }
     run
 }

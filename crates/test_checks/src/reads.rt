@@ -4,7 +4,7 @@ use test_calls::calls;
 use test_calls::calls::Reading;
 use test_calls::states;
 use test_calls::tally;
-use test_calls::tally::Counts;
+use test_calls::tally::Tally;
 use test_inputs::families;
 use test_inputs::families::ROOM;
 use test_oracle::brute;
@@ -15,29 +15,22 @@ use test_rules::fresh::is_blank;
 use test_rules::versions;
 
 fn is_as_read(bytes: &[u8], state: State) -> bool {
-    if state.n != brute::options(bytes) {
-        return false;
-    }
-    are_fresh(bytes, &state.sizes, &state.domains, &state.leaders)
+    let sizes = state.sizes;
+    let domains = state.domains;
+    let leaders = state.leaders;
+    are_fresh(bytes, sizes, domains, leaders) & (state.n == brute::options(bytes))
 }
 
-fn check_accepted(state: State, is_right: bool, tally: &mut Counts) {
-    tally::expect(tally, tally::READS, is_right);
-    tally::expect(tally, tally::SOUND, calls::is_sound(state));
-}
-
-// Reads the bytes and compares the answer with the judge's.
-pub fn check(bytes: &[u8], tally: &mut Counts) -> Reading {
-    let reading = calls::read(bytes);
+// Compares what the reader answers for the bytes with what the judge says of them.
+pub fn check(bytes: &[u8], reading: Reading, tally: Tally) -> Tally {
     let state = reading.state;
     let is_same = is_as_judged(bytes, reading.number, reading.place);
     if reading.number == 0 {
-        check_accepted(state, is_same & is_as_read(bytes, state), tally);
-        return reading;
+        let read = tally::expect(tally, tally::READS, is_same & is_as_read(bytes, state));
+        return tally::expect(read, tally::SOUND, calls::is_sound(state));
     }
     let is_zero = states::same(state, states::zero());
-    tally::expect(tally, tally::READS_REFUSED, is_same & is_zero);
-    reading
+    tally::expect(tally, tally::READS_REFUSED, is_same & is_zero)
 }
 
 // What stands past the end of a written sheet.
@@ -51,81 +44,87 @@ fn is_answered(bytes: &[u8], state: State, version: usize, room: usize, number: 
 }
 
 // Writes into a buffer of `room` bytes in the version of these bytes, which are what is written.
-fn check_room(bytes: &[u8], state: State, room: usize, tally: &mut Counts) {
+fn check_room(bytes: &[u8], state: State, room: usize, tally: Tally) -> Tally {
     let version = brute::byte(bytes, 0) as usize;
     let is_written = is_answered(bytes, state, version, room, 0);
-    tally::expect(tally, tally::WRITES, is_written);
+    tally::expect(tally, tally::WRITES, is_written)
 }
 
 // Writes into a buffer of `room` bytes: refused, and nothing is written.
-pub fn check_unwritten(state: State, version: usize, room: usize, number: u8, tally: &mut Counts) {
+pub fn check_unwritten(
+    state: State,
+    version: usize,
+    room: usize,
+    number: u8,
+    tally: Tally,
+) -> Tally {
     let is_refused = is_answered(b"", state, version, room, number);
-    tally::expect(tally, tally::WRITES_REFUSED, is_refused);
+    tally::expect(tally, tally::WRITES_REFUSED, is_refused)
 }
 
 // The same into all the room there is, and into none.
-pub fn check_refused(state: State, version: usize, number: u8, tally: &mut Counts) {
-    check_unwritten(state, version, ROOM, number, tally);
-    check_unwritten(state, version, 0, number, tally);
+pub fn check_refused(state: State, version: usize, number: u8, tally: Tally) -> Tally {
+    let refused = check_unwritten(state, version, ROOM, number, tally);
+    check_unwritten(state, version, 0, number, refused)
 }
 
-// The state is written in the version of these bytes, and only where there is room for them.
-pub fn check_written(bytes: &[u8], state: State, tally: &mut Counts) {
+// The state is written in the version of these bytes, and only where there is room for them. They are a sheet, so there is a byte.
+pub fn check_written(bytes: &[u8], state: State, tally: Tally) -> Tally {
     let length = bytes.len();
     let version = brute::byte(bytes, 0) as usize;
-    check_room(bytes, state, ROOM, tally);
-    check_room(bytes, state, length, tally);
-    if 0 < length {
-        check_unwritten(state, version, length - 1, 17, tally);
-    }
-    check_unwritten(state, version, 0, 17, tally);
+    let less = std::num::wrapping_sub_usize(length, 1);
+    let ample = check_room(bytes, state, ROOM, tally);
+    let exact = check_room(bytes, state, length, ample);
+    let scarce = check_unwritten(state, version, less, 17, exact);
+    check_unwritten(state, version, 0, 17, scarce)
 }
 
 // The bytes are read as the state.
-fn check_read_as(bytes: &[u8], state: State, tally: &mut Counts) {
-    let reading = check(bytes, tally);
-    tally::hold(tally, states::same(reading.state, state));
+fn check_read_as(bytes: &[u8], state: State, tally: Tally) -> Tally {
+    let reading = calls::read(bytes);
+    let read = check(bytes, reading, tally);
+    tally::hold(read, states::same(reading.state, state))
 }
 
 // The state is written as these bytes, unless the version bans a row of them.
-fn check_made(made: &[u8], state: State, version: u8, tally: &mut Counts) {
+fn check_made(made: &[u8], state: State, version: u8, tally: Tally) -> Tally {
     if is_blank(made) {
-        check_refused(state, version as usize, 26, tally);
-        return;
+        return check_refused(state, version as usize, 26, tally);
     }
-    check_written(made, state, tally);
-    check_read_as(made, state, tally);
+    check_read_as(made, state, check_written(made, state, tally))
 }
 
 // In another version the state has other bytes, which are read as the same state: where every size fits it, and it does not ban a row.
-fn check_in(bytes: &[u8], state: State, version: u8, tally: &mut Counts) {
+fn check_in(bytes: &[u8], state: State, version: u8, tally: Tally) -> Tally {
     if (version == 1) & versions::has_great_size(bytes) {
-        check_refused(state, 1, 24, tally);
-        return;
+        return check_refused(state, 1, 24, tally);
     }
     let other = versions::rewritten(bytes, version);
     let made = other.bytes;
-    check_made(families::first(&made, other.length), state, version, tally);
+    check_made(families::first(&made, other.length), state, version, tally)
 }
 
 // A state to which tables were added and in which no option follows is written as a sheet, which is read as the same state.
-pub fn check_with_tables(state: State, seed: &mut u64, tally: &mut Counts) {
+pub fn check_with_tables(state: State, tally: Tally) -> Tally {
     let written = calls::write(state, 2, [UNTOUCHED; ROOM], ROOM);
     let buffer = written.buffer;
-    tally::hold(tally, written.number == 0);
-    check_given_back(families::first(&buffer, written.length), state, seed, tally);
+    let held = tally::hold(tally, written.number == 0);
+    let bytes = families::first(&buffer, written.length);
+    check_round_trip(bytes, state, check_read_as(bytes, state, held))
 }
 
-fn check_given_back(bytes: &[u8], state: State, seed: &mut u64, tally: &mut Counts) {
-    check_read_as(bytes, state, tally);
-    check_round_trip(bytes, state, seed, tally);
-}
-
-// A sheet that was read is written back byte for byte, and in the other versions. In no other.
-pub fn check_round_trip(bytes: &[u8], state: State, seed: &mut u64, tally: &mut Counts) {
-    check_written(bytes, state, tally);
+// A sheet that was read is written back byte for byte, and in the other versions.
+pub fn check_round_trip(bytes: &[u8], state: State, tally: Tally) -> Tally {
+    let written = check_written(bytes, state, tally);
     let second = versions::after(brute::byte(bytes, 0));
-    check_in(bytes, state, second, tally);
-    check_in(bytes, state, versions::after(second), tally);
-    check_refused(state, versions::unknown(seed), 24, tally);
+    let in_second = check_in(bytes, state, second, written);
+    let in_third = check_in(bytes, state, versions::after(second), in_second);
+    check_in_none(state, in_third)
+}
+
+// It is written in no version that is unknown.
+fn check_in_none(state: State, tally: Tally) -> Tally {
+    let mut seed = tally.seed;
+    let version = versions::unknown(&mut seed);
+    check_refused(state, version, 24, tally::with_seed(tally, seed))
 }

@@ -1,4 +1,5 @@
 // Fixed examples that are neither sheets nor lists of calls: refused bytes, steps, answers on fixed states, and searches.
+use crate::meters;
 use crate::rows;
 use crate::rows::expect_refused;
 use crate::searches::emptied;
@@ -6,7 +7,7 @@ use crate::texts::expect_text;
 use test_calls::calls;
 use test_calls::states;
 use test_calls::tally;
-use test_calls::tally::Counts;
+use test_calls::tally::Tally;
 use test_inputs::tables::ROOM;
 use test_inputs::tables::Table;
 
@@ -31,7 +32,7 @@ fn is_composed() -> bool {
 }
 
 // Number 1 is tested first, then 2, and then the fields in file order: n, the sizes and the number of tables, each cut off, wrong, or left over.
-fn refused_heads(tally: &mut Counts) {
+fn refused_heads(tally: Tally) -> Tally {
     rows::run(
         b"R\x01\x00\x00\
         R\x01\x00\x02\x01\x00\
@@ -54,12 +55,12 @@ fn refused_heads(tally: &mut Counts) {
         R\x05\x06\x07\x01\x00\x04\x02\x02\x02\x02\
         R\x06\x06\x07\x01\x00\x04\x01\x01\x00\x00",
         tally,
-    );
+    )
 }
 
 // Pairs that are cut off or wrong; rows that are cut off or wrong, and a byte left over; two tables out of order, and the first of two faults.
 // Which way a pair is wrong, 7, 19 or 20: the only pair of a sheet, and the second of two.
-fn refused_tables(tally: &mut Counts) {
+fn refused_tables(tally: Tally) -> Tally {
     rows::run(
         b"R\x06\x07\x07\x01\x00\x04\x02\x02\x02\x01\
         R\x06\x07\x08\x01\x00\x05\x02\x02\x02\x01\x00\
@@ -87,13 +88,13 @@ fn refused_tables(tally: &mut Counts) {
         R\x13\x0c\x10\x01\x00\x0d\x03\x01\x01\x01\x02\x02\x03\x00\x01\x02\x01\x00\x01\
         R\x07\x0c\x10\x01\x00\x0d\x03\x01\x01\x01\x02\x01\x02\x00\x01\x01\x04\x00\x01",
         tally,
-    );
+    )
 }
 
 // "Another refusal prints its number and place, decimal, in that form, and nothing else."
 // A bit, a size and a size in version 1 too many, a row of three bytes, and a version too many.
 // An all-zero row in version 3: before a bad pair, after a bit too many in the row before it, and cut off.
-fn refused_texts(tally: &mut Counts) {
+fn refused_texts(tally: Tally) -> Tally {
     rows::run(
         b"P\x00\x0fREFUSED 1 AT 0\n\
         P\x03\x04\x00\x00\x0fREFUSED 2 AT 0\n\
@@ -111,27 +112,23 @@ fn refused_texts(tally: &mut Counts) {
         P\x11\x03\x00\x0e\x02\x02\x01\x01\x01\x02\x00\x00\x00\x01\x00\x00\x00\x00\
         \x11REFUSED 26 AT 13\n",
         tally,
-    );
+    )
 }
 
-// More bytes than the largest sheet has, all zero.
-fn refused_zeros(tally: &mut Counts) {
-    expect_text(&[0u8; 15622], b"REFUSED 1 AT 0\n", tally);
-}
-
-// The same with the version and the count right.
-fn refused_long(tally: &mut Counts) {
+// More bytes than the largest sheet has, all zero, and with the version and the count right.
+fn refused_long(tally: Tally) -> Tally {
     let mut bytes = [0u8; 15622];
+    let zeros = expect_text(&bytes, b"REFUSED 1 AT 0\n", tally);
     bytes[0] = 2;
     bytes[1] = 61;
     bytes[2] = 3;
-    expect_text(&bytes, b"REFUSED 1 AT 0\n", tally);
-    expect_refused(&bytes, 1, 0, tally);
+    let printed = expect_text(&bytes, b"REFUSED 1 AT 0\n", zeros);
+    expect_refused(&bytes, 1, 0, printed)
 }
 
 // Numbers 10 to 13, with 10 before 11.
 // A step that is taken can not be taken again.
-fn stepped(tally: &mut Counts) {
+fn stepped(tally: Tally) -> Tally {
     rows::run(
         b"EA\x00\x00\x0a\x0a\
         EA\x00\x01\x0a\x0a\
@@ -148,12 +145,12 @@ fn stepped(tally: &mut Counts) {
         EA\x02\x03\x00\x0b\
         EB\x02\x01\x00\x0b",
         tally,
-    );
+    )
 }
 
 // The tester says yes (64), no (65), or 15, which comes before a plain no. All options are live for the completer as read: 15 before 16. Numbers 14 and 17.
 // The same reduced, where option 1 alone is live. Numbers 14 and 18, with 18 before 17.
-fn replies(tally: &mut Counts) {
+fn replies(tally: Tally) -> Tally {
     rows::run(
         b"TA\x00\x00\x01\x64\
         TA\x01\x02\x00\x64\
@@ -178,13 +175,13 @@ fn replies(tally: &mut Counts) {
         Wa\x00\x01\x10\x80\x12\
         Wa\x00\x03\x00\x00\x12",
         tally,
-    );
+    )
 }
 
 // The search. Six options of 10 values without a table have 1,000,000 choices; a seventh of 2 is too much, and so are sixteen of 16. Three options of 3
 // values differ, and four can not. 14 options of 16 values and two of one, (15,16) 0000. Four options of 31 values, and of 32. And which build is the first
 // goes by the live options: sizes 2,3; (1,2) 0006 0001.
-fn searched(tally: &mut Counts) {
+fn searched(tally: Tally) -> Tally {
     rows::run(
         b"F\x0b\x01\x00\x08\x06\x0a\x0a\x0a\x0a\x0a\x0a\x00\x01B\x01B\
         F\x0c\x01\x00\x09\x07\x0a\x0a\x0a\x0a\x0a\x0a\x02\x00\x01\x17\x01\x17\
@@ -195,14 +192,13 @@ fn searched(tally: &mut Counts) {
         F\x09\x02\x00\x06\x04\x1f\x1f\x1f\x1f\x00\x01B\x01B\
         F\x09\x02\x00\x06\x04\x20\x20\x20\x20\x00\x01\x17\x01\x17\
         F\x0d\x01\x00\x0a\x02\x02\x03\x01\x01\x02\x00\x06\x00\x01\x03B\x00\x01\x03B\x01\x00",
-        tally,
-    );
-    emptied(tally);
+        emptied(tally),
+    )
 }
 
 // Written in a version: sheet A in the first two; the sheet of 27 values in versions 2 and 3 alone, in none that is unknown, and not into 12 bytes.
 // Case J has an all-zero row, which version 3 bans whatever the room; an empty column it allows.
-fn written(tally: &mut Counts) {
+fn written(tally: Tally) -> Tally {
     rows::run(
         b"VA\x16\x01\x00\x13\x03\x02\x03\x02\x02\x01\x02\x00\x01\x00\x04\x02\x03\x00\x02\x00\x01\x00\x01\
         VA\x20\x02\x00\x1d\x03\x02\x03\x02\x02\x01\x02\x00\x00\x00\x01\x00\x00\x00\x04\x02\x03\x00\x00\x00\x02\x00\x00\x00\x01\x00\x00\x00\x01\
@@ -219,7 +215,7 @@ fn written(tally: &mut Counts) {
         WJ\x00\x02\x00\x00\x11\
         VK\x11\x03\x00\x0e\x02\x02\x02\x01\x01\x02\x00\x00\x00\x01\x00\x00\x00\x01",
         tally,
-    );
+    )
 }
 
 // On a state that is not sound 9 comes before 10.
@@ -234,26 +230,18 @@ fn is_unsound_before_number() -> bool {
     calls::is_refused(state, calls::add_table(state, table), 9)
 }
 
-fn run_refused(tally: &mut Counts) {
-    refused_heads(tally);
-    refused_tables(tally);
-    refused_texts(tally);
-    refused_zeros(tally);
-    refused_long(tally);
-}
-
-fn run_replies(tally: &mut Counts) {
-    stepped(tally);
-    replies(tally);
-    searched(tally);
-    written(tally);
-}
-
 // All of these examples.
-pub fn run(tally: &mut Counts) {
-    tally::expect(tally, tally::EXAMPLES, is_open_as_read());
-    tally::expect(tally, tally::EXAMPLES, is_composed());
-    tally::expect(tally, tally::EXAMPLES, is_unsound_before_number());
-    run_refused(tally);
-    run_replies(tally);
+pub fn run(tally: Tally) -> Tally {
+    let mut after = tally::expect(tally, tally::EXAMPLES, is_open_as_read());
+    after = tally::expect(after, tally::EXAMPLES, is_composed());
+    after = tally::expect(after, tally::EXAMPLES, is_unsound_before_number());
+    after = refused_heads(after);
+    after = refused_tables(after);
+    after = refused_texts(after);
+    after = refused_long(after);
+    after = stepped(after);
+    after = replies(after);
+    after = searched(after);
+    after = written(after);
+    meters::run(after)
 }

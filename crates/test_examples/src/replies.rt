@@ -1,10 +1,10 @@
 // The tester, the completer and the writer on a fixed state of three options.
+use crate::rows::Row;
 use crate::steps::state_named;
-use state::State;
-use test_builds::parts::end_of;
-use test_builds::parts::part;
 use test_calls::calls;
-use test_calls::tally::Counts;
+use test_calls::parts::end_of;
+use test_calls::parts::part;
+use test_calls::tally::Tally;
 use test_checks::reads::check_unwritten;
 use test_checks::reads::check_written;
 use test_oracle::brute;
@@ -35,32 +35,32 @@ pub(crate) fn is_completed(list: &[u8], at: usize) -> bool {
     calls::is_completed(state, before, 3, byte(list, past(at, 4)), after)
 }
 
-// Whatever a buffer holds that is not of three bytes, the tester and the completer answer 14.
-fn is_other_length(state: State, length: usize) -> bool {
+// The state's name, and a length that is not three: whatever a buffer of it holds, the tester and the completer answer 14.
+pub(crate) fn is_wrong_length(list: &[u8], at: usize) -> bool {
+    let state = state_named(byte(list, at));
+    let length = byte(list, past(at, 1)) as usize;
     let tuple = three(b"\xff\x00\x01", 0);
     let is_left = calls::is_completed(state, tuple, length, 14, tuple);
     is_left & (calls::test(state, tuple, length) == 14)
 }
 
-// The state's name, and a length that is not three.
-pub(crate) fn is_wrong_length(list: &[u8], at: usize) -> bool {
-    let state = state_named(byte(list, at));
-    is_other_length(state, byte(list, past(at, 1)) as usize)
-}
-
-// The state's name, a version and the room of a buffer in two bytes each, and the number that the writer answers. Answers the place after them.
-pub(crate) fn room_at(list: &[u8], at: usize, tally: &mut Counts) -> usize {
+// The state's name, a version and the room of a buffer in two bytes each, and the number that the writer answers.
+pub(crate) fn room_at(list: &[u8], at: usize, tally: Tally) -> Row {
     let state = state_named(byte(list, at));
     let version = brute::number(list, past(at, 1));
     let room = brute::number(list, past(at, 3));
-    check_unwritten(state, version, room, byte(list, past(at, 5)), tally);
-    past(at, 6)
+    Row {
+        tally: check_unwritten(state, version, room, byte(list, past(at, 5)), tally),
+        next: past(at, 6),
+    }
 }
 
-// The state's name, and a part that it is written as, in its version. Answers the place after them.
-pub(crate) fn written_at(list: &[u8], at: usize, tally: &mut Counts) -> usize {
+// The state's name, and a part that it is written as, in its version.
+pub(crate) fn written_at(list: &[u8], at: usize, tally: Tally) -> Row {
     let state = state_named(byte(list, at));
     let begin = past(at, 1);
-    check_written(part(list, begin), state, tally);
-    end_of(list, begin)
+    Row {
+        tally: check_written(part(list, begin), state, tally),
+        next: end_of(list, begin),
+    }
 }

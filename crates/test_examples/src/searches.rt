@@ -1,12 +1,13 @@
 // The search on fixed sheets, as read and reduced.
+use crate::rows::Row;
 use state::State;
-use test_builds::parts::end_of;
-use test_builds::parts::part;
 use test_calls::calls;
 use test_calls::calls::BUILT;
 use test_calls::calls::NONE;
+use test_calls::parts::end_of;
+use test_calls::parts::part;
 use test_calls::tally;
-use test_calls::tally::Counts;
+use test_calls::tally::Tally;
 use test_oracle::brute::byte;
 use test_oracle::fields;
 
@@ -28,31 +29,28 @@ fn values(expected: &[u8]) -> &[u8] {
 }
 
 // The search says what is expected, a letter or number and the values of the build, zero past them.
-pub(crate) fn expect_found(state: State, expected: &[u8], tally: &mut Counts) {
+fn expect_found(state: State, expected: &[u8], tally: Tally) -> Tally {
     let answer = calls::search(state);
     let is_said = answer.verdict == said(byte(expected, 0));
     let is_shown = fields::is_filled(&answer.solution, values(expected), 0);
-    tally::expect(tally, tally::EXAMPLES, is_said & is_shown);
+    tally::expect(tally, tally::EXAMPLES, is_said & is_shown)
 }
 
-fn expect_searched(bytes: &[u8], fresh: &[u8], reduced: &[u8], tally: &mut Counts) {
-    let reading = calls::read(bytes);
-    expect_found(reading.state, fresh, tally);
-    let answer = calls::reduce(reading.state);
-    expect_found(answer.state, reduced, tally);
+// The same of the state, and of the state reduced.
+fn expect_searched(state: State, fresh: &[u8], reduced: &[u8], tally: Tally) -> Tally {
+    let answer = calls::reduce(state);
+    expect_found(answer.state, reduced, expect_found(state, fresh, tally))
 }
 
-// Three parts: a sheet, and what the search says of it as read and reduced. Answers the place after them.
-pub(crate) fn search_at(list: &[u8], at: usize, tally: &mut Counts) -> usize {
+// Three parts: a sheet, and what the search says of it as read and reduced.
+pub(crate) fn search_at(list: &[u8], at: usize, tally: Tally) -> Row {
     let fresh = end_of(list, at);
     let reduced = end_of(list, fresh);
-    expect_searched(
-        part(list, at),
-        part(list, fresh),
-        part(list, reduced),
-        tally,
-    );
-    end_of(list, reduced)
+    let reading = calls::read(part(list, at));
+    Row {
+        tally: expect_searched(reading.state, part(list, fresh), part(list, reduced), tally),
+        next: end_of(list, reduced),
+    }
 }
 
 // A row of a table by which two options of 16 values differ.
@@ -128,9 +126,6 @@ fn contrary() -> State {
 }
 
 // 23 as read, and reduced none, at once.
-pub(crate) fn emptied(tally: &mut Counts) {
-    let state = contrary();
-    expect_found(state, b"\x17", tally);
-    let answer = calls::reduce(state);
-    expect_found(answer.state, b"N", tally);
+pub(crate) fn emptied(tally: Tally) -> Tally {
+    expect_searched(contrary(), b"\x17", b"N", tally)
 }

@@ -1,14 +1,15 @@
 // Fixed states, and follow steps on them.
+use crate::rows::Row;
 use state::State;
 use test_calls::calls;
 use test_calls::tally;
-use test_calls::tally::Counts;
+use test_calls::tally::Tally;
 use test_checks::lists::check_step;
 use test_checks::lists::start;
 use test_oracle::brute::byte;
 use test_oracle::brute::past;
 
-fn state_of(bytes: &[u8]) -> State {
+pub(crate) fn state_of(bytes: &[u8]) -> State {
     let reading = calls::read(bytes);
     reading.state
 }
@@ -20,7 +21,7 @@ fn state_a() -> State {
     )
 }
 
-fn reduced(state: State) -> State {
+pub(crate) fn reduced(state: State) -> State {
     let answer = calls::reduce(state);
     answer.state
 }
@@ -55,26 +56,29 @@ fn are_steps(state: State, leader: usize, follower: usize, number: u8, second: u
     (first.number == number) & (again.number == second)
 }
 
+// The same, and the first of the two by the rules.
 fn expect_steps(
     state: State,
     leader: usize,
     follower: usize,
-    number: u8,
-    second: u8,
-    tally: &mut Counts,
-) {
-    let is_right = are_steps(state, leader, follower, number, second);
-    tally::expect(tally, tally::EXAMPLES, is_right);
-    check_step(start(state), leader, follower, tally);
+    is_right: bool,
+    tally: Tally,
+) -> Tally {
+    let expected = tally::expect(tally, tally::EXAMPLES, is_right);
+    let run = check_step(start(state, expected), leader, follower);
+    run.tally
 }
 
-// The state's name, leader, follower, and the two answers. Answers the place after them.
-pub(crate) fn steps_at(list: &[u8], at: usize, tally: &mut Counts) -> usize {
+// The state's name, leader, follower, and the two answers.
+pub(crate) fn steps_at(list: &[u8], at: usize, tally: Tally) -> Row {
     let state = state_named(byte(list, at));
     let leader = option_number(byte(list, past(at, 1)));
     let follower = option_number(byte(list, past(at, 2)));
     let number = byte(list, past(at, 3));
     let second = byte(list, past(at, 4));
-    expect_steps(state, leader, follower, number, second, tally);
-    past(at, 5)
+    let is_right = are_steps(state, leader, follower, number, second);
+    Row {
+        tally: expect_steps(state, leader, follower, is_right, tally),
+        next: past(at, 5),
+    }
 }

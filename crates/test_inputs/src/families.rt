@@ -101,19 +101,14 @@ fn options(family: u8, seed: &mut u64) -> u8 {
 }
 
 fn most_values(family: u8, i: usize) -> u8 {
+    if (family == WIDE) & (1 < i) {
+        return 2;
+    }
     match family {
-        LARGE => 16,
+        WIDE | LARGE => 16,
         LARGER => 32,
-        WIDE => most_of_wide(i),
         _ => 4,
     }
-}
-
-fn most_of_wide(i: usize) -> u8 {
-    if i < 2 {
-        return 16;
-    }
-    2
 }
 
 // 17 to 32 values, once in four fewer.
@@ -147,16 +142,9 @@ fn put_sizes(bytes: &mut [u8; ROOM], n: usize, family: u8, seed: &mut u64) {
 }
 
 // Chains state each option with the next, and seldom with another.
-fn is_chained(a: usize, b: usize, seed: &mut u64) -> bool {
-    if std::num::wrapping_add_usize(a, 1) == b {
-        return true;
-    }
-    random::once_in(seed, 6)
-}
-
 fn is_stated(family: u8, a: usize, b: usize, seed: &mut u64) -> bool {
     match family {
-        CHAINS => is_chained(a, b, seed),
+        CHAINS => std::num::wrapping_add_usize(a, 1) == b || random::once_in(seed, 6),
         DENSE => !random::once_in(seed, 4),
         LARGE | LARGER => random::once_in(seed, 3),
         FULL | LARGEST => true,

@@ -1,14 +1,11 @@
 // A fixed stream of numbers, so that every run tries the same inputs.
 
 // Marsaglia's xorshift.
-fn step(s: u64) -> u64 {
+fn draw(seed: &mut u64) -> u64 {
+    let s = *seed;
     let a = s ^ (s << 13);
     let b = a ^ (a >> 7);
-    b ^ (b << 17)
-}
-
-fn draw(seed: &mut u64) -> u64 {
-    let next = step(*seed);
+    let next = b ^ (b << 17);
     *seed = next;
     next >> 16
 }

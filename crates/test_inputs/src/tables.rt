@@ -50,7 +50,7 @@ fn other_number(n: usize, first: usize, seed: &mut u64) -> usize {
 }
 
 // The size of an option, counted from 1; 0 where there is none.
-fn size_of(sizes: &[u8; 16], option: usize) -> u8 {
+fn size_of(sizes: [u8; 16], option: usize) -> u8 {
     if option == 0 {
         return 0;
     }
@@ -87,7 +87,7 @@ fn drawn_rows(size: u8, seed: &mut u64) -> [u32; ROOM] {
 }
 
 // A table that is as its options want it, where there are two such.
-fn fitting(n: usize, sizes: &[u8; 16], seed: &mut u64) -> Table {
+fn fitting(n: usize, sizes: [u8; 16], seed: &mut u64) -> Table {
     let first = likely_number(n, seed);
     let second = other_number(n, first, seed);
     let rows = drawn_rows(size_of(sizes, second), seed);
@@ -149,7 +149,7 @@ fn with_fault(table: Table, seed: &mut u64) -> Table {
 }
 
 // A table for two of `n` options with these sizes.
-pub fn drawn(n: usize, sizes: &[u8; 16], seed: &mut u64) -> Table {
+pub fn drawn(n: usize, sizes: [u8; 16], seed: &mut u64) -> Table {
     let table = fitting(n, sizes, seed);
     if random::once_in(seed, 4) {
         return with_fault(table, seed);

@@ -71,7 +71,7 @@ pub fn has(row: usize, v: usize) -> bool {
 }
 
 // Each value is below its option's size.
-fn values_below(bytes: &[u8], tuple: &[u8; 16]) -> bool {
+fn values_below(bytes: &[u8], tuple: [u8; 16]) -> bool {
     let n = options(bytes);
     for i in 0..n {
         if size(bytes, i) <= byte_at(tuple, i) {
@@ -95,7 +95,7 @@ pub fn size_of(bytes: &[u8], option: usize) -> usize {
 }
 
 // The row of the table at a place for its value of a has the bit for its value of b.
-fn table_allows(bytes: &[u8], at: usize, tuple: &[u8; 16]) -> bool {
+fn table_allows(bytes: &[u8], at: usize, tuple: [u8; 16]) -> bool {
     let a = byte_at(tuple, index_of(byte(bytes, at) as usize));
     let b = byte_at(tuple, index_of(byte(bytes, past(at, 1)) as usize));
     has(row(bytes, row_place(bytes, past(at, 2), a)), b)
@@ -107,7 +107,7 @@ fn table_end(bytes: &[u8], at: usize) -> usize {
     row_place(bytes, past(at, 2), rows)
 }
 
-fn tables_allow(bytes: &[u8], tuple: &[u8; 16]) -> bool {
+fn tables_allow(bytes: &[u8], tuple: [u8; 16]) -> bool {
     let n = options(bytes);
     let tables = byte(bytes, past(4, n)) as usize;
     let mut at = past(5, n);
@@ -122,7 +122,7 @@ fn tables_allow(bytes: &[u8], tuple: &[u8; 16]) -> bool {
 
 // "n bytes, one for each option, each below that option's size, and in every table of the file the row for its value of a has the bit for its
 // value of b".
-pub fn is_build(bytes: &[u8], tuple: &[u8; 16]) -> bool {
+pub fn is_build(bytes: &[u8], tuple: [u8; 16]) -> bool {
     if !values_below(bytes, tuple) {
         return false;
     }

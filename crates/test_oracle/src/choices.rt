@@ -5,44 +5,30 @@ use crate::fields::has;
 use crate::fields::row_at;
 use crate::fields::word_at;
 
-fn is_listed(free: u32, domains: &[u32; 16], tuple: &[u8; 16], i: usize) -> bool {
-    !has(free, i) | has(word_at(domains, i), byte_at(tuple, i))
-}
-
 // Each live option's value is in its list.
-pub fn are_listed(free: u32, domains: &[u32; 16], tuple: &[u8; 16]) -> bool {
+pub fn are_listed(free: u32, domains: [u32; 16], tuple: [u8; 16]) -> bool {
     for i in 0..16 {
-        if !is_listed(free, domains, tuple, i) {
+        if has(free, i) & !has(word_at(domains, i), byte_at(tuple, i)) {
             return false;
         }
     }
     true
 }
 
-fn is_allowed<'a>(
+fn is_allowed(
     free: u32,
-    stated: &'a [u32; 16],
-    rows: &'a [u32; 3840],
-    tuple: &[u8; 16],
+    stated: [u32; 16],
+    rows: &[u32; 3840],
+    tuple: [u8; 16],
     i: usize,
     j: usize,
 ) -> bool {
-    if !has(free & word_at(stated, i), j) {
-        return true;
-    }
-    if !has(free, i) {
-        return true;
-    }
-    has(row_at(rows, i, j, byte_at(tuple, i)), byte_at(tuple, j))
+    let are_stated = has(free, i) & has(free & word_at(stated, i), j);
+    !are_stated || has(row_at(rows, i, j, byte_at(tuple, i)), byte_at(tuple, j))
 }
 
 // Each stated pair of two live options allows its two values.
-pub fn are_allowed<'a>(
-    free: u32,
-    stated: &'a [u32; 16],
-    rows: &'a [u32; 3840],
-    tuple: &[u8; 16],
-) -> bool {
+pub fn are_allowed(free: u32, stated: [u32; 16], rows: &[u32; 3840], tuple: [u8; 16]) -> bool {
     for k in 0..256 {
         if !is_allowed(free, stated, rows, tuple, k / 16, k % 16) {
             return false;
@@ -51,63 +37,46 @@ pub fn are_allowed<'a>(
     true
 }
 
-fn is_choice_at(free: u32, tuple: &[u8; 16], i: usize) -> bool {
-    has(free, i) | (byte_at(tuple, i) == 0)
-}
-
 // The values of followers are 0: of the tuples that agree at the live options, one.
-pub fn is_choice(free: u32, tuple: &[u8; 16]) -> bool {
+pub fn is_choice(free: u32, tuple: [u8; 16]) -> bool {
     for i in 0..16 {
-        if !is_choice_at(free, tuple, i) {
+        if !has(free, i) & (byte_at(tuple, i) != 0) {
             return false;
         }
     }
     true
-}
-
-fn is_kept(n: usize, free: u32, before: &[u8; 16], after: &[u8; 16], i: usize) -> bool {
-    let is_follower = (i < n) & !has(free, i);
-    is_follower | (byte_at(before, i) == byte_at(after, i))
 }
 
 // The bytes of live options, and those past n, are as they were.
-pub fn are_kept(n: usize, free: u32, before: &[u8; 16], after: &[u8; 16]) -> bool {
+pub fn are_kept(n: usize, free: u32, before: [u8; 16], after: [u8; 16]) -> bool {
     for i in 0..16 {
-        if !is_kept(n, free, before, after, i) {
+        let is_follower = (i < n) & !has(free, i);
+        if !is_follower & (byte_at(before, i) != byte_at(after, i)) {
             return false;
         }
     }
     true
 }
 
-fn is_empty_at(free: u32, domains: &[u32; 16], i: usize) -> bool {
-    has(free, i) & (word_at(domains, i) == 0)
-}
-
 // Some live list is empty.
-pub fn has_empty_list(free: u32, domains: &[u32; 16]) -> bool {
+pub fn has_empty_list(free: u32, domains: [u32; 16]) -> bool {
     for i in 0..16 {
-        if is_empty_at(free, domains, i) {
+        if has(free, i) & (word_at(domains, i) == 0) {
             return true;
         }
     }
     false
 }
 
-fn is_lowest(free: u32, domains: &[u32; 16], tuple: &[u8; 16], i: usize) -> bool {
-    if !has(free, i) {
-        return true;
-    }
+fn is_lowest(free: u32, domains: [u32; 16], tuple: [u8; 16], i: usize) -> bool {
     let domain = word_at(domains, i);
-    if domain == 0 {
-        return false;
-    }
     let value = byte_at(tuple, i);
-    has(domain, value) & (bit_if(true, value) == domain ^ (domain & (domain - 1)))
+    let lowest = domain ^ (domain & std::num::wrapping_sub_u32(domain, 1));
+    !has(free, i) | (has(domain, value) & (bit_if(true, value) == lowest))
 }
 
 // Each live option has the lowest value of its list.
-pub fn are_lowest(free: u32, domains: &[u32; 16], tuple: &[u8; 16]) -> bool {
+pub fn are_lowest(free: u32, domains: [u32; 16], tuple: [u8; 16]) -> bool {
     for i in 0..16 {
         if !is_lowest(free, domains, tuple, i) {
             return false;
@@ -116,29 +85,23 @@ pub fn are_lowest(free: u32, domains: &[u32; 16], tuple: &[u8; 16]) -> bool {
     true
 }
 
-fn is_apart(free: u32, stated: &[u32; 16], i: usize) -> bool {
-    !has(free, i) | (word_at(stated, i) & free == 0)
-}
-
 // No two live options are stated together.
-pub fn are_apart(free: u32, stated: &[u32; 16]) -> bool {
+pub fn are_apart(free: u32, stated: [u32; 16]) -> bool {
     for i in 0..16 {
-        if !is_apart(free, stated, i) {
+        if has(free, i) & (word_at(stated, i) & free != 0) {
             return false;
         }
     }
     true
 }
 
-fn differ_at(free: u32, one: &[u8; 16], other: &[u8; 16], i: usize) -> bool {
-    has(free, i) & (byte_at(one, i) != byte_at(other, i))
-}
-
 // "live options compared in ascending number and lower values first": the one comes before the other.
-pub fn precedes(free: u32, one: &[u8; 16], other: &[u8; 16]) -> bool {
+pub fn precedes(free: u32, one: [u8; 16], other: [u8; 16]) -> bool {
     for i in 0..16 {
-        if differ_at(free, one, other, i) {
-            return byte_at(one, i) < byte_at(other, i);
+        let value = byte_at(one, i);
+        let second = byte_at(other, i);
+        if has(free, i) & (value != second) {
+            return value < second;
         }
     }
     false
@@ -161,7 +124,7 @@ fn times_in(left: usize, free: u32, domain: u32, i: usize) -> usize {
 }
 
 // The product of the sizes of the live lists exceeds 1,000,000, where none is empty: 1,000,000 divided by each in turn is 0.
-pub fn are_many(free: u32, domains: &[u32; 16]) -> bool {
+pub fn are_many(free: u32, domains: [u32; 16]) -> bool {
     let mut left: usize = 1000000;
     for i in 0..16 {
         left = times_in(left, free, domains[i], i);

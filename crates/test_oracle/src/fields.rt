@@ -13,16 +13,18 @@ pub fn is_filled(buffer: &[u8], bytes: &[u8], rest: u8) -> bool {
 }
 
 // The two arrays hold the same bytes.
-pub fn same_bytes(a: &[u8; 16], b: &[u8; 16]) -> bool {
-    is_filled(a, b, 0)
+pub fn same_bytes(a: [u8; 16], b: [u8; 16]) -> bool {
+    is_filled(&a, &b, 0)
 }
 
 // All bytes from `n` on are zero.
-pub fn is_zero_from(bytes: &[u8], n: usize) -> bool {
-    if bytes.len() < n {
-        return true;
+pub fn is_zero_from(bytes: [u8; 16], n: usize) -> bool {
+    for i in 0..16 {
+        if (n <= i) & (bytes[i] != 0) {
+            return false;
+        }
     }
-    is_filled(&bytes[n..], b"", 0)
+    true
 }
 
 // The two hold the same words.
@@ -52,7 +54,7 @@ pub fn has(word: u32, v: usize) -> bool {
 }
 
 // The word of the option `i`.
-pub fn word_at(words: &[u32; 16], i: usize) -> u32 {
+pub fn word_at(words: [u32; 16], i: usize) -> u32 {
     if 15 < i {
         return 0;
     }
@@ -64,7 +66,7 @@ fn wide(x: u8) -> usize {
 }
 
 // The byte of the option `i`, as an index.
-pub fn byte_at(bytes: &[u8; 16], i: usize) -> usize {
+pub fn byte_at(bytes: [u8; 16], i: usize) -> usize {
     if 15 < i {
         return 0;
     }
@@ -121,18 +123,11 @@ pub fn row_at(rows: &[u32; 3840], i: usize, j: usize, a: usize) -> u32 {
     column(rows, j, i, a)
 }
 
-fn is_free(n: usize, leaders: &[u8; 16], i: usize) -> bool {
-    if n <= i {
-        return false;
-    }
-    byte_at(leaders, i) == 0
-}
-
 // The live options, as bits.
-pub fn free(n: usize, leaders: &[u8; 16]) -> u32 {
+pub fn free(n: usize, leaders: [u8; 16]) -> u32 {
     let mut word: u32 = 0;
     for i in 0..16 {
-        word = word | bit_if(is_free(n, leaders, i), i);
+        word = word | bit_if((i < n) & (byte_at(leaders, i) == 0), i);
     }
     word
 }

@@ -23,11 +23,6 @@ fn is_length_wrong(bytes: &[u8]) -> bool {
     (length < 3) | (15621 < length) | (past(3, number(bytes, 1)) != length)
 }
 
-// "neither 1 nor 2", and "now let 3 pass too"
-fn is_version_wrong(version: u8) -> bool {
-    (version != 1) & (version != 2) & (version != 3)
-}
-
 // "version 1 keeps two-byte rows and sizes to 16"
 fn most_values(bytes: &[u8]) -> u8 {
     if byte(bytes, 0) == 1 {
@@ -84,15 +79,11 @@ fn judge_pair(bytes: &[u8], n: usize, at: usize, before: usize) -> u8 {
     if b <= a {
         return 19;
     }
-    if (before == 0) | is_after(bytes, at, before) {
+    // "by a and then by b, none twice"
+    if (before == 0) | (number(bytes, before) < number(bytes, at)) {
         return 0;
     }
     20
-}
-
-// The pair at `at` is after the pair at `before`: "by a and then by b, none twice".
-fn is_after(bytes: &[u8], at: usize, before: usize) -> bool {
-    number(bytes, before) < number(bytes, at)
 }
 
 // A bit of a row at or above the size.
@@ -103,19 +94,16 @@ pub fn is_row_wide(row: usize, size: usize) -> bool {
     (row >> size) != 0
 }
 
-// "Version 3 .. forbids an all-zero row."
-fn is_row_banned(row: usize, version: u8) -> bool {
-    (version == 3) & (row == 0)
-}
-
 fn judge_row(bytes: &[u8], at: usize, size: usize) -> u8 {
     if bytes.len() < past(at, row_length(bytes)) {
         return 6;
     }
-    if is_row_wide(row(bytes, at), size) {
+    let row = row(bytes, at);
+    if is_row_wide(row, size) {
         return 8;
     }
-    if is_row_banned(row(bytes, at), byte(bytes, 0)) {
+    // "Version 3 .. forbids an all-zero row."
+    if (byte(bytes, 0) == 3) & (row == 0) {
         return 26;
     }
     0
@@ -180,7 +168,8 @@ pub fn judge(bytes: &[u8]) -> Judged {
     if is_length_wrong(bytes) {
         return fault(1, 0);
     }
-    if is_version_wrong(byte(bytes, 0)) {
+    // "neither 1 nor 2", and "now let 3 pass too"
+    if is_wrong(byte(bytes, 0), 3) {
         return fault(2, 0);
     }
     if bytes.len() <= 3 {

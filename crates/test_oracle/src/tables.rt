@@ -49,12 +49,12 @@ pub fn with(tables: Tables, count: usize, first: usize, second: usize, rows: &[u
 }
 
 // The tuple's value of the option whose number stands at a place.
-fn value_at(tables: &Tables, at: usize, tuple: &[u8; 16]) -> usize {
+fn value_at(tables: &Tables, at: usize, tuple: [u8; 16]) -> usize {
     byte_at(tuple, index_of(row(tables, at) as usize))
 }
 
 // The row of its value of the first named option has the bit of its value of the second.
-fn is_kept_to(tables: &Tables, at: usize, tuple: &[u8; 16]) -> bool {
+fn is_kept_to(tables: &Tables, at: usize, tuple: [u8; 16]) -> bool {
     if row(tables, at) == 0 {
         return true;
     }
@@ -63,7 +63,7 @@ fn is_kept_to(tables: &Tables, at: usize, tuple: &[u8; 16]) -> bool {
     has(row(tables, past(at, past(2, a))), b)
 }
 
-fn are_kept_to(tables: &Tables, tuple: &[u8; 16]) -> bool {
+fn are_kept_to(tables: &Tables, tuple: [u8; 16]) -> bool {
     for k in 0..MOST {
         if !is_kept_to(tables, k % MOST * WORDS, tuple) {
             return false;
@@ -73,6 +73,6 @@ fn are_kept_to(tables: &Tables, tuple: &[u8; 16]) -> bool {
 }
 
 // "builds are counted against the accepted sheet together with the tables that calls not refused added"
-pub fn is_build(bytes: &[u8], tables: &Tables, tuple: &[u8; 16]) -> bool {
+pub fn is_build(bytes: &[u8], tables: &Tables, tuple: [u8; 16]) -> bool {
     brute::is_build(bytes, tuple) & are_kept_to(tables, tuple)
 }

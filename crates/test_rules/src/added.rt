@@ -22,17 +22,15 @@ fn is_wide(rows: &[u32], size: usize) -> bool {
 }
 
 // "10, then 21 for two equal options, then 22 for a wrong count of rows or a bit at or above the size": 0 where none refuses. Options are counted from 1.
-pub fn refusal(n: usize, sizes: &[u8; 16], first: usize, second: usize, rows: &[u32]) -> u8 {
+pub fn refusal(n: usize, sizes: [u8; 16], first: usize, second: usize, rows: &[u32]) -> u8 {
     if !(is_option(n, first) & is_option(n, second)) {
         return 10;
     }
     if first == second {
         return 21;
     }
-    if rows.len() != byte_at(sizes, index_of(first)) {
-        return 22;
-    }
-    if is_wide(rows, byte_at(sizes, index_of(second))) {
+    let is_long = rows.len() != byte_at(sizes, index_of(first));
+    if is_long | is_wide(rows, byte_at(sizes, index_of(second))) {
         return 22;
     }
     0
@@ -47,7 +45,7 @@ pub struct Sides {
 }
 
 // "Each option is traced to its live leader; a live option is its own."
-fn traced(leaders: &[u8; 16], x: usize) -> usize {
+fn traced(leaders: [u8; 16], x: usize) -> usize {
     let leader = byte_at(leaders, x);
     if leader == 0 {
         return x;
@@ -56,7 +54,7 @@ fn traced(leaders: &[u8; 16], x: usize) -> usize {
 }
 
 // The sides of a table for two options, counted from 1.
-pub fn sides_of(leaders: &[u8; 16], first: usize, second: usize) -> Sides {
+pub fn sides_of(leaders: [u8; 16], first: usize, second: usize) -> Sides {
     let x = index_of(first);
     let y = index_of(second);
     Sides {
@@ -68,13 +66,7 @@ pub fn sides_of(leaders: &[u8; 16], first: usize, second: usize) -> Sides {
 }
 
 // The partners in `x` of value `a` of its leader `l`: "A live option's value is its own partner."
-fn partners<'a>(
-    domains: &'a [u32; 16],
-    rows: &'a [u32; 3840],
-    l: usize,
-    x: usize,
-    a: usize,
-) -> u32 {
+fn partners(domains: [u32; 16], rows: &[u32; 3840], l: usize, x: usize, a: usize) -> u32 {
     if l == x {
         return bit_if(true, a);
     }
@@ -98,9 +90,9 @@ fn reached(table: &[u32], set: u32) -> u32 {
 }
 
 // "the new table allows their partners", of value `a` of the first leader and `b` of the second
-fn allows_partners<'a>(
-    domains: &'a [u32; 16],
-    rows: &'a [u32; 3840],
+fn allows_partners(
+    domains: [u32; 16],
+    rows: &[u32; 3840],
     table: &[u32],
     sides: Sides,
     a: usize,
@@ -112,12 +104,7 @@ fn allows_partners<'a>(
 }
 
 // "If they are one, its list loses the values whose partners the new table forbids."
-pub fn trimmed<'a>(
-    domains: &'a [u32; 16],
-    rows: &'a [u32; 3840],
-    table: &[u32],
-    sides: Sides,
-) -> u32 {
+pub fn trimmed(domains: [u32; 16], rows: &[u32; 3840], table: &[u32], sides: Sides) -> u32 {
     let list = word_at(domains, sides.first_leader);
     let mut left: u32 = 0;
     for a in 0..32 {
@@ -132,10 +119,10 @@ pub fn trimmed<'a>(
 
 // "It then allows two values exactly when both are in the leaders' lists, the new table allows their partners, and the pair, if stated before, allowed
 // them."
-fn is_allowed<'a>(
-    domains: &'a [u32; 16],
-    stated: &'a [u32; 16],
-    rows: &'a [u32; 3840],
+fn is_allowed(
+    domains: [u32; 16],
+    stated: [u32; 16],
+    rows: &[u32; 3840],
     table: &[u32],
     sides: Sides,
     a: usize,
@@ -150,10 +137,10 @@ fn is_allowed<'a>(
 }
 
 // The same for value `a` of the lower of the two leaders and `b` of the higher.
-fn is_allowed_from<'a>(
-    domains: &'a [u32; 16],
-    stated: &'a [u32; 16],
-    rows: &'a [u32; 3840],
+fn is_allowed_from(
+    domains: [u32; 16],
+    stated: [u32; 16],
+    rows: &[u32; 3840],
     table: &[u32],
     sides: Sides,
     a: usize,
@@ -166,10 +153,10 @@ fn is_allowed_from<'a>(
 }
 
 // The row of value `a` of the lower of the two leaders.
-fn row_after<'a>(
-    domains: &'a [u32; 16],
-    stated: &'a [u32; 16],
-    rows: &'a [u32; 3840],
+fn row_after(
+    domains: [u32; 16],
+    stated: [u32; 16],
+    rows: &[u32; 3840],
     table: &[u32],
     sides: Sides,
     a: usize,
@@ -193,10 +180,10 @@ fn lower(p: usize, q: usize) -> usize {
 }
 
 // The rows where the two leaders differ.
-pub fn rows_after<'a>(
-    domains: &'a [u32; 16],
-    stated: &'a [u32; 16],
-    rows: &'a [u32; 3840],
+pub fn rows_after(
+    domains: [u32; 16],
+    stated: [u32; 16],
+    rows: &[u32; 3840],
     table: &[u32],
     sides: Sides,
 ) -> [u32; 3840] {
@@ -211,7 +198,7 @@ pub fn rows_after<'a>(
 }
 
 // "If the leaders differ, their pair becomes stated."
-pub fn stated_after(stated: &[u32; 16], p: usize, q: usize) -> [u32; 16] {
+pub fn stated_after(stated: [u32; 16], p: usize, q: usize) -> [u32; 16] {
     let mut after = [0u32; 16];
     for u in 0..16 {
         after[u] = stated[u] | bit_if(u == p, q) | bit_if(u == q, p);

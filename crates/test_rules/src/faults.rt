@@ -45,10 +45,6 @@ fn with_bit(field: u8, at: usize, bit: u32) -> Fault {
     }
 }
 
-fn drawn_bit(seed: &mut u64) -> u32 {
-    1u32 << (random::byte(seed) % 32)
-}
-
 // The bit of a value; none at 32 or above.
 pub fn bit(value: usize) -> u32 {
     if 31 < value {
@@ -57,13 +53,8 @@ pub fn bit(value: usize) -> u32 {
     1u32 << value
 }
 
-fn stated_bit(seed: &mut u64) -> Fault {
-    let i = random::index(seed, 16);
-    with_bit(STATED, i, drawn_bit(seed))
-}
-
 // A value at or above the size of an option; 32 where there is none.
-fn value_past(sizes: &[u8; 16], i: usize, seed: &mut u64) -> usize {
+fn value_past(sizes: [u8; 16], i: usize, seed: &mut u64) -> usize {
     if 15 < i {
         return 32;
     }
@@ -75,15 +66,15 @@ fn value_past(sizes: &[u8; 16], i: usize, seed: &mut u64) -> usize {
 }
 
 // A row of the options `i` and `j`, stated or not, gets a value that `j` does not have.
-fn row_bit(sizes: &[u8; 16], i: usize, j: usize, seed: &mut u64) -> Fault {
+fn row_bit(sizes: [u8; 16], i: usize, j: usize, seed: &mut u64) -> Fault {
     let at = fields::place(i, j, random::index(seed, 32));
     with_bit(ROW, at, bit(value_past(sizes, j, seed)))
 }
 
 // A value that `i` does not have gets a row.
-fn row_past(sizes: &[u8; 16], i: usize, j: usize, seed: &mut u64) -> Fault {
+fn row_past(sizes: [u8; 16], i: usize, j: usize, seed: &mut u64) -> Fault {
     let at = fields::place(i, j, value_past(sizes, i, seed));
-    with_bit(ROW, at, drawn_bit(seed))
+    with_bit(ROW, at, 1u32 << (random::byte(seed) % 32))
 }
 
 // `i` follows an option that it is not stated with.
@@ -94,20 +85,13 @@ fn strange_leader(are_stated: bool, i: usize, j: usize) -> Fault {
     numbered(LEADER, i, std::num::wrapping_add_usize(j, 1))
 }
 
-fn less_one(n: usize) -> usize {
-    if n == 0 {
-        return 0;
-    }
-    n - 1
-}
-
 // Another number of options.
 fn other_n(kind: u64, n: usize, seed: &mut u64) -> usize {
     match kind {
         0 => 0,
         1 => 17,
         2 => usize::MAX - random::index(seed, 1000),
-        3 => less_one(n),
+        3 => std::num::wrapping_sub_usize(n, 1),
         _ => std::num::wrapping_add_usize(n, 1),
     }
 }
@@ -144,7 +128,7 @@ fn drawn_places(n: usize, seed: &mut u64) -> Places {
 }
 
 // A size that can not be, or in the list of an option the value that its size is just too small for.
-fn wrong_size(kind: u64, sizes: &[u8; 16], i: usize, any: usize, seed: &mut u64) -> Fault {
+fn wrong_size(kind: u64, sizes: [u8; 16], i: usize, any: usize, seed: &mut u64) -> Fault {
     match kind {
         5 => numbered(SIZE, i, 0),
         6 => numbered(SIZE, any, (33 + random::byte(seed) % 200) as usize),
@@ -153,7 +137,7 @@ fn wrong_size(kind: u64, sizes: &[u8; 16], i: usize, any: usize, seed: &mut u64)
 }
 
 // A leader that can not be, or an option stated with the first one past n.
-fn wrong_leader(kind: u64, n: usize, stated: &[u32; 16], places: Places) -> Fault {
+fn wrong_leader(kind: u64, n: usize, stated: [u32; 16], places: Places) -> Fault {
     let i = places.i;
     match kind {
         8 => numbered(LEADER, i, std::num::wrapping_add_usize(i, 1)),
@@ -169,7 +153,7 @@ fn wrong_leader(kind: u64, n: usize, stated: &[u32; 16], places: Places) -> Faul
 }
 
 // A value that an option does not have.
-fn wrong_value(kind: u64, sizes: &[u8; 16], places: Places, seed: &mut u64) -> Fault {
+fn wrong_value(kind: u64, sizes: [u8; 16], places: Places, seed: &mut u64) -> Fault {
     match kind {
         13 => row_past(sizes, places.low, places.high, seed),
         15 => with_bit(LIST, places.any, bit(value_past(sizes, places.any, seed))),
@@ -178,23 +162,18 @@ fn wrong_value(kind: u64, sizes: &[u8; 16], places: Places, seed: &mut u64) -> F
 }
 
 // A pair that is not stated, or past n, allows its lowest values.
-fn unstated_row<'a>(
-    sizes: &'a [u8; 16],
-    stated: &'a [u32; 16],
-    places: Places,
-    seed: &mut u64,
-) -> Fault {
+fn unstated_row(sizes: [u8; 16], stated: [u32; 16], places: Places, seed: &mut u64) -> Fault {
     if fields::has(fields::word_at(stated, places.low), places.high) {
         return row_past(sizes, places.low, places.high, seed);
     }
     with_bit(ROW, fields::place(places.low, places.high, 0), 1)
 }
 
-fn of_kind<'a>(
+fn of_kind(
     kind: u64,
     n: usize,
-    sizes: &'a [u8; 16],
-    stated: &'a [u32; 16],
+    sizes: [u8; 16],
+    stated: [u32; 16],
     places: Places,
     seed: &mut u64,
 ) -> Fault {
@@ -227,12 +206,13 @@ fn is_put(fault: Fault) -> bool {
 }
 
 // A fault for a state, whatever is drawn.
-pub fn drawn<'a>(n: usize, sizes: &'a [u8; 16], stated: &'a [u32; 16], seed: &mut u64) -> Fault {
+pub fn drawn(n: usize, sizes: [u8; 16], stated: [u32; 16], seed: &mut u64) -> Fault {
     let places = drawn_places(n, seed);
     let kind = random::below(seed, 17);
     let fault = of_kind(kind, n, sizes, stated, places, seed);
     if is_put(fault) {
         return fault;
     }
-    stated_bit(seed)
+    let i = random::index(seed, 16);
+    with_bit(STATED, i, 1u32 << (random::byte(seed) % 32))
 }

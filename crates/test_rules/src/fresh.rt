@@ -1,23 +1,15 @@
 // What the reader is to make of a sheet, and what it is to say of other bytes.
 use test_inputs::families;
 use test_oracle::brute;
+use test_oracle::fields;
 use test_oracle::judge;
 
-// A size and a list as a sheet just read has them; zero past n.
-fn is_fresh_at(bytes: &[u8], size: u8, list: u32, leader: u8, i: usize) -> bool {
-    let is_full = list == families::within(size);
-    (leader == 0) & (size as usize == brute::size(bytes, i)) & is_full
-}
-
-// "A sheet just read has full lists, no leader".
-pub fn are_fresh<'a>(
-    bytes: &[u8],
-    sizes: &'a [u8; 16],
-    domains: &'a [u32; 16],
-    leaders: &'a [u8; 16],
-) -> bool {
+// "A sheet just read has full lists, no leader"; past n all is zero.
+pub fn are_fresh(bytes: &[u8], sizes: [u8; 16], domains: [u32; 16], leaders: [u8; 16]) -> bool {
     for i in 0..16 {
-        if !is_fresh_at(bytes, sizes[i], domains[i], leaders[i], i) {
+        let is_full = domains[i] == families::within(sizes[i]);
+        let is_sized = fields::byte_at(sizes, i) == brute::size(bytes, i);
+        if !(is_full & is_sized & (leaders[i] == 0)) {
             return false;
         }
     }

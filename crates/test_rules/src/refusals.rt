@@ -9,33 +9,23 @@ pub(crate) fn is_option(n: usize, number: usize) -> bool {
 }
 
 // No value in the list of `i` has more than one allowed partner in the list of `j`.
-fn is_functional<'a>(domains: &'a [u32; 16], rows: &'a [u32; 3840], i: usize, j: usize) -> bool {
+fn is_functional(domains: [u32; 16], rows: &[u32; 3840], i: usize, j: usize) -> bool {
     for a in 0..32 {
-        if has_two_partners(domains, rows, i, j, a) {
+        let partners = row_at(rows, i, j, a) & word_at(domains, j);
+        if has(word_at(domains, i), a) & (1 < u32::count_ones(partners)) {
             return false;
         }
     }
     true
 }
 
-fn has_two_partners<'a>(
-    domains: &'a [u32; 16],
-    rows: &'a [u32; 3840],
-    i: usize,
-    j: usize,
-    a: usize,
-) -> bool {
-    let partners = row_at(rows, i, j, a) & word_at(domains, j);
-    has(word_at(domains, i), a) & (1 < u32::count_ones(partners))
-}
-
 // What a step is to be refused with, options counted from 1; 0 where it is legal.
-pub fn refusal<'a>(
+pub fn refusal(
     n: usize,
     free: u32,
-    domains: &'a [u32; 16],
-    stated: &'a [u32; 16],
-    rows: &'a [u32; 3840],
+    domains: [u32; 16],
+    stated: [u32; 16],
+    rows: &[u32; 3840],
     leader: usize,
     follower: usize,
 ) -> u8 {
@@ -55,11 +45,11 @@ pub fn refusal<'a>(
     )
 }
 
-fn refusal_of_pair<'a>(
+fn refusal_of_pair(
     free: u32,
-    domains: &'a [u32; 16],
-    stated: &'a [u32; 16],
-    rows: &'a [u32; 3840],
+    domains: [u32; 16],
+    stated: [u32; 16],
+    rows: &[u32; 3840],
     i: usize,
     j: usize,
 ) -> u8 {
@@ -83,11 +73,11 @@ pub struct Pair {
 
 // The first legal pair from the pair number `start` on, where the pair number `k` has the leader k / 16 and the follower k % 16, counted from 0.
 // From 0 on it is the lowest leader that has a legal follower, with the lowest such follower.
-pub fn legal_from<'a>(
+pub fn legal_from(
     free: u32,
-    domains: &'a [u32; 16],
-    stated: &'a [u32; 16],
-    rows: &'a [u32; 3840],
+    domains: [u32; 16],
+    stated: [u32; 16],
+    rows: &[u32; 3840],
     start: usize,
 ) -> Pair {
     for k in 0..256 {

@@ -6,48 +6,25 @@ use test_oracle::fields::place;
 use test_oracle::fields::row_at;
 use test_oracle::fields::word_at;
 
-// The value `a` of `i` is in its list, and some value in the list of `j` goes with it.
-fn is_kept<'a>(
-    domains: &'a [u32; 16],
-    rows: &'a [u32; 3840],
-    i: usize,
-    j: usize,
-    a: usize,
-) -> bool {
-    has(word_at(domains, i), a) & (row_at(rows, i, j, a) & word_at(domains, j) != 0)
-}
-
 // Rule 1: "The list of i loses each value that has no allowed partner in the list of j."
-pub fn trimmed<'a>(domains: &'a [u32; 16], rows: &'a [u32; 3840], i: usize, j: usize) -> u32 {
+pub fn trimmed(domains: [u32; 16], rows: &[u32; 3840], i: usize, j: usize) -> u32 {
     let mut list: u32 = 0;
     for a in 0..32 {
-        list = list | bit_if(is_kept(domains, rows, i, j, a), a);
+        let has_partner = row_at(rows, i, j, a) & word_at(domains, j) != 0;
+        list = list | bit_if(has_partner & has(word_at(domains, i), a), a);
     }
     list
 }
 
 // "each third option k stated with j"
-fn is_third(stated: &[u32; 16], i: usize, j: usize, k: usize) -> bool {
+fn is_third(stated: [u32; 16], i: usize, j: usize, k: usize) -> bool {
     (k != i) & (k != j) & has(word_at(stated, j), k)
 }
 
-// "some b in the list of j goes with both"
-fn is_joined<'a>(
-    domains: &'a [u32; 16],
-    rows: &'a [u32; 3840],
-    i: usize,
-    j: usize,
-    k: usize,
-    a: usize,
-    c: usize,
-) -> bool {
-    row_at(rows, i, j, a) & row_at(rows, k, j, c) & word_at(domains, j) != 0
-}
-
 // "if i, k was stated before, it allowed (a, c) before"
-pub(crate) fn was_allowed<'a>(
-    stated: &'a [u32; 16],
-    rows: &'a [u32; 3840],
+pub(crate) fn was_allowed(
+    stated: [u32; 16],
+    rows: &[u32; 3840],
     i: usize,
     k: usize,
     a: usize,
@@ -57,10 +34,10 @@ pub(crate) fn was_allowed<'a>(
 }
 
 // Rule 2 for the values `a` of `i` and `c` of `k`; `domains` has the new list of `i`.
-fn is_composed<'a>(
-    domains: &'a [u32; 16],
-    stated: &'a [u32; 16],
-    rows: &'a [u32; 3840],
+fn is_composed(
+    domains: [u32; 16],
+    stated: [u32; 16],
+    rows: &[u32; 3840],
     i: usize,
     j: usize,
     k: usize,
@@ -68,15 +45,16 @@ fn is_composed<'a>(
     c: usize,
 ) -> bool {
     let are_listed = has(word_at(domains, i), a) & has(word_at(domains, k), c);
-    let is_joined = is_joined(domains, rows, i, j, k, a, c);
-    are_listed & is_joined & was_allowed(stated, rows, i, k, a, c)
+    // "some b in the list of j goes with both"
+    let both = row_at(rows, i, j, a) & row_at(rows, k, j, c) & word_at(domains, j);
+    are_listed & (both != 0) & was_allowed(stated, rows, i, k, a, c)
 }
 
 // The same for the values `a` of `p` and `c` of `q`, where one of the two is `i` and the other a third option.
-fn is_composed_from<'a>(
-    domains: &'a [u32; 16],
-    stated: &'a [u32; 16],
-    rows: &'a [u32; 3840],
+fn is_composed_from(
+    domains: [u32; 16],
+    stated: [u32; 16],
+    rows: &[u32; 3840],
     i: usize,
     j: usize,
     p: usize,
@@ -90,10 +68,10 @@ fn is_composed_from<'a>(
     is_composed(domains, stated, rows, i, j, p, c, a)
 }
 
-fn composed_row<'a>(
-    domains: &'a [u32; 16],
-    stated: &'a [u32; 16],
-    rows: &'a [u32; 3840],
+fn composed_row(
+    domains: [u32; 16],
+    stated: [u32; 16],
+    rows: &[u32; 3840],
     i: usize,
     j: usize,
     p: usize,
@@ -108,7 +86,7 @@ fn composed_row<'a>(
 }
 
 // The options `p` and `q` are `x` and a third option, in either order.
-fn is_with_third(stated: &[u32; 16], i: usize, j: usize, p: usize, q: usize, x: usize) -> bool {
+fn is_with_third(stated: [u32; 16], i: usize, j: usize, p: usize, q: usize, x: usize) -> bool {
     if p == x {
         return is_third(stated, i, j, q);
     }
@@ -119,10 +97,10 @@ fn is_with_third(stated: &[u32; 16], i: usize, j: usize, p: usize, q: usize, x: 
 }
 
 // The row of value `a` of `p` against `q` after the step.
-fn row_after<'a>(
-    domains: &'a [u32; 16],
-    stated: &'a [u32; 16],
-    rows: &'a [u32; 3840],
+fn row_after(
+    domains: [u32; 16],
+    stated: [u32; 16],
+    rows: &[u32; 3840],
     i: usize,
     j: usize,
     p: usize,
@@ -147,11 +125,11 @@ pub(crate) fn put_row(rows: &mut [u32; 3840], p: usize, q: usize, a: usize, row:
 }
 
 // Of the rows after the step the one numbered `k`, where it is one from the lower option.
-fn put_after<'a>(
+fn put_after(
     after: &mut [u32; 3840],
-    domains: &'a [u32; 16],
-    stated: &'a [u32; 16],
-    rows: &'a [u32; 3840],
+    domains: [u32; 16],
+    stated: [u32; 16],
+    rows: &[u32; 3840],
     i: usize,
     j: usize,
     k: usize,
@@ -171,10 +149,10 @@ fn put_after<'a>(
 }
 
 // Rule 2: the rows after the step; `domains` has the new list of `i`.
-pub fn rows_after<'a>(
-    domains: &'a [u32; 16],
-    stated: &'a [u32; 16],
-    rows: &'a [u32; 3840],
+pub fn rows_after(
+    domains: [u32; 16],
+    stated: [u32; 16],
+    rows: &[u32; 3840],
     i: usize,
     j: usize,
 ) -> [u32; 3840] {
@@ -186,7 +164,7 @@ pub fn rows_after<'a>(
 }
 
 // Whether `p` is stated with `q` after the step.
-fn is_stated_after(stated: &[u32; 16], i: usize, j: usize, p: usize, q: usize) -> bool {
+fn is_stated_after(stated: [u32; 16], i: usize, j: usize, p: usize, q: usize) -> bool {
     if is_with_third(stated, i, j, p, q, i) {
         return true;
     }
@@ -197,7 +175,7 @@ fn is_stated_after(stated: &[u32; 16], i: usize, j: usize, p: usize, q: usize) -
 }
 
 // Rule 2: which pairs are stated after the step.
-pub fn stated_after(stated: &[u32; 16], i: usize, j: usize) -> [u32; 16] {
+pub fn stated_after(stated: [u32; 16], i: usize, j: usize) -> [u32; 16] {
     let mut after = [0u32; 16];
     for k in 0..256 {
         let p = k / 16;
@@ -219,7 +197,7 @@ fn leader_after(leader: u8, i: usize, j: usize, x: usize) -> u8 {
 }
 
 // Rule 3: "Followers of j get i as leader, and so does j."
-pub fn leaders_after(leaders: &[u8; 16], i: usize, j: usize) -> [u8; 16] {
+pub fn leaders_after(leaders: [u8; 16], i: usize, j: usize) -> [u8; 16] {
     let mut after = [0u8; 16];
     for x in 0..16 {
         after[x] = leader_after(leaders[x], i, j, x);

@@ -2,7 +2,7 @@
 use crate::lists;
 use crate::sheets::check_sheet;
 use test_calls::tally;
-use test_calls::tally::Counts;
+use test_calls::tally::Tally;
 use test_examples::rows::expect_refused;
 use test_inputs::families;
 
@@ -19,7 +19,7 @@ use test_inputs::families;
 // sizes 2,1; (1,2) 0001 0000
 // sizes 2,2,2; (1,3) 0001 0002; (2,3) 0001 0002
 // sizes 2,2; (1,2) 0001 0001
-fn a_to_l(seed: &mut u64, tally: &mut Counts) {
+fn a_to_l(tally: Tally) -> Tally {
     lists::run(
         b"S\x16\x01\x00\x13\x03\x02\x03\x02\x02\x01\x02\x00\x01\x00\x04\x02\x03\x00\x02\x00\x01\x00\x01\x0b2B030100101\
         \x5fOPTIONS 3\nLIVE 1 LIST 00000003\nFOLLOWS 2 OF 1\nFOLLOWS 3 OF 1\nSTEPS 2\nVERDICT BUILT\nBUILD 0 0 1\n\
@@ -45,9 +45,8 @@ fn a_to_l(seed: &mut u64, tally: &mut Counts) {
         \x5fOPTIONS 3\nLIVE 1 LIST 00000003\nFOLLOWS 2 OF 1\nFOLLOWS 3 OF 1\nSTEPS 2\nVERDICT BUILT\nBUILD 0 0 0\n\
         S\x0d\x01\x00\x0a\x02\x02\x02\x01\x01\x02\x00\x01\x00\x01\x081B030100\
         \x4eOPTIONS 2\nLIVE 1 LIST 00000003\nFOLLOWS 2 OF 1\nSTEPS 1\nVERDICT BUILT\nBUILD 0 0\n",
-        seed,
         tally,
-    );
+    )
 }
 
 // A list that shrank makes a table functional, and followers are handed on:
@@ -67,7 +66,7 @@ fn a_to_l(seed: &mut u64, tally: &mut Counts) {
 // sizes 2,1,2,1; (1,2) 0000 0001; (3,4) 0000 0001
 // sizes 1,1,2; (1,2) 0000
 // sizes 2,2,1,1; (1,2) 0003 0003; (3,4) 0000
-fn shrunk(seed: &mut u64, tally: &mut Counts) {
+fn shrunk(tally: Tally) -> Tally {
     lists::run(
         b"S\x14\x01\x00\x11\x03\x02\x02\x01\x02\x01\x02\x00\x03\x00\x03\x02\x03\x00\x01\x00\x00\x0b2B030100100\
         \x5fOPTIONS 3\nLIVE 1 LIST 00000003\nFOLLOWS 2 OF 1\nFOLLOWS 3 OF 1\nSTEPS 2\nVERDICT BUILT\nBUILD 0 0 0\n\
@@ -88,9 +87,8 @@ fn shrunk(seed: &mut u64, tally: &mut Counts) {
         S\x15\x01\x00\x12\x04\x02\x01\x02\x01\x02\x01\x02\x00\x00\x00\x01\x03\x04\x00\x00\x00\x01\x0e2B021100021300\x00\
         S\x0c\x01\x00\x09\x03\x01\x01\x02\x01\x01\x02\x00\x00\x0b1N000100030\x00\
         S\x13\x01\x00\x10\x04\x02\x02\x01\x01\x02\x01\x02\x00\x03\x00\x03\x03\x04\x00\x00\x0e1N030030000300\x00",
-        seed,
         tally,
-    );
+    )
 }
 
 // Sheets of version 2, with sizes above 16:
@@ -101,7 +99,7 @@ fn shrunk(seed: &mut u64, tally: &mut Counts) {
 // sizes 2,2; (1,2) 00000001 00000001
 // sizes 2,1; (1,2) 00000001 00000000, in version 2
 // sizes 1; no table
-fn versions(seed: &mut u64, tally: &mut Counts) {
+fn versions(tally: Tally) -> Tally {
     lists::run(
         b"S\x0d\x02\x00\x0a\x02\x01\x1b\x01\x01\x02\x04\x00\x00\x00\x081B01010J\
         \x4fOPTIONS 2\nLIVE 1 LIST 00000001\nFOLLOWS 2 OF 1\nSTEPS 1\nVERDICT BUILT\nBUILD 0 26\n\
@@ -115,9 +113,8 @@ fn versions(seed: &mut u64, tally: &mut Counts) {
         \x4eOPTIONS 2\nLIVE 1 LIST 00000001\nFOLLOWS 2 OF 1\nSTEPS 1\nVERDICT BUILT\nBUILD 0 0\n\
         S\x06\x03\x00\x03\x01\x01\x00\x050B010\
         \x3dOPTIONS 1\nLIVE 1 LIST 00000001\nSTEPS 0\nVERDICT BUILT\nBUILD 0\n",
-        seed,
         tally,
-    );
+    )
 }
 
 // Tables added to reduced sheets:
@@ -129,7 +126,7 @@ fn versions(seed: &mut u64, tally: &mut Counts) {
 // sizes 2,1,2; (1,2) 0001 0000; (1,3) 0003 0003; 2 follows 1, then (1,3) 0003 0003
 // Sizes 3,2,2,3; (1,2) 0001 0002 0002; (3,4) 0004 0002; reduced. (4,2) with two rows, and with a bit too high, by the sizes of 4 and 2 and not of their
 // leaders: 22. (0,0) and (5,5): 10, before 21. (2,2) without rows: 21, before 22. Then (4,2) 0003 0001 0002.
-fn added(seed: &mut u64, tally: &mut Counts) {
+fn added(tally: Tally) -> Tally {
     lists::run(
         b"K\x16\x01\x00\x13\x03\x02\x03\x02\x02\x01\x02\x00\x01\x00\x04\x02\x03\x00\x02\x00\x01\x00\x01\
         \x15ra\x03\x02\x02\x04\x06\x00o\x0b2B021102100\
@@ -145,14 +142,13 @@ fn added(seed: &mut u64, tally: &mut Counts) {
         \x67ra\x04\x02\x02\x03\x01\x16a\x04\x02\x03\x03\x01\x04\x16a\x00\x00\x00\x0aa\x05\x05\x00\x0aa\x02\x02\x00\x15\
         o\x0e2B070100030302a\x04\x02\x03\x03\x01\x02\x00w\x01\x03\x00\x02w\x01\x03\x01\x01w\x01\x03\x02\x01\
         o\x0e2O070100030300ro\x0e3B070100101101",
-        seed,
         tally,
-    );
+    )
 }
 
 // The first example of source document 001: (1,2) 0001 0002 0004 and 2 follows 1, (3,4) 0001 0004 0002 and 4 follows 3, (1,3) 0001 0002 0004 and 3 follows
 // 1; then (2,4) as sheets C, D, E and F have it.
-fn added_as_in_001(seed: &mut u64, tally: &mut Counts) {
+fn added_as_in_001(tally: Tally) -> Tally {
     lists::run(
         b"K\x09\x01\x00\x06\x04\x03\x03\x03\x03\x00\
         \x49a\x01\x02\x03\x01\x02\x04\x00e\x01\x02a\x03\x04\x03\x01\x04\x02\x00e\x03\x04a\x01\x03\x03\x01\x02\x04\x00e\x01\x03o\x0e3B070100100100a\x02\x04\x03\x01\x04\x02\x00o\x0e3B070100100100\
@@ -162,9 +158,8 @@ fn added_as_in_001(seed: &mut u64, tally: &mut Counts) {
         \x49a\x01\x02\x03\x01\x02\x04\x00e\x01\x02a\x03\x04\x03\x01\x04\x02\x00e\x03\x04a\x01\x03\x03\x01\x02\x04\x00e\x01\x03o\x0e3B070100100100a\x02\x04\x03\x02\x04\x01\x00o\x0e3B021101101102\
         K\x09\x01\x00\x06\x04\x03\x03\x03\x03\x00\
         \x49a\x01\x02\x03\x01\x02\x04\x00e\x01\x02a\x03\x04\x03\x01\x04\x02\x00e\x03\x04a\x01\x03\x03\x01\x02\x04\x00e\x01\x03o\x0e3B070100100100a\x02\x04\x03\x02\x01\x04\x00o\x0e3N000100100100",
-        seed,
         tally,
-    );
+    )
 }
 
 // One byte more than a sheet has, with the count right.
@@ -176,30 +171,30 @@ fn with_byte(sheet: families::Sheet) -> families::Sheet {
 }
 
 // The largest sheet of a version is accepted, and refused with one byte more.
-fn largest(
-    family: u8,
-    length: usize,
-    number: u8,
-    place: usize,
-    seed: &mut u64,
-    tally: &mut Counts,
-) {
-    let sheet = families::make(family, seed);
+fn largest(family: u8, length: usize, number: u8, place: usize, tally: Tally) -> Tally {
+    let mut seed = tally.seed;
+    let sheet = families::make(family, &mut seed);
     let bytes = sheet.bytes;
-    tally::expect(tally, tally::EXAMPLES, sheet.length == length);
-    check_sheet(family, families::first(&bytes, sheet.length), seed, tally);
     let longer = with_byte(sheet);
     let more = longer.bytes;
-    expect_refused(families::first(&more, longer.length), number, place, tally);
+    let made = tally::expect(
+        tally::with_seed(tally, seed),
+        tally::EXAMPLES,
+        sheet.length == length,
+    );
+    let checked = check_sheet(family, families::first(&bytes, sheet.length), made);
+    expect_refused(
+        families::first(&more, longer.length),
+        number,
+        place,
+        checked,
+    )
 }
 
 // All of these examples.
-pub(crate) fn run(seed: &mut u64, tally: &mut Counts) {
-    a_to_l(seed, tally);
-    shrunk(seed, tally);
-    versions(seed, tally);
-    largest(families::FULL, 4101, 6, 4101, seed, tally);
-    largest(families::LARGEST, 15621, 1, 0, seed, tally);
-    added(seed, tally);
-    added_as_in_001(seed, tally);
+pub(crate) fn run(tally: Tally) -> Tally {
+    let with_sheets = versions(shrunk(a_to_l(tally)));
+    let with_full = largest(families::FULL, 4101, 6, 4101, with_sheets);
+    let with_largest = largest(families::LARGEST, 15621, 1, 0, with_full);
+    added_as_in_001(added(with_largest))
 }

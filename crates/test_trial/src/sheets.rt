@@ -1,75 +1,84 @@
 // One input: it is read, and where it is a sheet a list of calls runs on it.
 use state::State;
-use test_builds::builds;
-use test_builds::cuts;
+use test_calls::calls;
+use test_calls::calls::Reading;
+use test_calls::cuts;
 use test_calls::tally;
-use test_calls::tally::Counts;
+use test_calls::tally::Tally;
+use test_checks::builds;
 use test_checks::lists;
 use test_checks::lists::Run;
 use test_checks::reads;
+use test_checks::unsound;
 use test_inputs::families;
 use test_inputs::random;
 use test_rules::versions;
-use test_scripts::unsound;
+
+// A state that a step led to is not written.
+fn check_unwritten(state: State, tally: Tally) -> Tally {
+    let mut seed = tally.seed;
+    let version = versions::any(&mut seed);
+    reads::check_refused(state, version, 18, tally::with_seed(tally, seed))
+}
 
 // The writer takes a state back exactly when no step was taken since it was read: byte for byte where no table was added.
-fn check_writer(bytes: &[u8], run: Run, seed: &mut u64, tally: &mut Counts) {
-    let state = run.state;
+fn check_writer(bytes: &[u8], run: Run, tally: Tally) -> Tally {
     if run.steps != 0 {
-        reads::check_refused(state, versions::any(seed), 18, tally);
-        return;
+        return check_unwritten(run.state, tally);
     }
     if run.added != 0 {
-        reads::check_with_tables(state, seed, tally);
-        return;
+        return reads::check_with_tables(run.state, tally);
     }
-    reads::check_round_trip(bytes, state, seed, tally);
+    reads::check_round_trip(bytes, run.state, tally)
 }
 
 // All tuples of a sheet of a small family, some of another.
-fn check_builds(family: u8, bytes: &[u8], run: Run, seed: &mut u64, tally: &mut Counts) {
+fn check_builds(family: u8, bytes: &[u8], run: Run, tally: Tally) -> Tally {
     let state = run.state;
     let tables = run.tables;
     if family < families::LARGE {
-        builds::check_all(bytes, &tables, state, seed, tally);
-        return;
+        return builds::check_all(bytes, &tables, state, tally);
     }
-    builds::check_some(bytes, &tables, state, 20, seed, tally);
-    builds::check_verdict(bytes, &tables, state, tally);
-    builds::check_large_search(bytes, &tables, state, tally);
+    let tried = builds::check_some(bytes, &tables, state, 20, tally);
+    let judged = builds::check_verdict(bytes, &tables, state, tried);
+    builds::check_large_search(bytes, &tables, state, judged)
 }
 
 // What holds whatever the family: refused calls, writing back, and a state with a fault.
-fn check_last(bytes: &[u8], run: Run, seed: &mut u64, tally: &mut Counts) {
-    let state = run.state;
-    builds::check_refusals(bytes, state, seed, tally);
-    check_writer(bytes, run, seed, tally);
-    unsound::check(state, seed, tally);
+fn check_last(bytes: &[u8], run: Run) -> Tally {
+    let refused = builds::check_refusals(bytes, run.state, run.tally);
+    unsound::check(run.state, check_writer(bytes, run, refused))
 }
 
 // A list of calls on a sheet that was read, and all that is claimed of the state handed back last.
-fn check_run(family: u8, bytes: &[u8], state: State, seed: &mut u64, tally: &mut Counts) {
-    let calls = random::index(seed, 8);
-    let run = lists::check_list(state, calls, seed, tally);
-    check_last(bytes, run, seed, tally);
-    check_builds(family, bytes, run, seed, tally);
+fn check_run(family: u8, bytes: &[u8], state: State, tally: Tally) -> Tally {
+    let mut seed = tally.seed;
+    let calls = random::index(&mut seed, 8);
+    let run = lists::check_list(state, calls, tally::with_seed(tally, seed));
+    check_builds(family, bytes, run, check_last(bytes, run))
 }
 
-// Bytes that are read, and a list of calls where they are a sheet, which it answers.
-pub(crate) fn check_bytes(family: u8, bytes: &[u8], seed: &mut u64, tally: &mut Counts) -> bool {
-    let reading = reads::check(bytes, tally);
-    cuts::check(bytes, reading, tally);
+// Bytes that were read, and a list of calls where they are a sheet.
+fn check_bytes(family: u8, bytes: &[u8], reading: Reading, tally: Tally) -> Tally {
+    let read = reads::check(bytes, reading, tally);
+    let cut = cuts::check(bytes, reading, read);
     if reading.number != 0 {
-        return false;
+        return cut;
     }
     let state = reading.state;
-    reads::check_round_trip(bytes, state, seed, tally);
-    check_run(family, bytes, state, seed, tally);
-    true
+    check_run(
+        family,
+        bytes,
+        state,
+        reads::check_round_trip(bytes, state, cut),
+    )
 }
 
-// A sheet that must be accepted.
-pub(crate) fn check_sheet(family: u8, bytes: &[u8], seed: &mut u64, tally: &mut Counts) {
-    let is_accepted = check_bytes(family, bytes, seed, tally);
-    tally::hold(tally, is_accepted);
+// Bytes of a kind. A sheet of a family must be accepted. Other bytes may have more tuples than can be tried, so some are tried where they are a sheet.
+pub(crate) fn check_sheet(kind: u8, bytes: &[u8], tally: Tally) -> Tally {
+    let reading = calls::read(bytes);
+    tally::hold(
+        check_bytes(kind, bytes, reading, tally),
+        (reading.number == 0) | (families::LARGEST < kind),
+    )
 }

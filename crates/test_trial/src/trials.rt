@@ -1,26 +1,31 @@
 // One random input after the other.
-use crate::sheets;
+use crate::sheets::check_sheet;
 use test_calls::tally;
-use test_calls::tally::Counts;
+use test_calls::tally::Tally;
 use test_inputs::damage;
 use test_inputs::damage::DAMAGED;
 use test_inputs::damage::KINDS;
 use test_inputs::damage::RANDOM_BYTES;
 use test_inputs::families;
 
-// Sheets of a family are accepted. Other bytes may have more tuples than can be tried, so some are tried where they are a sheet.
-fn run_one(kind: u8, seed: &mut u64, tally: &mut Counts) {
-    tally::count(tally, tally::FAMILIES + kind as usize);
-    let sheet = damage::input(kind, seed);
+fn run_one(kind: u8, tally: Tally) -> Tally {
+    let mut seed = tally.seed;
+    let sheet = damage::input(kind, &mut seed);
     let bytes = sheet.bytes;
-    let is_accepted = sheets::check_bytes(kind, families::first(&bytes, sheet.length), seed, tally);
-    tally::hold(tally, is_accepted | (families::LARGEST < kind));
+    let counted = tally::count(tally, tally::FAMILIES + kind as usize);
+    check_sheet(
+        kind,
+        families::first(&bytes, sheet.length),
+        tally::with_seed(counted, seed),
+    )
 }
 
-fn run_kind(kind: u8, times: usize, seed: &mut u64, tally: &mut Counts) {
+fn run_kind(kind: u8, times: usize, tally: Tally) -> Tally {
+    let mut after = tally;
     for _ in 0..times {
-        run_one(kind, seed, tally);
+        after = run_one(kind, after);
     }
+    after
 }
 
 // How many inputs of a kind are tried.
@@ -36,8 +41,10 @@ fn times(kind: u8) -> usize {
 }
 
 // Inputs of every kind.
-pub(crate) fn run(seed: &mut u64, tally: &mut Counts) {
+pub(crate) fn run(tally: Tally) -> Tally {
+    let mut after = tally;
     for kind in 0..KINDS {
-        run_kind(kind, times(kind), seed, tally);
+        after = run_kind(kind, times(kind), after);
     }
+    after
 }

@@ -5,10 +5,10 @@ use Rattle.test_calls.proofs.tally.print.Statement.{statement}
 use Rattle.test_calls.proofs.tally.print.Tie as tie
 
 abbrev Inv-loop : tie.InvT-loop
-Inv-loop titles first tally length k₀ i₀ k i = Unit
+Inv-loop titles first counts length k₀ i₀ k i = Unit
 
 abbrev μ-loop : tie.MeasureT-loop
-μ-loop titles first tally length k₀ i₀ k i = length - i
+μ-loop titles first counts length k₀ i₀ k i = length - i
 
 pub print-spec : {M : Type 1} → statement M
 print-spec =

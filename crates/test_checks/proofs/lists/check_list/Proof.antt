@@ -5,10 +5,10 @@ use Rattle.test_checks.proofs.lists.check_list.Statement.{statement}
 use Rattle.test_checks.proofs.lists.check_list.Tie as tie
 
 abbrev Inv-loop : tie.InvT-loop
-Inv-loop calls seed₀ tally₀ run₀ counter₀ seed tally run counter = Unit
+Inv-loop calls run₀ counter₀ run counter = Unit
 
 abbrev μ-loop : tie.MeasureT-loop
-μ-loop calls seed₀ tally₀ run₀ counter₀ seed tally run counter = calls - counter
+μ-loop calls run₀ counter₀ run counter = calls - counter
 
 pub check-list-spec : {M : Type 1} → statement M
 check-list-spec =

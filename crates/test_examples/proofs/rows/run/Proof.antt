@@ -5,10 +5,10 @@ use Rattle.test_examples.proofs.rows.run.Statement.{statement}
 use Rattle.test_examples.proofs.rows.run.Tie as tie
 
 abbrev Inv-loop : tie.InvT-loop
-Inv-loop list tally₀ length at₀ counter₀ tally at counter = Unit
+Inv-loop list length row₀ counter₀ row counter = Unit
 
 abbrev μ-loop : tie.MeasureT-loop
-μ-loop list tally₀ length at₀ counter₀ tally at counter = length - counter
+μ-loop list length row₀ counter₀ row counter = length - counter
 
 pub run-spec : {M : Type 1} → statement M
 run-spec =

@@ -5,13 +5,13 @@ use Rattle.test_trial.proofs.trials.run.Statement.{statement}
 use Rattle.test_trial.proofs.trials.run.Tie as tie
 
 abbrev Inv-loop : tie.InvT-loop
-Inv-loop seed₀ tally₀ kind₀ seed tally kind = Unit
+Inv-loop after₀ kind₀ after kind = Unit
 
 abbrev μ-loop : tie.MeasureT-loop
-μ-loop seed₀ tally₀ kind₀ seed tally kind = 14 - kind
+μ-loop after₀ kind₀ after kind = 14 - kind
 
 pub run-spec : {M : Type 1} → statement M
 run-spec =
     tie.close
-    (tie.spec Inv-loop μ-loop (λ c. search needs) (λ c κs. search needs) (λ c κs. search needs)
-    (λ c. search needs) (λ c. search needs) (λ c. search needs) (λ c. search needs))
+    (tie.spec Inv-loop μ-loop (λ c. search needs) (λ c κs. search needs) (λ c κs. search needs) (λ c. search needs)
+    (λ c. search needs) (λ c. search needs) (λ c. search needs))

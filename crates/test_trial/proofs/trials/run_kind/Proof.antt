@@ -5,10 +5,10 @@ use Rattle.test_trial.proofs.trials.run_kind.Statement.{statement}
 use Rattle.test_trial.proofs.trials.run_kind.Tie as tie
 
 abbrev Inv-loop : tie.InvT-loop
-Inv-loop kind times seed₀ tally₀ counter₀ seed tally counter = Unit
+Inv-loop kind times after₀ counter₀ after counter = Unit
 
 abbrev μ-loop : tie.MeasureT-loop
-μ-loop kind times seed₀ tally₀ counter₀ seed tally counter = times - counter
+μ-loop kind times after₀ counter₀ after counter = times - counter
 
 pub run-kind-spec : {M : Type 1} → statement M
 run-kind-spec =

@@ -1,17 +1,18 @@
 // Reading, the full reduction and the verdict in one call, against the three calls.
+use crate::calls;
+use crate::calls::Cutting;
+use crate::calls::Reading;
+use crate::states;
+use crate::tally;
+use crate::tally::Tally;
 use state::State;
-use test_calls::calls;
-use test_calls::calls::Cutting;
-use test_calls::calls::Reading;
-use test_calls::states;
-use test_calls::tally;
-use test_calls::tally::Counts;
 use test_oracle::fields;
 
 // What a reduced state's verdict shows, against what was shown.
 fn is_judged(state: State, verdict: u8, solution: [u8; 16]) -> bool {
     let judged = calls::verdict(state);
-    (judged.verdict == verdict) & fields::same_bytes(&judged.solution, &solution)
+    let shown = judged.solution;
+    (judged.verdict == verdict) & fields::same_bytes(shown, solution)
 }
 
 // The state that was read comes to the state, the steps and the verdict of the one call.
@@ -24,7 +25,8 @@ fn is_cut(read: State, cut: Cutting) -> bool {
 
 // A refusal leaves zeros: the state, the steps and the build.
 fn is_nothing(cut: Cutting) -> bool {
-    let is_zero = fields::is_zero_from(&cut.solution, 0);
+    let solution = cut.solution;
+    let is_zero = fields::is_zero_from(solution, 0);
     is_zero & (cut.steps == 0) & states::same(cut.state, states::zero())
 }
 
@@ -36,8 +38,8 @@ fn is_right(reading: Reading, cut: Cutting) -> bool {
 }
 
 // The one call answers what was read before.
-pub fn check(bytes: &[u8], reading: Reading, tally: &mut Counts) {
+pub fn check(bytes: &[u8], reading: Reading, tally: Tally) -> Tally {
     let cut = calls::cut(bytes);
     let is_same = (cut.number == reading.number) & (cut.place == reading.place);
-    tally::expect(tally, tally::CUTS, is_same & is_right(reading, cut));
+    tally::expect(tally, tally::CUTS, is_same & is_right(reading, cut))
 }

@@ -1,5 +1,5 @@
 // Tuples drawn at random: as the tester and the completer take them, or to be refused.
-use test_inputs::random;
+use crate::random;
 use test_oracle::brute;
 use test_oracle::fields;
 
@@ -12,7 +12,7 @@ fn digit(bytes: &[u8], i: usize, seed: &mut u64) -> u8 {
 }
 
 // A tuple with each value below its size.
-pub(crate) fn drawn(bytes: &[u8], seed: &mut u64) -> [u8; 16] {
+pub fn drawn(bytes: &[u8], seed: &mut u64) -> [u8; 16] {
     let mut values = [0u8; 16];
     for i in 0..16 {
         values[i] = digit(bytes, i, seed);
@@ -37,7 +37,7 @@ fn above(size: usize, seed: &mut u64) -> usize {
 }
 
 // A tuple with a value at or above its size.
-pub(crate) fn drawn_above(bytes: &[u8], n: usize, seed: &mut u64) -> [u8; 16] {
+pub fn drawn_above(bytes: &[u8], n: usize, seed: &mut u64) -> [u8; 16] {
     let tuple = drawn(bytes, seed);
     let i = random::index(seed, n);
     let value = above(brute::size(bytes, i), seed);
@@ -49,7 +49,7 @@ fn wide(x: u32) -> usize {
 }
 
 // A tuple with a live value that no list has, at the lowest of the live options.
-pub(crate) fn drawn_unlisted(bytes: &[u8], free: u32, seed: &mut u64) -> [u8; 16] {
+pub fn drawn_unlisted(bytes: &[u8], free: u32, seed: &mut u64) -> [u8; 16] {
     let i = wide(u32::trailing_zeros(free));
     with_value(drawn(bytes, seed), i, 32 + random::byte(seed) % 224)
 }
@@ -62,7 +62,7 @@ fn chosen(is_first: bool, first: u8, second: u8) -> u8 {
 }
 
 // The tuple with any bytes at the followers and past n.
-pub(crate) fn with_garbage(free: u32, tuple: &[u8; 16], seed: &mut u64) -> [u8; 16] {
+pub fn with_garbage(free: u32, tuple: [u8; 16], seed: &mut u64) -> [u8; 16] {
     let mut made = [0u8; 16];
     for i in 0..16 {
         made[i] = chosen(fields::has(free, i), tuple[i], random::byte(seed));

@@ -1,10 +1,10 @@
 // What a state comes to, as a text: the number of steps taken, the verdict's first letter, and three digits for each option: its leader, its list where it
 // is live, and its value in the build shown.
+use crate::calls;
+use crate::calls::BUILT;
+use crate::calls::NONE;
+use crate::calls::OPEN;
 use state::State;
-use test_calls::calls;
-use test_calls::calls::BUILT;
-use test_calls::calls::NONE;
-use test_calls::calls::OPEN;
 use test_oracle::brute;
 
 // The digit at a place, 0 past the end.
@@ -38,12 +38,7 @@ fn is_option(expected: &[u8], leader: u8, list: u32, value: u8, at: usize) -> bo
     is_led & is_shown & is_listed(expected, leader, list, brute::past(at, 1))
 }
 
-fn are_options<'a>(
-    expected: &[u8],
-    leaders: &'a [u8; 16],
-    domains: &'a [u32; 16],
-    solution: &[u8; 16],
-) -> bool {
+fn are_options(expected: &[u8], leaders: [u8; 16], domains: [u32; 16], solution: [u8; 16]) -> bool {
     for i in 0..16 {
         if !is_option(expected, leaders[i], domains[i], solution[i], 2 + 3 * i) {
             return false;
@@ -57,7 +52,10 @@ pub fn is_outcome(state: State, steps: usize, expected: &[u8]) -> bool {
     let judged = calls::verdict(state);
     let is_counted = digit(expected, 0) as usize == steps;
     let is_judged = letter(judged.verdict) == brute::byte(expected, 1);
-    let are_as_expected = are_options(expected, &state.leaders, &state.domains, &judged.solution);
+    let leaders = state.leaders;
+    let domains = state.domains;
+    let solution = judged.solution;
+    let are_as_expected = are_options(expected, leaders, domains, solution);
     is_counted & is_judged & are_as_expected
 }
 

@@ -1,8 +1,8 @@
--- `test_builds::draws::drawn` is safe and ends: the loop counts up to its end. Assumes nothing.
+-- `test_inputs::draws::drawn` is safe and ends: the loop counts up to its end. Assumes nothing.
 use Prim.Native.Nat.{_-_}
 use borrow.Author.Needs.{needs}
-use Rattle.test_builds.proofs.draws.drawn.Statement.{statement}
-use Rattle.test_builds.proofs.draws.drawn.Tie as tie
+use Rattle.test_inputs.proofs.draws.drawn.Statement.{statement}
+use Rattle.test_inputs.proofs.draws.drawn.Tie as tie
 
 abbrev Inv-loop : tie.InvT-loop
 Inv-loop bytes seed₀ values₀ i₀ seed values i = Unit

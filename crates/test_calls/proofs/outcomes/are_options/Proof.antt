@@ -1,8 +1,8 @@
--- `test_builds::outcomes::are_options` is safe and ends: the loop counts up to its end. Assumes nothing.
+-- `test_calls::outcomes::are_options` is safe and ends: the loop counts up to its end. Assumes nothing.
 use Prim.Native.Nat.{_-_}
 use borrow.Author.Needs.{needs}
-use Rattle.test_builds.proofs.outcomes.are_options.Statement.{statement}
-use Rattle.test_builds.proofs.outcomes.are_options.Tie as tie
+use Rattle.test_calls.proofs.outcomes.are_options.Statement.{statement}
+use Rattle.test_calls.proofs.outcomes.are_options.Tie as tie
 
 abbrev Inv-loop : tie.InvT-loop
 Inv-loop expected leaders domains solution i₀ i = Unit

@@ -1,8 +1,8 @@
--- `test_builds::draws::with_garbage` is safe and ends: the loop counts up to its end. Assumes nothing.
+-- `test_inputs::draws::with_garbage` is safe and ends: the loop counts up to its end. Assumes nothing.
 use Prim.Native.Nat.{_-_}
 use borrow.Author.Needs.{needs}
-use Rattle.test_builds.proofs.draws.with_garbage.Statement.{statement}
-use Rattle.test_builds.proofs.draws.with_garbage.Tie as tie
+use Rattle.test_inputs.proofs.draws.with_garbage.Statement.{statement}
+use Rattle.test_inputs.proofs.draws.with_garbage.Tie as tie
 
 abbrev Inv-loop : tie.InvT-loop
 Inv-loop free tuple seed₀ made₀ i₀ seed made i = Unit

@@ -1,8 +1,8 @@
--- `test_scripts::scripts::rows_of` is safe and ends: the loop counts up to its end. Assumes nothing.
+-- `test_examples::scripts::rows_of` is safe and ends: the loop counts up to its end. Assumes nothing.
 use Prim.Native.Nat.{_-_}
 use borrow.Author.Needs.{needs}
-use Rattle.test_scripts.proofs.scripts.rows_of.Statement.{statement}
-use Rattle.test_scripts.proofs.scripts.rows_of.Tie as tie
+use Rattle.test_examples.proofs.scripts.rows_of.Statement.{statement}
+use Rattle.test_examples.proofs.scripts.rows_of.Tie as tie
 
 abbrev Inv-loop : tie.InvT-loop
 Inv-loop bytes rows₀ v₀ rows v = Unit

@@ -1,10 +1,10 @@
 // Lists of calls with what they must come to, each a part of a row.
-use test_builds::outcomes;
-use test_builds::parts::end_of;
-use test_builds::parts::part;
 use test_calls::calls;
+use test_calls::outcomes;
+use test_calls::parts::end_of;
+use test_calls::parts::part;
 use test_calls::tally;
-use test_calls::tally::Counts;
+use test_calls::tally::Tally;
 use test_checks::lists;
 use test_checks::lists::Run;
 use test_inputs::tables::ROOM;
@@ -45,29 +45,31 @@ fn table_at(script: &[u8], at: usize) -> Table {
     }
 }
 
-// Two options, a part that has the rows of a table, and the number that it is refused with, or 0.
-fn added_at(run: Run, script: &[u8], at: usize, tally: &mut Counts) -> Line {
-    let table = table_at(script, at);
-    let end = end_of(script, past(at, 2));
-    let answer = calls::add_table(run.state, table);
-    tally::expect(tally, tally::EXAMPLES, answer.number == byte(script, end));
+// An example that came out right or not, and the place of the line after it.
+fn expected(run: Run, is_right: bool, next: usize) -> Line {
+    let tally = tally::expect(run.tally, tally::EXAMPLES, is_right);
     Line {
-        run: lists::check_table(run, table, tally),
-        next: past(end, 1),
+        run: lists::counted(run, tally),
+        next,
     }
 }
 
+// Two options, a part that has the rows of a table, and the number that it is refused with, or 0.
+fn added_at(run: Run, script: &[u8], at: usize) -> Line {
+    let table = table_at(script, at);
+    let end = end_of(script, past(at, 2));
+    let answer = calls::add_table(run.state, table);
+    let is_right = answer.number == byte(script, end);
+    expected(lists::check_table(run, table), is_right, past(end, 1))
+}
+
 // Two options, of which the second comes to follow the first.
-fn step_at(run: Run, script: &[u8], at: usize, tally: &mut Counts) -> Line {
+fn step_at(run: Run, script: &[u8], at: usize) -> Line {
     let leader = option_at(script, at);
     let follower = option_at(script, past(at, 1));
-    let after = lists::check_step(run, leader, follower, tally);
+    let after = lists::check_step(run, leader, follower);
     let is_taken = after.steps == past(run.steps, 1);
-    tally::expect(tally, tally::EXAMPLES, is_taken);
-    Line {
-        run: after,
-        next: past(at, 2),
-    }
+    expected(after, is_taken, past(at, 2))
 }
 
 // Two options, the lower one first, that are stated together, a value of that one, and its row.
@@ -76,54 +78,46 @@ fn is_row(run: Run, script: &[u8], at: usize) -> bool {
     let i = index_of(option_at(script, at));
     let j = index_of(option_at(script, past(at, 1)));
     let place = fields::place(i, j, option_at(script, past(at, 2)));
-    let is_stated = fields::has(fields::word_at(&state.stated, i), j);
+    let stated = state.stated;
+    let is_stated = fields::has(fields::word_at(stated, i), j);
     is_stated & (place < 3840) & (row(&state.rows, place) == byte(script, past(at, 3)) as u32)
 }
 
 // What the state comes to, as a part.
-fn is_outcome(run: Run, script: &[u8], at: usize) -> bool {
-    outcomes::is_outcome(run.state, run.steps, part(script, at))
-}
-
-fn expected(run: Run, is_right: bool, next: usize, tally: &mut Counts) -> Line {
-    tally::expect(tally, tally::EXAMPLES, is_right);
-    Line { run, next }
+fn outcome_at(run: Run, script: &[u8], at: usize) -> Line {
+    let is_right = outcomes::is_outcome(run.state, run.steps, part(script, at));
+    expected(run, is_right, end_of(script, at))
 }
 
 // The line at a place. Where there is none, the place is its own.
-fn line_at(run: Run, script: &[u8], at: usize, tally: &mut Counts) -> Line {
+fn line_at(run: Run, script: &[u8], at: usize) -> Line {
     let first = past(at, 1);
     match byte(script, at) {
-        b'a' => added_at(run, script, first, tally),
-        b'e' => step_at(run, script, first, tally),
+        b'a' => added_at(run, script, first),
+        b'e' => step_at(run, script, first),
         b'r' => Line {
-            run: lists::check_reduction(run, tally),
+            run: lists::check_reduction(run),
             next: first,
         },
-        b'w' => expected(run, is_row(run, script, first), past(at, 5), tally),
-        b'o' => expected(
-            run,
-            is_outcome(run, script, first),
-            end_of(script, first),
-            tally,
-        ),
+        b'w' => expected(run, is_row(run, script, first), past(at, 5)),
+        b'o' => outcome_at(run, script, first),
         _ => Line { run, next: at },
     }
 }
 
 // Every line of the script: it has no more of them than bytes.
-fn played(run: Run, script: &[u8], tally: &mut Counts) -> Run {
+fn played(run: Run, script: &[u8]) -> Run {
     let length = script.len();
     let mut line = Line { run, next: 0 };
     for _ in 0..length {
-        line = line_at(line.run, script, line.next, tally);
+        line = line_at(line.run, script, line.next);
     }
     line.run
 }
 
 // The script, on the state that is read from the bytes, which are a sheet. Answers the run after its last line.
-pub fn run(bytes: &[u8], script: &[u8], tally: &mut Counts) -> Run {
+pub fn run(bytes: &[u8], script: &[u8], tally: Tally) -> Run {
     let reading = calls::read(bytes);
-    tally::hold(tally, reading.number == 0);
-    played(lists::start(reading.state), script, tally)
+    let held = tally::hold(tally, reading.number == 0);
+    played(lists::start(reading.state, held), script)
 }
