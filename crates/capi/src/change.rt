@@ -1,44 +1,16 @@
 // The calls that change a state where it is. A refused one stores nothing.
-use crate::lent::head_of;
-use crate::lent::put_changed;
-use answers::outcome_number;
+use capi_answers::SheetStepped;
+use capi_answers::head_of;
+use capi_answers::left;
 use head::Rows;
 use head::VARIABLES;
-use state::Worked;
 use state::add_parts;
 use state::eliminate_parts;
 use state::reduce_parts;
 ghost use mathlib.Core.Path.{_≡_};
 ghost use Rattle.state.specs.Steps.{stepped, reduced};
 ghost use Rattle.state.specs.Tables.{tableAdded};
-ghost use Rattle.capi.specs.Answers.{stateWith, leftAs, Left};
-
-// A step, a reduction or a table added: the number that refuses, and how many steps were taken.
-#[repr(C)]
-pub struct SheetStepped {
-    pub number: u8,
-    pub steps: usize,
-}
-
-// Stores what a call that is not refused has made of a head, and tells its number and count.
-pub(crate) fn left(
-    worked: Worked,
-    lists: &mut [u32; VARIABLES],
-    leaders: &mut [u8; VARIABLES],
-    stated: &mut [u32; VARIABLES],
-) -> SheetStepped
-    ensures { λ r. ⌜ Left worked r (now (lists .entry)) (now (leaders .entry)) (now (stated .entry)) (now (lists .exit)) (now (leaders .exit)) (now (stated .exit)) ⌝ }
-{
-    let outcome = worked.outcome;
-    let number = outcome_number(outcome);
-    let steps = worked.steps;
-    if number != 0 {
-        return SheetStepped { number, steps };
-    }
-    let head = worked.head;
-    put_changed(head, lists, leaders, stated);
-    SheetStepped { number, steps }
-}
+ghost use Rattle.capi_answers.specs.Answers.{stateWith, leftAs};
 
 // One follow step in place, options counted from 1.
 #[no_mangle]

@@ -1,15 +1,14 @@
 // Page nine of the flat meter on a state where it is. A refused call stores nothing.
-use crate::change::left;
-use crate::lent::head_of;
-use crate::look::SheetVerdict;
-use answers::verdict_kind;
-use answers::verdict_number;
+use capi_answers::SheetVerdict;
+use capi_answers::head_of;
+use capi_answers::left;
+use capi_answers::verdict_told;
 use head::Rows;
 use head::VARIABLES;
 use meter_parts::fit_parts;
 ghost use mathlib.Core.Path.{_≡_};
 ghost use Rattle.meter.specs.Fitted.{fitted};
-ghost use Rattle.capi.specs.Answers.{stateWith, verdictOut};
+ghost use Rattle.capi_answers.specs.Answers.{stateWith, verdictOut};
 
 // Page nine in place: the number that refuses, the kind of the verdict, and the build shown.
 #[no_mangle]
@@ -32,9 +31,5 @@ pub extern "C" fn meter_fit_parts(
     left(worked, lists, leaders, stated);
     let verdict = fit.verdict;
     let solution = fit.solution;
-    SheetVerdict {
-        number: verdict_number(verdict),
-        kind: verdict_kind(verdict),
-        solution,
-    }
+    verdict_told(verdict, solution)
 }

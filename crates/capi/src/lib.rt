@@ -3,26 +3,25 @@
 // pointer to a state over each of these functions.
 mod change;
 mod fit;
-mod lent;
 mod look;
 mod sheets;
 
-pub use change::SheetStepped;
+pub use capi_answers::SheetCut;
+pub use capi_answers::SheetRead;
+pub use capi_answers::SheetStepped;
+pub use capi_answers::SheetTested;
+pub use capi_answers::SheetVerdict;
+pub use capi_answers::SheetWritten;
 pub use change::sheet_add_table_parts;
 pub use change::sheet_eliminate_parts;
 pub use change::sheet_reduce_parts;
 pub use fit::meter_fit_parts;
-pub use look::SheetTested;
-pub use look::SheetVerdict;
-pub use look::SheetWritten;
 pub use look::sheet_complete_parts;
 pub use look::sheet_is_sound_parts;
 pub use look::sheet_search_parts;
 pub use look::sheet_test_parts;
 pub use look::sheet_verdict_parts;
 pub use look::sheet_write_parts;
-pub use sheets::SheetCut;
-pub use sheets::SheetRead;
 pub use sheets::SheetText;
 pub use sheets::sheet_cut_parts;
 pub use sheets::sheet_read_parts;

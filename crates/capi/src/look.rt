@@ -1,44 +1,19 @@
 // The calls that only look at a state: what they are lent of it is read, and nothing is stored in it.
-use crate::lent::head_of;
-use answers::VerdictAnswer;
 use answers::outcome_number;
-use answers::test_agrees;
-use answers::test_number;
-use answers::verdict_kind;
-use answers::verdict_number;
-use answers::write_length;
-use answers::write_number;
+use capi_answers::SheetTested;
+use capi_answers::SheetVerdict;
+use capi_answers::SheetWritten;
+use capi_answers::head_of;
+use capi_answers::tested;
+use capi_answers::verdict_told;
+use capi_answers::written;
 use head::Rows;
 use head::VARIABLES;
 ghost use mathlib.Core.Path.{_≡_};
-ghost use Rattle.answers.specs.Answers.{verdictTold};
 ghost use Rattle.state.specs.View.{soundState};
 ghost use Rattle.state.specs.Write.{writeSheet};
 ghost use Rattle.state.specs.Solutions.{tested, completeNumber, completedBuffer, verdictOf, searchOf};
-ghost use Rattle.capi.specs.Answers.{stateWith, writtenOut, testedOut, verdictOut};
-
-// Writing: the number that refuses, and how many bytes the sheet has.
-#[repr(C)]
-pub struct SheetWritten {
-    pub number: u8,
-    pub length: usize,
-}
-
-// Testing: the number that refuses, and whether the values are a build.
-#[repr(C)]
-pub struct SheetTested {
-    pub number: u8,
-    pub agrees: bool,
-}
-
-// The verdict, or what the search says: the number that refuses; 1 for NONE, 2 for BUILT, 3 for OPEN, 0 with a refusal; and the build shown, all zero unless
-// BUILT. The search never says OPEN.
-#[repr(C)]
-pub struct SheetVerdict {
-    pub number: u8,
-    pub kind: u8,
-    pub solution: [u8; 16],
-}
+ghost use Rattle.capi_answers.specs.Answers.{stateWith, writtenOut, testedOut, verdictOut};
 
 // Writes the sheet of a state in a version into the buffer.
 #[no_mangle]
@@ -58,11 +33,7 @@ pub extern "C" fn sheet_write_parts<'a>(
         ⌝ }
 {
     let head = head_of(n, sizes, lists, leaders, stated);
-    let answer = state_write::write_parts(head, rows, version, buffer);
-    SheetWritten {
-        number: write_number(answer),
-        length: write_length(answer),
-    }
+    written(state_write::write_parts(head, rows, version, buffer))
 }
 
 // Whether a state is sound.
@@ -96,11 +67,7 @@ pub extern "C" fn sheet_test_parts<'a>(
         ⌝ }
 {
     let head = head_of(n, sizes, lists, leaders, stated);
-    let answer = state_solutions::test_parts(head, rows, solution);
-    SheetTested {
-        number: test_number(answer),
-        agrees: test_agrees(answer),
-    }
+    tested(state_solutions::test_parts(head, rows, solution))
 }
 
 // The completer: the number that refuses.
@@ -123,19 +90,6 @@ pub extern "C" fn sheet_complete_parts<'a>(
     outcome_number(state_solutions::complete_parts(head, rows, solution))
 }
 
-// What a verdict or a search tells.
-fn told(answer: VerdictAnswer) -> SheetVerdict
-    ensures { λ r. ⌜ r ≡ verdictOut (verdictTold (answer .verdict) (answer .solution)) ⌝ }
-{
-    let verdict = answer.verdict;
-    let solution = answer.solution;
-    SheetVerdict {
-        number: verdict_number(verdict),
-        kind: verdict_kind(verdict),
-        solution,
-    }
-}
-
 // The verdict of a state as it is.
 #[no_mangle]
 pub extern "C" fn sheet_verdict_parts<'a>(
@@ -149,7 +103,10 @@ pub extern "C" fn sheet_verdict_parts<'a>(
     ensures { λ r. ⌜ r ≡ verdictOut (verdictOf (stateWith n (now (sizes .entry)) (now (lists .entry)) (now (leaders .entry)) (now (stated .entry)) (now (rows .entry)))) ⌝ }
 {
     let head = head_of(n, sizes, lists, leaders, stated);
-    told(state_verdict::verdict_parts(head, rows))
+    let answer = state_verdict::verdict_parts(head, rows);
+    let verdict = answer.verdict;
+    let solution = answer.solution;
+    verdict_told(verdict, solution)
 }
 
 // The search: NONE, or BUILT with the first build.
@@ -165,5 +122,8 @@ pub extern "C" fn sheet_search_parts<'a>(
     ensures { λ r. ⌜ r ≡ verdictOut (searchOf (stateWith n (now (sizes .entry)) (now (lists .entry)) (now (leaders .entry)) (now (stated .entry)) (now (rows .entry)))) ⌝ }
 {
     let head = head_of(n, sizes, lists, leaders, stated);
-    told(state_search::search_parts(head, rows))
+    let answer = state_search::search_parts(head, rows);
+    let verdict = answer.verdict;
+    let solution = answer.solution;
+    verdict_told(verdict, solution)
 }

@@ -1,9 +1,10 @@
 // The calls on the bytes of a sheet. Those that give a state store one whatever they answer: the zero state where the sheet is refused.
-use crate::lent::put_head;
-use crate::lent::zero_rows;
-use answers::read_number;
-use answers::read_place;
-use answers::verdict_kind;
+use capi_answers::SheetCut;
+use capi_answers::SheetRead;
+use capi_answers::cut_told;
+use capi_answers::put_head;
+use capi_answers::read_told;
+use capi_answers::zero_rows;
 use head::Rows;
 use head::VARIABLES;
 use state_cut::cut_parts;
@@ -13,25 +14,7 @@ ghost use Rattle.state.specs.Read.{readSheet};
 ghost use Rattle.state.specs.Cut.{cutSheet};
 ghost use Rattle.text_report.specs.Text.{textOf};
 ghost use Rattle.text_report.specs.Printed.{Printed};
-ghost use Rattle.capi.specs.Answers.{stateWith, readOut, cutOut};
-
-// Reading: the number that refuses, and its place.
-#[repr(C)]
-pub struct SheetRead {
-    pub number: u8,
-    pub place: usize,
-}
-
-// Reading, the full reduction and the verdict: the number that refuses the sheet, its place, the steps, the kind of the verdict and the build shown; zero
-// but for number and place where the sheet is refused.
-#[repr(C)]
-pub struct SheetCut {
-    pub number: u8,
-    pub place: usize,
-    pub steps: usize,
-    pub kind: u8,
-    pub solution: [u8; 16],
-}
+ghost use Rattle.capi_answers.specs.Answers.{stateWith, readOut, cutOut};
 
 // What sheetcut prints: how many bytes, and those, zero past them.
 #[repr(C)]
@@ -62,10 +45,7 @@ pub extern "C" fn sheet_read_parts(
     let head = read.head;
     put_head(head, n, sizes, lists, leaders, stated);
     let outcome = read.outcome;
-    SheetRead {
-        number: read_number(outcome),
-        place: read_place(outcome),
-    }
+    read_told(outcome)
 }
 
 // Reads into a state, reduces it and gives the verdict.
@@ -92,13 +72,7 @@ pub extern "C" fn sheet_cut_parts(
     let outcome = cut.outcome;
     let verdict = cut.verdict;
     let solution = cut.solution;
-    SheetCut {
-        number: read_number(outcome),
-        place: read_place(outcome),
-        steps: cut.steps,
-        kind: verdict_kind(verdict),
-        solution,
-    }
+    cut_told(outcome, cut.steps, verdict, solution)
 }
 
 // The text of sheetcut for a sheet's bytes.

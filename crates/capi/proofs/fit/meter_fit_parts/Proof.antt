@@ -1,11 +1,11 @@
 -- What is stored and told is what page nine makes of the head and rows: `fit-stored`.
-use mathlib.Core.Path.{ap}
+use mathlib.Core.Path.{ap, _∙_}
 use borrow.Author.Needs.{needs}
 use Rattle.head.specs.Held.{HeadShaped}
 use Rattle.head.proofs.Held.{shape}
 use Rattle.meter.specs.Fitted.{MeterTold}
 use Rattle.meter_parts.specs.Parts.{fitTold}
-use Rattle.capi.proofs.Laws.{verdict-out}
+use Rattle.capi_answers.specs.Answers.{verdictOut}
 use Rattle.capi.proofs.PageNine.{fit-stored}
 use Rattle.capi.proofs.fit.meter_fit_parts.Statement.{statement}
 use Rattle.capi.proofs.fit.meter_fit_parts.Tie as tie
@@ -16,11 +16,11 @@ shaped c = search shape
 returns : tie.Need-returns
 unfolding fitTold
 returns c =
-    let l = c .before .before .before in
+    let l = c .before .before in
     let f = l .before .before .before .before .before in
     let h = f .before .before in
     let told = rw (h .head-of .ensures) at (f .fit-parts .ensures) in (
-      verdict-out _ (ap (λ (t : MeterTold). t .verdict) told) (c .before .verdict-number .ensures _) (c .verdict-kind .ensures _),
+      c .verdict-told .ensures ∙ ap (λ (t : MeterTold). verdictOut (t .verdict)) told,
       fit-stored _ (f .fit-parts .result) (rw (h .head-of .ensures) at (shaped h)) told (l .left .ensures),
     )
 
@@ -28,7 +28,6 @@ pub meter-fit-parts-spec : {M : Type 1} → statement M
 meter-fit-parts-spec =
     tie.close
     (tie.spec
-    (λ c κs. search needs)
     (λ c κs. search needs)
     (λ c κs. search needs)
     (λ c κs. search needs)

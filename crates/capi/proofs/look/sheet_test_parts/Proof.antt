@@ -1,13 +1,14 @@
 -- What is told of the head is told of the state.
+use mathlib.Core.Path.{ap, _∙_}
 use borrow.Author.Needs.{needs}
-use Rattle.capi.proofs.Laws.{tested-out}
+use Rattle.capi_answers.specs.Answers.{testedOut}
 use Rattle.capi.proofs.look.sheet_test_parts.Statement.{statement}
 use Rattle.capi.proofs.look.sheet_test_parts.Tie as tie
 
 returns : tie.Need-returns
 returns c =
-    let t = c .before .before in
-    tested-out (rw (t .before .head-of .ensures) at (t .test-parts .ensures)) (c .before .test-number .ensures) (c .test-agrees .ensures)
+    let t = c .before in
+    c .tested .ensures ∙ ap testedOut (rw (t .before .head-of .ensures) at (t .test-parts .ensures))
 
 pub sheet-test-parts-spec : {M : Type 1} → statement M
-sheet-test-parts-spec = tie.close (tie.spec (λ c κs. search needs) (λ c κs. search needs) (λ c κs. search needs) (λ c κs. search needs) returns)
+sheet-test-parts-spec = tie.close (tie.spec (λ c κs. search needs) (λ c κs. search needs) (λ c κs. search needs) returns)

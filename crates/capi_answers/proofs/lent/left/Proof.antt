@@ -1,8 +1,8 @@
 -- The number decides what is stored.
 use mathlib.Core.Path.{_≡_, refl}
 use borrow.Author.Needs.{needs}
-use Rattle.capi.proofs.change.left.Statement.{statement}
-use Rattle.capi.proofs.change.left.Tie as tie
+use Rattle.capi_answers.proofs.lent.left.Statement.{statement}
+use Rattle.capi_answers.proofs.lent.left.Tie as tie
 
 returns : tie.Need-returns
 returns c =

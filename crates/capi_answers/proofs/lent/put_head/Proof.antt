@@ -1,8 +1,8 @@
 -- Every field is stored.
-use Rattle.capi.proofs.Laws.{head-stored}
+use Rattle.capi_answers.proofs.Laws.{head-stored}
 use borrow.Author.Needs.{needs}
-use Rattle.capi.proofs.lent.put_head.Statement.{statement}
-use Rattle.capi.proofs.lent.put_head.Tie as tie
+use Rattle.capi_answers.proofs.lent.put_head.Statement.{statement}
+use Rattle.capi_answers.proofs.lent.put_head.Tie as tie
 
 returns : tie.Need-returns
 returns c = head-stored _ (c .put-changed .ensures)

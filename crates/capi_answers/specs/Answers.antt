@@ -9,12 +9,12 @@ use Rattle.state.specs.declared.reduction.Worked.{Worked}
 use Rattle.state.specs.View.{stateOf}
 use Rattle.state.specs.Answers.{ReadTold, Told}
 use Rattle.state.specs.Cut.{CutTold}
-use Rattle.capi.specs.declared.sheets.SheetRead.{SheetRead}
-use Rattle.capi.specs.declared.change.SheetStepped.{SheetStepped}
-use Rattle.capi.specs.declared.look.SheetWritten.{SheetWritten}
-use Rattle.capi.specs.declared.look.SheetTested.{SheetTested}
-use Rattle.capi.specs.declared.look.SheetVerdict.{SheetVerdict}
-use Rattle.capi.specs.declared.sheets.SheetCut.{SheetCut}
+use Rattle.capi_answers.specs.declared.told.SheetRead.{SheetRead}
+use Rattle.capi_answers.specs.declared.lent.SheetStepped.{SheetStepped}
+use Rattle.capi_answers.specs.declared.told.SheetWritten.{SheetWritten}
+use Rattle.capi_answers.specs.declared.told.SheetTested.{SheetTested}
+use Rattle.capi_answers.specs.declared.told.SheetVerdict.{SheetVerdict}
+use Rattle.capi_answers.specs.declared.told.SheetCut.{SheetCut}
 
 -- The state whose arrays are lent one by one, and its head.
 abbrev pub headWith : ℕ → (sizes lists leaders stated : List ℕ) → Head

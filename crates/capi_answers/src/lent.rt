@@ -1,13 +1,22 @@
 // The arrays of a state that is lent.
+use answers::outcome_number;
 use head::Head;
 use head::Rows;
 use head::VARIABLES;
+use state::Worked;
 ghost use mathlib.Core.Path.{_≡_};
 ghost use Rattle.head.specs.Held.{zeroRows};
-ghost use Rattle.capi.specs.Answers.{headWith};
+ghost use Rattle.capi_answers.specs.Answers.{headWith, Left};
+
+// A step, a reduction or a table added: the number that refuses, and how many steps were taken.
+#[repr(C)]
+pub struct SheetStepped {
+    pub number: u8,
+    pub steps: usize,
+}
 
 // Its head, by value.
-pub(crate) fn head_of<'a>(
+pub fn head_of<'a>(
     n: usize,
     sizes: &'a [u8; VARIABLES],
     lists: &'a [u32; VARIABLES],
@@ -29,14 +38,14 @@ pub(crate) fn head_of<'a>(
     }
 }
 
-pub(crate) fn zero_rows(rows: &mut Rows)
+pub fn zero_rows(rows: &mut Rows)
     ensures { λ _. ⌜ now (rows .exit) ≡ zeroRows ⌝ }
 {
     *rows = [0; 3840];
 }
 
 // Stores what a step or a reduction changes of a head.
-pub(crate) fn put_changed(
+fn put_changed(
     head: Head,
     lists: &mut [u32; VARIABLES],
     leaders: &mut [u8; VARIABLES],
@@ -52,8 +61,28 @@ pub(crate) fn put_changed(
     *stated = new_stated;
 }
 
+// Stores what a call that is not refused has made of a head, and tells its number and count.
+pub fn left(
+    worked: Worked,
+    lists: &mut [u32; VARIABLES],
+    leaders: &mut [u8; VARIABLES],
+    stated: &mut [u32; VARIABLES],
+) -> SheetStepped
+    ensures { λ r. ⌜ Left worked r (now (lists .entry)) (now (leaders .entry)) (now (stated .entry)) (now (lists .exit)) (now (leaders .exit)) (now (stated .exit)) ⌝ }
+{
+    let outcome = worked.outcome;
+    let number = outcome_number(outcome);
+    let steps = worked.steps;
+    if number != 0 {
+        return SheetStepped { number, steps };
+    }
+    let head = worked.head;
+    put_changed(head, lists, leaders, stated);
+    SheetStepped { number, steps }
+}
+
 // Stores a whole head.
-pub(crate) fn put_head(
+pub fn put_head(
     head: Head,
     n: &mut usize,
     sizes: &mut [u8; VARIABLES],
