@@ -1,19 +1,17 @@
--- Runs of rows, as the tests on their union see them, for any number w of values; and where the rows past n begin.
+-- Runs of rows, as the tests on their union see them, for any number w of values.
 use mathlib.Core.Bool.{true, false}
 use mathlib.Core.List.{List}
-use mathlib.Core.Path.{_≡_, refl, sym, _∙_}
-use Prim.Native.Nat.{ℕ, _+_, _-_, _*_, _≤_, _<_}
+use mathlib.Core.Path.{_≡_, sym, _∙_}
+use Prim.Native.Nat.{ℕ, _+_, _-_, _≤_, _<_}
 use native.Mathlib.Omega.{arith}
-use lib.Dec.{eqb, leb}
+use lib.Dec.{eqb}
 use lib.ListN.{getD}
-use borrow.Author.Tests.{eq-eqb, eqb-true, leb-true}
-use Rattle.bounded.specs.Bool.{and}
-use Rattle.bounded.specs.Fold.{every}
-use Rattle.bounded.proofs.Bool.{and-l, and-r, clash, not-true→false}
-use Rattle.bounded.proofs.Fold.{every-e, some-i, some-e, some-none}
-use Rattle.words.specs.Word.{has, word}
+use borrow.Author.Tests.{eq-eqb, eqb-true}
+use Rattle.bounded.proofs.Bool.{clash, not-true→false}
+use Rattle.bounded.proofs.Fold.{some-i, some-e, some-none}
+use Rattle.words.specs.Word.{has}
 use Rattle.words.proofs.Laws.{has-word, has-zero, word-lt, empty}
-use Rattle.pairs.specs.Pairs.{slot, joinOf}
+use Rattle.pairs.specs.Pairs.{joinOf}
 use Rattle.pairs.proofs.Runs.{join-has}
 
 module _ (w : ℕ) (rows : List ℕ) (at n : ℕ) where
@@ -34,15 +32,3 @@ module _ (w : ℕ) (rows : List ℕ) (at n : ℕ) where
   pub join-empty-i : ((k v : ℕ) → k < n → v < w → has (getD rows (at + k) 0) v ≡ false) → eqb (joinOf w rows at n) 0 ≡ true
   unfolding joinOf
   join-empty-i h = eq-eqb _ _ (empty w _ (word-lt w _) (λ v b. has-word w _ v b ∙ some-none n _ (λ k l. h k v l b)))
-
--- ---- the place of the pairs past n
-
-past-known : every 17 (λ (n : ℕ). and (leb (n * (n - 1)) 240) (leb (slot 0 n) 120)) ≡ true
-unfolding every slot and
-past-known = refl
-
--- The product does not overflow, and the place lies within the array.
-pub past-le : (n : ℕ) → n ≤ 16 → (n * (n - 1) ≤ 240) × (slot 0 n ≤ 120)
-past-le n l =
-    let t = every-e 17 _ past-known n (omega arith) in
-    (leb-true _ _ (and-l _ _ t), leb-true _ _ (and-r _ _ t))

@@ -6,7 +6,7 @@ use Prim.Native.Nat.{ℕ, suc, pred, _+_, _*_, _^_, _≤_, _<_}
 use native.Mathlib.Omega.{arith}
 use lib.Dec.{eqb, ltb}
 use lib.ListN.{getD}
-use borrow.Author.Tests.{lt-ltb, le-ltb, le-leb, eq-eqb, ne-eqb, ltb-true, ltb-false, leb-true, eqb-true, eqb-false}
+use borrow.Author.Tests.{lt-ltb, le-leb, eq-eqb, ne-eqb, ltb-true, ltb-false, leb-true, eqb-true, eqb-false}
 use Rattle.bounded.specs.Bool.{and, not}
 use Rattle.bounded.specs.Fold.{count}
 use Rattle.bounded.proofs.Array.{array-past}
@@ -22,7 +22,10 @@ use Rattle.pairs.proofs.Laws.{Inside, allows-up, allows-inside, allows-apart, a
 use Rattle.head.specs.declared.Head.{Head}
 use Rattle.head.specs.Held.{mostValues, HeadShaped, held, soundIn}
 use Rattle.head.proofs.Held.{held-bounded, held-sound, held-n, held-size, sound-held}
-use Rattle.soundness.specs.Parts.{sizeFits, sizesFit, within, domainsFit, statedWith, variableFits, pairsFit, headFits, pastFits, constraintFits, pairRowsFit, lowerRowsFit, rowsFit, followerFits, freeOrFits, followersFit, partsFit}
+use Rattle.soundness_head.specs.Fits.{sizeFits, sizesFit, within, domainsFit, statedWith, variableFits, pairsFit, headFits}
+use Rattle.soundness_head.proofs.Tests.{size-e, size-past-e, size-le}
+use Rattle.soundness_rows.specs.Fits.{pastFits, constraintFits, pairRowsFit, lowerRowsFit, rowsFit}
+use Rattle.soundness.specs.Parts.{followerFits, freeOrFits, followersFit, partsFit}
 use Rattle.soundness.proofs.Joins.{join-i, join-e, join-empty-e, join-empty-i}
 
 -- A word within k has its members below k.
@@ -36,26 +39,6 @@ within-i x k h = every-i width _ (λ v b. implies-i _ _ (λ m. lt-ltb _ _ (h v b
 
 module _ (h : Head) (A : HeadShaped h) where
   -- ---- from the tests to the facts: the head, whatever the rows are
-
-  size-e : sizesFit (h .n) (h .sizes) ≡ true → (i : ℕ) → i < h .n → i < variables → (1 ≤ getD (h .sizes) i 0) × (getD (h .sizes) i 0 ≤ mostValues)
-  unfolding sizesFit sizeFits
-  size-e t i l m =
-      let u = sym (if-true _ _ _ (lt-ltb i (h .n) l)) ∙ every-e variables _ t i m in
-      (leb-true _ _ (and-l _ _ u), leb-true _ _ (and-r _ _ u))
-
-  size-past-e : sizesFit (h .n) (h .sizes) ≡ true → (i : ℕ) → h .n ≤ i → getD (h .sizes) i 0 ≡ 0
-  unfolding sizesFit sizeFits
-  size-past-e t i l =
-      by-cases (ltb i variables)
-      (λ u. eqb-true _ _ (sym (if-false _ _ _ (le-ltb i (h .n) l)) ∙ every-e variables _ t i (ltb-true _ _ u)))
-      (λ u. array-past variables (2 ^ 8) (h .sizes) (A .sizes-array) i (ltb-false _ _ u))
-
-  -- Every size is at most the largest.
-  pub size-le : h .n ≤ variables → sizesFit (h .n) (h .sizes) ≡ true → (i : ℕ) → getD (h .sizes) i 0 ≤ mostValues
-  size-le b t i =
-      by-cases (ltb i (h .n))
-      (λ u. size-e t i (ltb-true _ _ u) (omega (arith, ltb-true i (h .n) u)) .1)
-      (λ u. omega (arith, size-past-e t i (ltb-false _ _ u)))
 
   domain-e : domainsFit (h .sizes) (h .domains) ≡ true → (i a : ℕ) → has (getD (h .domains) i 0) a ≡ true → a < getD (h .sizes) i 0
   unfolding domainsFit held
@@ -205,8 +188,8 @@ module _ (h : Head) (A : HeadShaped h) where
         sound-held h rows
         (record {
           some-variable = some;
-          sizes = λ i l. size-e S i l (omega arith) .0;
-          size-past = size-past-e S;
+          sizes = λ i l. size-e h A S i l (omega arith) .0;
+          size-past = size-past-e h A S;
           domain-in = domain-e D;
           leader-past = λ i m. by-cases (eqb (getD (h .leaders) i 0) 0)
               (λ t. eqb-true _ _ t)
@@ -221,10 +204,10 @@ module _ (h : Head) (A : HeadShaped h) where
           leader-free = λ i l e. let f = follower-e F i l e in (f .0, f .1);
           follower-stated = λ i l e. tied-e F i l most e;
           follower-only = only-e F;
-          follower-one = λ i l a e. one-e F i l a (size-le most S i) D e;
+          follower-one = λ i l a e. one-e F i l a (size-le h A most S i) D e;
         })
         most
-        (size-le most S)
+        (size-le h A most S)
 
     -- ---- from the facts to the tests
 

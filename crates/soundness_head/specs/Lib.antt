@@ -1,0 +1,2 @@
+-- What soundness asks of a head by itself.
+pub mod Fits

@@ -1,0 +1,2 @@
+-- What soundness asks of the rows.
+pub mod Fits
