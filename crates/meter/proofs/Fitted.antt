@@ -16,7 +16,7 @@ use Rattle.state.specs.Answers.{Told}
 use Rattle.state.specs.Steps.{reduced}
 use Rattle.state.specs.Tables.{tableAdded}
 use Rattle.state.specs.Solutions.{verdictOf}
-use Rattle.meter.specs.PageNine.{pageNine}
+use Rattle.meter_rule.specs.PageNine.{pageNine}
 use Rattle.meter.specs.Fitted.{MeterTold, flatMeter, fitRefusal, turnedAway, fittedState, fitted}
 
 -- A flat meter, test by test.

@@ -1,3 +1,2 @@
-pub mod PageNine
 pub mod Fitted
 pub mod Promise

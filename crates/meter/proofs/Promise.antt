@@ -17,10 +17,10 @@ use Rattle.state.specs.Tables.{tableAdded}
 use Rattle.sheet.specs.Promise.{lastState, buildOfSheet}
 use Rattle.sheet.specs.Laws.{buildOf, keepsToRows, HandedOn, RowsFit, StateLaws, SoundLaws, AfterLaws}
 use Rattle.sheet.proofs.Laws.{sound-laws, after-laws}
-use Rattle.meter.specs.PageNine.{goTogether, pageNine}
+use Rattle.meter_rule.specs.PageNine.{goTogether, pageNine}
 use Rattle.meter.specs.Fitted.{fitRefusal, fittedState, fitted}
 use Rattle.meter.specs.Promise.{keepsPageNine, KeepsPageNine, MeterPromise, PageNineKept, SheetPromise, PageNineAfter}
-use Rattle.meter.proofs.PageNine.{page-nine-allows, page-nine-below}
+use Rattle.meter_rule.proofs.PageNine.{page-nine-allows, page-nine-below}
 use Rattle.meter.proofs.Fitted.{fitted-done, fitted-number, fitted-back, fits-sound, flat-options, flat-cell, flat-interval}
 
 laws : (s : State) → Shaped s → soundState s ≡ true → StateLaws s

@@ -11,7 +11,7 @@ use Rattle.state.specs.View.{soundState}
 use Rattle.state.specs.Steps.{reduced}
 use Rattle.state.specs.Tables.{tableAdded}
 use Rattle.state.specs.Solutions.{verdictOf}
-use Rattle.meter.specs.PageNine.{pageNine}
+use Rattle.meter_rule.specs.PageNine.{pageNine}
 use Rattle.meter.specs.declared.MeterAnswer.{MeterAnswer}
 
 -- Number, state, and the verdict with the build shown.

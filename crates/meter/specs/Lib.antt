@@ -1,4 +1,3 @@
--- Page nine, what the call answers, and what it promises.
-pub mod PageNine
+-- What the call answers, and what it promises.
 pub mod Fitted
 pub mod Promise

@@ -15,7 +15,7 @@ use Rattle.state.specs.View.{Shaped, view, soundState}
 use Rattle.state.specs.Read.{readSheet}
 use Rattle.sheet.specs.Promise.{ruledAs, lastState, buildOfSheet}
 use Rattle.sheet.specs.Laws.{buildOf}
-use Rattle.meter.specs.PageNine.{goTogether, pageNine}
+use Rattle.meter_rule.specs.PageNine.{goTogether, pageNine}
 use Rattle.meter.specs.Fitted.{fitted}
 
 -- The build's cell and interval go together.

@@ -1,8 +1,6 @@
 // The flat meter: page nine as a layer above the sheets. It calls the public calls of `sheet`, and its proofs cite `sheet`'s laws.
-mod rule;
-
-pub use rule::fits;
-pub use rule::page_nine;
+pub use meter_rule::fits;
+pub use meter_rule::page_nine;
 use sheet::Cause;
 use sheet::Outcome;
 use sheet::State;

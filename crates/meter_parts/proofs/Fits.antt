@@ -27,7 +27,7 @@ use Rattle.state.proofs.Steps.{reduced-done}
 use Rattle.state.proofs.Tables.{table-number, table-back, taken-sound}
 use Rattle.state.proofs.Sizes.{reduced-same, table-same, table-head}
 use Rattle.state.proofs.Worked.{reduction-told}
-use Rattle.meter.specs.PageNine.{pageNine}
+use Rattle.meter_rule.specs.PageNine.{pageNine}
 use Rattle.meter.specs.Fitted.{MeterTold, flatMeter, fitRefusal, turnedAway, fittedState, fitted}
 use Rattle.meter.proofs.Fitted.{refuses-unsound, refuses-none, fitted-away, fitted-done}
 use Rattle.meter.proofs.Promise.{page-nine-taken, with-table, then-reduced}

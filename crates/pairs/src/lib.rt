@@ -1,4 +1,4 @@
-// The array of rows, each pair held once: `row` and `partners` read it, `put` and `clear` store, from either side of a pair.
+// The array of rows, each pair held once: `row` and `partners` read it from either side of a pair, and `put_row` stores from the lower.
 mod read;
 mod run;
 mod store;
@@ -9,9 +9,6 @@ pub use read::row;
 pub use read::stored_row;
 pub use run::joined;
 pub use run::place;
-pub use store::clear;
-pub use store::put;
-pub use store::put_column;
 pub use store::put_row;
 
 // How many variables there are at most.

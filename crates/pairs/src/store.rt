@@ -1,15 +1,12 @@
-// Storing what two variables allow, whichever of them is lower.
+// Storing a row of a pair.
 use crate::Rows;
 use crate::run::place;
-use words::WIDTH;
 ghost use mathlib.Core.Path.{_≡_};
-ghost use Prim.Native.Nat.{ℕ, _+_, _≤_, _<_};
-ghost use lib.Dec.{eqb};
+ghost use Prim.Native.Nat.{_<_};
 ghost use lib.ListN.{length};
-ghost use Rattle.bounded.specs.Bool.{and, if};
-ghost use Rattle.words.specs.Word.{width, has, word};
+ghost use Rattle.words.specs.Word.{width};
 ghost use Rattle.pairs.specs.Pairs.{variables};
-ghost use Rattle.pairs.specs.Frames.{RowPut, Cleared, RunPut};
+ghost use Rattle.pairs.specs.Frames.{RowPut};
 
 // Value `a` of `i` goes with the members of `x`; `j` is higher, so that this is a row.
 pub fn put_row(rows: &mut Rows, i: usize, j: usize, a: usize, x: u32)
@@ -18,65 +15,4 @@ pub fn put_row(rows: &mut Rows, i: usize, j: usize, a: usize, x: u32)
 {
     let at = place(i, j) + a;
     rows[at] = x;
-}
-
-// The word of `a` where `b` is a member of `x`, and else of nothing.
-fn moved(x: u32, b: usize, a: usize) -> u32
-    requires { ⌜ (a < width) × (b < width) ⌝ }
-    ensures { λ r. ⌜ r ≡ word width (λ (v : ℕ). and (eqb v a) (has x b)) ⌝ }
-{
-    ((x >> b) & 1) << a
-}
-
-// `row` with `a` a member exactly where `b` is one of `x`.
-fn marked(row: u32, a: usize, x: u32, b: usize) -> u32
-    requires { ⌜ (a < width) × (b < width) ⌝ }
-    ensures { λ r. ⌜ r ≡ word width (λ (v : ℕ). if (eqb v a) (has x b) (has row v)) ⌝ }
-{
-    words::either(words::without(row, words::single(a)), moved(x, b, a))
-}
-
-// The same where `j` is lower: a column of its rows.
-pub fn put_column(rows: &mut Rows, i: usize, j: usize, a: usize, x: u32)
-    requires { ⌜ (j < i) × (i < variables) × (a < width) × (length (now rows) ≡ 3840) ⌝ }
-    ensures { λ _. ⌜ RowPut width (now (rows .entry)) (now (rows .exit)) i j a x ⌝ }
-{
-    let at = place(j, i);
-    for b in 0..WIDTH {
-        rows[at + b] = marked(rows[at + b], a, x, b);
-    }
-}
-
-// The same, whichever is lower.
-pub fn put(rows: &mut Rows, i: usize, j: usize, a: usize, x: u32)
-    requires { ⌜ (i < variables) × (j < variables) × (i ≡ j → ⊥) × (a < width) × (length (now rows) ≡ 3840) ⌝ }
-    ensures { λ _. ⌜ RowPut width (now (rows .entry)) (now (rows .exit)) i j a x ⌝ }
-{
-    if i < j {
-        put_row(rows, i, j, a, x);
-        return;
-    }
-    put_column(rows, i, j, a, x);
-}
-
-// The rows from `at` on become 0.
-fn clear_run(rows: &mut Rows, at: usize)
-    requires { ⌜ (at + width ≤ 3840) × (length (now rows) ≡ 3840) ⌝ }
-    ensures { λ _. ⌜ RunPut (now (rows .entry)) (now (rows .exit)) at (λ (a : ℕ). 0) width ⌝ }
-{
-    for a in 0..WIDTH {
-        rows[at + a] = 0;
-    }
-}
-
-// The pair of `i` and `j` allows nothing any more.
-pub fn clear(rows: &mut Rows, i: usize, j: usize)
-    requires { ⌜ (i < variables) × (j < variables) × (i ≡ j → ⊥) × (length (now rows) ≡ 3840) ⌝ }
-    ensures { λ _. ⌜ Cleared width (now (rows .entry)) (now (rows .exit)) i j ⌝ }
-{
-    if i < j {
-        clear_run(rows, place(i, j));
-        return;
-    }
-    clear_run(rows, place(j, i));
 }

@@ -1,4 +1,3 @@
-pub mod Factors
 mod Narrowing
 mod Choosing
 mod Completing

@@ -1,4 +1,3 @@
 -- The search over a head and lent rows.
-pub mod Choices
 pub mod Turns
 pub mod Found

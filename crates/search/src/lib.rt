@@ -1,15 +1,14 @@
 // The search over a head and lent rows: the first choice of the free variables, completed.
-mod choices;
 mod turns;
 
 use head::Head;
 use pairs::Rows;
 use pairs::VARIABLES;
+use search_product::product;
 ghost use mathlib.Core.Bool.{true};
 ghost use mathlib.Core.Path.{_≡_};
 ghost use Rattle.head.specs.Held.{held, soundIn};
 ghost use Rattle.search.specs.Found.{FoundIn};
-pub use choices::product;
 
 // Whether there is a solution, and the first one: all zero where there is none.
 pub struct Found {

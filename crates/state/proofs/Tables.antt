@@ -19,7 +19,7 @@ use Rattle.answers.specs.declared.Outcome.{Outcome}
 use Rattle.answers.specs.declared.Outcome.the-variants as outcome
 use Rattle.answers.specs.Answers.{outcomeNumber}
 use Rattle.step_add.specs.Added.{AddedTo}
-use Rattle.step_add.proofs.Judging.{counted-from-0}
+use Rattle.step_add_judge.proofs.Judging.{counted-from-0}
 use Rattle.head.specs.declared.Head.{Head}
 use Rattle.head.specs.Held.{held}
 use Rattle.head.proofs.Held.{HeadShaped, Packed, held-sound, kept-packed}

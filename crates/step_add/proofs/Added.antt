@@ -20,9 +20,9 @@ use Rattle.pairs.specs.Frames.{Stored}
 use Rattle.head.specs.declared.Head.{Head}
 use Rattle.head.specs.Held.{HeadShaped, RowsShaped, held, headOf, soundIn}
 use Rattle.head.proofs.Held.{rows-of-held, held-sound, held-n}
-use Rattle.step_add.specs.declared.sides.Side.{Side}
-use Rattle.step_add.specs.Sides.{leaderOf, sideOf, Apart, PartnersIn, cutAt, keptAt}
-use Rattle.step_add.specs.Turned.{Turns}
+use Rattle.step_sides.specs.declared.sides.Side.{Side}
+use Rattle.step_sides.specs.Sides.{leaderOf, sideOf, Apart, PartnersIn, cutAt, keptAt}
+use Rattle.step_sides.specs.Turned.{Turns}
 use Rattle.step_add.specs.Added.{AddedTo}
 use Rattle.step_add.proofs.Meaning.{cut-is, kept-is, partners-in, turns}
 use Rattle.step_add.proofs.Stored.{narrowed-head, constrained-head, constrained-rows}

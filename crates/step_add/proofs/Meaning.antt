@@ -20,9 +20,9 @@ use Rattle.pairs.proofs.Laws.{allows-alike}
 use Rattle.head.specs.declared.Head.{Head}
 use Rattle.head.specs.Held.{HeadShaped, held, soundIn}
 use Rattle.head.proofs.Held.{held-sound, held-size}
-use Rattle.step_add.specs.Sides.{leaderOf, sideOf, partnerAt, PartnersIn, toldAt, reachAt, cutAt, keptAt}
-use Rattle.step_add.specs.Turned.{turnedOf, Turns}
-use Rattle.step_add.proofs.Turned.{columns-length, turned-allows}
+use Rattle.step_sides.specs.Sides.{leaderOf, sideOf, partnerAt, PartnersIn, toldAt, reachAt, cutAt, keptAt}
+use Rattle.step_sides.specs.Turned.{turnedOf, Turns}
+use Rattle.step_sides.proofs.Turning.{columns-length, turned-allows}
 
 and-swap : (a b c : Bool) → and (and a b) c ≡ and (and a c) b
 and-swap a b c = and-assoc a b c ∙ ap (and a) (and-comm b c) ∙ sym (and-assoc a c b)

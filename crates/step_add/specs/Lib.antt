@@ -1,5 +1,2 @@
--- What refuses a table, and what it makes of a head and rows.
-pub mod Judging
-pub mod Sides
-pub mod Turned
+-- What a table makes of a head and rows.
 pub mod Added

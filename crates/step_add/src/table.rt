@@ -1,10 +1,10 @@
 // What a table for two variables makes of a head and rows. It is told through the leaders of the two.
-use crate::sides::Side;
-use crate::sides::reach;
-use crate::sides::side_of;
-use crate::turn::turned;
 use head::Head;
 use pairs::Rows;
+use step_sides::Side;
+use step_sides::reach;
+use step_sides::side_of;
+use step_sides::turned;
 use words::WIDTH;
 use words::both;
 use words::either;
@@ -18,8 +18,8 @@ ghost use Rattle.words.specs.Word.{width, word};
 ghost use Rattle.network.specs.Added.{addRefusal};
 ghost use Rattle.pairs.specs.Frames.{Stored};
 ghost use Rattle.head.specs.Held.{RowsShaped, held, soundIn};
-ghost use Rattle.step_add.specs.Sides.{Placed, Apart, PartnersIn, keptAt, cutAt};
-ghost use Rattle.step_add.specs.Turned.{Turns};
+ghost use Rattle.step_sides.specs.Sides.{Placed, Apart, PartnersIn, keptAt, cutAt};
+ghost use Rattle.step_sides.specs.Turned.{Turns};
 ghost use Rattle.step_add.specs.Added.{AddedTo};
 
 // The first leader is lower: the values of the second leader that go with value `a` of the first. A value outside its domain has none, and a pair that was stated

@@ -8,9 +8,9 @@ use native.Mathlib.Omega.{arith}
 use lib.Dec.{eqb, leb}
 use lib.ListN.{getD}
 use borrow.Author.Tests.{eqb-true, eqb-false, eq-eqb, ne-eqb, lt-ltb, le-ltb, le-leb}
-use Rattle.bounded.specs.Bool.{and, or, not, if}
+use Rattle.bounded.specs.Bool.{and, or, if}
 use Rattle.bounded.specs.Fold.{count}
-use Rattle.bounded.proofs.Bool.{by-cases, bool-ext, true-and, and-l, or-l, or-r, or-false-i, implies-i, implies-e, not-i, not-false-i, not-true→false, if-true, if-false}
+use Rattle.bounded.proofs.Bool.{by-cases, bool-ext, true-and, and-l, or-l, or-r, or-false-i, implies-i, implies-e, not-true→false}
 use Rattle.bounded.proofs.Fold.{every-i, every-e, count-widen}
 use Rattle.words.specs.Word.{width, has}
 use Rattle.network.specs.Network.{Network, free, partner, functional}
@@ -22,7 +22,9 @@ use Rattle.pairs.specs.Pairs.{partnersAt, partnersWithin}
 use Rattle.head.specs.declared.Head.{Head}
 use Rattle.head.specs.Held.{HeadShaped, held, soundIn}
 use Rattle.head.proofs.Held.{held-sound, held-size}
-use Rattle.step_choice.specs.Judging.{pairNumber, pairRefusal}
+use Rattle.step_judge.specs.Judging.{pairNumber}
+use Rattle.step_judge.proofs.Judging.{leader-led, not-stated}
+use Rattle.step_choice.specs.Judging.{pairRefusal}
 
 -- "option number 0 or above n"
 module _ (N : Network) (x : ℕ) where
@@ -70,31 +72,6 @@ module _ (N : Network) (l f : ℕ) (named : Named (N .n) l f) where
   pair-decides : (l ≡ f → ⊥) → pairRefusal N (pred l) (pred f) ≡ refusal N l f
   unfolding pairRefusal pairNumber refusal or if
   pair-decides d = rw (numbers-good, ne-eqb l f d)
-
--- The same for a pair.
-pub leader-led : {leads : Bool} (follows stated single : Bool) → leads ≡ false → pairNumber leads follows stated single ≡ 11
-unfolding pairNumber
-leader-led follows stated single t = if-true _ _ _ (or-l _ _ (not-i _ t))
-
-pub follower-led : (leads : Bool) {follows : Bool} (stated single : Bool) → follows ≡ false → pairNumber leads follows stated single ≡ 11
-unfolding pairNumber
-follower-led leads stated single t = if-true _ _ _ (or-r _ _ (not-i _ t))
-
-module _ {leads follows : Bool} (i-free : leads ≡ true) (j-free : follows ≡ true) where
-  both-free : or (not leads) (not follows) ≡ false
-  both-free = or-false-i _ _ (not-false-i _ i-free) (not-false-i _ j-free)
-
-  pub not-stated : {stated : Bool} (single : Bool) → stated ≡ false → pairNumber leads follows stated single ≡ 12
-  unfolding pairNumber
-  not-stated single t = if-false _ _ _ both-free ∙ if-true _ _ _ (not-i _ t)
-
-  pub not-functional : {stated single : Bool} → stated ≡ true → single ≡ false → pairNumber leads follows stated single ≡ 13
-  unfolding pairNumber
-  not-functional s t = if-false _ _ _ both-free ∙ if-false _ _ _ (not-false-i _ s) ∙ if-true _ _ _ (not-i _ t)
-
-  pub step-legal : {stated single : Bool} → stated ≡ true → single ≡ true → pairNumber leads follows stated single ≡ 0
-  unfolding pairNumber
-  step-legal s t = if-false _ _ _ both-free ∙ if-false _ _ _ (not-false-i _ s) ∙ if-false _ _ _ (not-false-i _ t)
 
 -- What the words of the variables i and j say of a step: the number that refuses it, and whether it is legal.
 abbrev pub numberAt : List ℕ → List ℕ → List ℕ → List ℕ → ℕ → ℕ → ℕ

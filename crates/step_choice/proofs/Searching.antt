@@ -18,10 +18,12 @@ use Rattle.network.proofs.Step.{legal-e}
 use Rattle.network.proofs.Reduction.{leading-i, legal-reducible}
 use Rattle.head.specs.declared.Head.{Head}
 use Rattle.head.specs.Held.{HeadShaped, held, soundIn}
-use Rattle.step_choice.specs.Judging.{judgedNumber, pairNumber, nextPair}
-use Rattle.step_choice.specs.declared.Judgement.the-variants as judgement
+use Rattle.step_judge.specs.Judging.{judgedNumber, pairNumber}
+use Rattle.step_judge.specs.declared.Judgement.the-variants as judgement
+use Rattle.step_judge.proofs.Judging.{leader-led}
+use Rattle.step_choice.specs.Judging.{nextPair}
 use Rattle.step_choice.specs.declared.Pair.the-variants as pair
-use Rattle.step_choice.proofs.Judging.{legalAt, not-zero, leader-led, legal-counted}
+use Rattle.step_choice.proofs.Judging.{legalAt, not-zero, legal-counted}
 
 -- What a judgement says of its number.
 pub judged-legal : (k : ℕ) → judgedNumber judgement.Legal ≡ k → eqb k 0 ≡ true

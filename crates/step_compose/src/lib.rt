@@ -64,7 +64,7 @@ fn compose_value(
     ensures { λ _. ⌜ length (now (rows .exit)) ≡ length (now (rows .entry)) ⌝ }
 {
     let members = composed_row(rows, k, j, i, dk, dj, ti, was, c);
-    pairs::put(rows, k, i, c, members);
+    pairs_store::put(rows, k, i, c, members);
 }
 
 // Rule 2 for the third variable `k`, value by value, the lowest first.

@@ -1,4 +1,1 @@
-pub mod Thirds
-pub mod StepArrays
-pub mod StepRows
 pub mod Stepped

@@ -24,7 +24,7 @@ use Rattle.head.specs.declared.Head.{Head}
 use Rattle.head.specs.Held.{RowsShaped, held, headOf, soundIn}
 use Rattle.head.proofs.Held.{HeadShaped, held-bounded, held-sound, held-n}
 use Rattle.step_compose.specs.Compose.{supportedAt, composedAt}
-use Rattle.step_rules.specs.StepParts.{leaderAfter, thirdOf, statedAfter, madeAt, MovedRows}
+use Rattle.step_parts.specs.StepParts.{leaderAfter, thirdOf, statedAfter, madeAt, MovedRows}
 use Rattle.step_rules.specs.Stepped.{Stepped}
 
 module _ {h : Head} (rows : List ℕ) (S : HeadShaped h) (t : soundIn h rows ≡ true) (i j : ℕ) (l : legal (held h rows) i j ≡ true) where

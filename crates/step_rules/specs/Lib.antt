@@ -1,3 +1,2 @@
 -- What the rules of a step make of a head and rows.
-pub mod StepParts
 pub mod Stepped

@@ -1,13 +1,10 @@
 // The rules of a follow step on a head and rows: `j` comes to follow `i`, both counted from 0.
-mod head_after;
-mod rows_after;
-
 use head::Head;
 use head::Rows;
-use head_after::leaders_after;
-use head_after::stated_after;
-use head_after::thirds_of;
-use rows_after::move_thirds;
+use step_parts::leaders_after;
+use step_parts::move_thirds;
+use step_parts::stated_after;
+use step_parts::thirds_of;
 ghost use mathlib.Core.Bool.{true};
 ghost use mathlib.Core.Path.{_≡_};
 ghost use Rattle.network.specs.Step.{legal};

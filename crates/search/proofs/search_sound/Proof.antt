@@ -4,7 +4,7 @@ use native.Mathlib.Omega.{arith}
 use borrow.Author.Needs.{needs}
 use borrow.Author.Tests.{not-true, not-false}
 use Rattle.head.proofs.Held.{HeadShaped, shape, held-n}
-use Rattle.search.proofs.Factors.{product-zero}
+use Rattle.search_product.proofs.Factors.{product-zero}
 use Rattle.search.proofs.Settling.{start-below, product-settled, chosen-none, chosen-led, chosen-found}
 use Rattle.search.proofs.search_sound.Statement.{statement}
 use Rattle.search.proofs.search_sound.Tie as tie

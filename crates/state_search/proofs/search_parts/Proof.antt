@@ -8,7 +8,7 @@ use denote.Ref.{now}
 use Rattle.head.specs.Held.{soundIn}
 use Rattle.head.proofs.Held.{held-n}
 use Rattle.answers.specs.Answers.{verdictTold}
-use Rattle.search.proofs.Factors.{product-refused, product-accepted}
+use Rattle.search_product.proofs.Factors.{product-refused, product-accepted}
 use Rattle.state.specs.View.{stateOf}
 use Rattle.state.specs.Solutions.{searchNumber}
 use Rattle.state.proofs.Solutions.{search-unsound, search-own, search-refuses}

@@ -4,7 +4,7 @@ use native.Mathlib.Omega.{arith}
 use borrow.Author.Needs.{needs}
 use Rattle.head.specs.Held.{held}
 use Rattle.head.proofs.Held.{HeadShaped, shape, held-n}
-use Rattle.step_choice.specs.Judging.{judgedNumber}
+use Rattle.step_judge.specs.Judging.{judgedNumber}
 use Rattle.step_choice.proofs.Judging.{Named, leader-zero, leader-above, follower-zero, follower-above, same-variable, refusal-counted, stated-apart}
 use Rattle.step_choice.proofs.judge.Statement.{statement}
 use Rattle.step_choice.proofs.judge.Tie as tie

@@ -6,7 +6,7 @@ use native.Mathlib.Omega.{arith}
 use borrow.Author.Count.{below-more}
 use borrow.Author.Needs.{needs}
 use Rattle.head.proofs.Held.{HeadShaped, shape, held-n}
-use Rattle.step_choice.specs.Judging.{judgedNumber}
+use Rattle.step_judge.specs.Judging.{judgedNumber}
 use Rattle.step_choice.specs.declared.Pair.the-variants as pair
 use Rattle.step_choice.proofs.Judging.{legalAt, stated-apart}
 use Rattle.step_choice.proofs.Searching.{judged-legal, judged-refused, led-leads-none, next-found, next-none}

@@ -5,7 +5,7 @@ use borrow.Author.Needs.{needs}
 use borrow.Author.Tests.{not-true, not-false}
 use Rattle.bounded.proofs.Bool.{if-true, if-false}
 use Rattle.answers.specs.Answers.{outcomeNumber}
-use Rattle.step_choice.specs.Judging.{judgedNumber}
+use Rattle.step_judge.specs.Judging.{judgedNumber}
 use Rattle.head.specs.Held.{soundIn}
 use Rattle.state.specs.Steps.{stepRefusal}
 use Rattle.state.proofs.reduction.refuse_step.Statement.{statement}

@@ -1,7 +1,7 @@
 -- From the lower leader the rows are stored as they stand; the turned table says the same: `cut-turned`.
 use borrow.Author.Needs.{needs}
 use Rattle.pairs.proofs.Laws.{higher}
-use Rattle.step_add.proofs.Turned.{apart-turned, cut-turned}
+use Rattle.step_sides.proofs.Turning.{apart-turned, cut-turned}
 use Rattle.step_add.proofs.table.cut.Statement.{statement}
 use Rattle.step_add.proofs.table.cut.Tie as tie
 

@@ -5,8 +5,8 @@ use native.Mathlib.Omega.{arith}
 use borrow.Author.Needs.{needs}
 use Rattle.pairs.specs.Frames.{Stored}
 use Rattle.pairs.proofs.Frames.{stored-none}
-use Rattle.step_add.specs.Sides.{cutAt}
-use Rattle.step_add.proofs.Cut.{partners-stay, cut-more}
+use Rattle.step_sides.specs.Sides.{cutAt}
+use Rattle.step_sides.proofs.Cut.{partners-stay, cut-more}
 use Rattle.step_add.proofs.table.cut_pair.Statement.{statement}
 use Rattle.step_add.proofs.table.cut_pair.Tie as tie
 

@@ -7,8 +7,8 @@ use borrow.Author.Tests.{not-true, not-false}
 use Rattle.bounded.proofs.Bool.{and-fails}
 use Rattle.words.specs.Word.{has}
 use Rattle.words.proofs.Laws.{has-zero, is-word}
-use Rattle.step_add.specs.Sides.{cutAt}
-use Rattle.step_add.proofs.Cut.{cut-unstated, cut-stated}
+use Rattle.step_sides.specs.Sides.{cutAt}
+use Rattle.step_sides.proofs.Cut.{cut-unstated, cut-stated}
 use Rattle.step_add.proofs.table.cut_row.Statement.{statement}
 use Rattle.step_add.proofs.table.cut_row.Tie as tie
 

@@ -5,8 +5,8 @@ use borrow.Author.Needs.{needs}
 use borrow.Author.Tests.{not-true, not-false}
 use Rattle.bounded.proofs.Bool.{and-fails}
 use Rattle.words.specs.Word.{has}
-use Rattle.step_add.specs.Sides.{keptAt}
-use Rattle.step_add.proofs.Cut.{kept-some}
+use Rattle.step_sides.specs.Sides.{keptAt}
+use Rattle.step_sides.proofs.Cut.{kept-some}
 use Rattle.step_add.proofs.table.keeps.Statement.{statement}
 use Rattle.step_add.proofs.table.keeps.Tie as tie
 

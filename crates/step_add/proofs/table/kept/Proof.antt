@@ -7,7 +7,7 @@ use borrow.Author.Needs.{needs}
 use Rattle.words.specs.Word.{word}
 use Rattle.words.proofs.Laws.{word-zero}
 use Rattle.pairs.proofs.Runs.{bit-joins}
-use Rattle.step_add.specs.Sides.{keptAt}
+use Rattle.step_sides.specs.Sides.{keptAt}
 use Rattle.step_add.proofs.table.kept.Statement.{statement}
 use Rattle.step_add.proofs.table.kept.Tie as tie
 

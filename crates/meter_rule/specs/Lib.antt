@@ -1,0 +1,2 @@
+-- Page nine of the flat meter.
+pub mod PageNine

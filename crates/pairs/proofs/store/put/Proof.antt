@@ -1,8 +1,0 @@
--- The lower variable has rows, and the higher one columns of them.
-use borrow.Author.Needs.{needs}
-use Rattle.pairs.proofs.Laws.{higher}
-use Rattle.pairs.proofs.store.put.Statement.{statement}
-use Rattle.pairs.proofs.store.put.Tie as tie
-
-pub put-spec : {M : Type 1} → statement M
-put-spec = tie.close (tie.spec (λ c κs. search needs) (λ c. search needs) (λ c κs. let p = c .before .before .pre in let l = higher (c .before .if1 .left) (p .2) in search needs) (λ c. search needs))

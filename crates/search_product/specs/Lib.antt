@@ -1,0 +1,2 @@
+-- What the product is taken over.
+pub mod Choices

@@ -1,0 +1,2 @@
+-- What refuses a table.
+pub mod Judging

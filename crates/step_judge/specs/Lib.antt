@@ -1,0 +1,2 @@
+-- What refuses a step of two variables.
+pub mod Judging

@@ -1,0 +1,3 @@
+pub mod Thirds
+pub mod StepArrays
+pub mod StepRows
