@@ -26,6 +26,18 @@ pub fn put_text(buffer: &mut [u8], at: usize, text: &[u8]) -> usize
 }
 
 // A number in decimal: its tenth, if it has one, and then its last digit.
+fn put_digits(buffer: &mut [u8], at: usize, n: usize) -> usize
+    requires { ⌜ at + length (decimal n) ≤ length (now buffer) ⌝ }
+    ensures { λ r. ⌜ Wrote (now (buffer .entry)) (now (buffer .exit)) (decimal n) at r ⌝ }
+{
+    if n < 10 {
+        return put_byte(buffer, at, 48 + n as u8);
+    }
+    let next = put_digits(buffer, at, n / 10);
+    put_byte(buffer, next, 48 + (n % 10) as u8)
+}
+
+// The same. Most numbers have one digit, for which nothing is called.
 pub fn put_decimal(buffer: &mut [u8], at: usize, n: usize) -> usize
     requires { ⌜ at + length (decimal n) ≤ length (now buffer) ⌝ }
     ensures { λ r. ⌜ Wrote (now (buffer .entry)) (now (buffer .exit)) (decimal n) at r ⌝ }
@@ -33,8 +45,7 @@ pub fn put_decimal(buffer: &mut [u8], at: usize, n: usize) -> usize
     if n < 10 {
         return put_byte(buffer, at, 48 + n as u8);
     }
-    let next = put_decimal(buffer, at, n / 10);
-    put_byte(buffer, next, 48 + (n % 10) as u8)
+    put_digits(buffer, at, n)
 }
 
 // A title and a number in decimal.

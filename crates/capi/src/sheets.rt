@@ -9,6 +9,8 @@ use head::Rows;
 use head::VARIABLES;
 use state_cut::cut_parts;
 use state_read::read_parts;
+use text_report::LONGEST;
+use text_report::report_into;
 ghost use mathlib.Core.Path.{_≡_};
 ghost use Rattle.state.specs.Read.{readSheet};
 ghost use Rattle.state.specs.Cut.{cutSheet};
@@ -20,7 +22,7 @@ ghost use Rattle.capi_answers.specs.Answers.{stateWith, readOut, cutOut};
 #[repr(C)]
 pub struct SheetText {
     pub length: usize,
-    pub bytes: [u8; 512],
+    pub bytes: [u8; LONGEST],
 }
 
 // Reads a sheet's bytes into a state, whatever that held.
@@ -80,10 +82,10 @@ pub extern "C" fn sheet_cut_parts(
 pub extern "C" fn sheet_text(bytes: &[u8]) -> SheetText
     ensures { λ r. ⌜ Printed 512 (textOf (now (bytes .entry))) (r .bytes) (r .length) ⌝ }
 {
-    let text = text_report::report(bytes);
-    let printed = text.bytes;
+    let mut text = [0u8; LONGEST];
+    let length = report_into(bytes, &mut text);
     SheetText {
-        length: text.length,
-        bytes: printed,
+        length,
+        bytes: text,
     }
 }

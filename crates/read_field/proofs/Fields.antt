@@ -4,12 +4,12 @@ use mathlib.Core.List.{List}
 use mathlib.Core.Path.{_≡_, refl, sym, _∙_, ap, fun-ext}
 use Prim.Native.Nat.{ℕ, _+_, _-_, _*_, _/_, _%_, _^_, _≤_, _<_}
 use native.Mathlib.Omega.{arith}
-use lib.Dec.{eqb, ltb}
+use lib.Dec.{eqb, ltb, leb}
 use lib.ListN.{length}
-use borrow.Author.Tests.{lt-ltb, le-ltb, eq-eqb, ltb-true, ltb-false, eqb-true, eqb-false}
-use Rattle.bounded.specs.Bool.{or, implies, not, if}
+use borrow.Author.Tests.{lt-ltb, le-ltb, le-leb, eq-eqb, ltb-true, ltb-false, leb-true, eqb-true, eqb-false}
+use Rattle.bounded.specs.Bool.{and, or, implies, not, if}
 use Rattle.bounded.specs.Fold.{every}
-use Rattle.bounded.proofs.Bool.{by-cases, bool-ext, machine-and, and-l, and-r, and-holds, if-true, if-false, not-i, not-false-i, or-l, or-r, or-false-l, or-false-r}
+use Rattle.bounded.proofs.Bool.{by-cases, bool-ext, machine-and, clash, and-i, and-l, and-r, and-holds, if-true, if-false, not-i, not-false-i, or-l, or-r, or-false-l, or-false-r}
 use Rattle.words.specs.Word.{has}
 use Rattle.words.proofs.Laws.{within-every}
 use Rattle.cause.specs.declared.Cause.{Cause}
@@ -17,9 +17,10 @@ use Rattle.cause.specs.declared.Cause.the-variants.{VariableCount, Size, Constr
 use Rattle.read_field.specs.declared.field.Read.{Read}
 use Rattle.read_field.specs.declared.field.Read.the-variants.{Value, Refused}
 use Rattle.format.specs.Layout.{Test, fine, fault, countTest, sizeTest, constraintsTest, outOfRange, pairTest, rowTest, longest}
-use Rattle.format.specs.Parse.{Parse, got, bad, numberAt, judged, field, wrongUnder, wrongLength}
+use Rattle.format.specs.Parse.{Parse, got, bad, bind, numberAt, judged, field, wrongUnder, wrongLength}
 use Rattle.format.proofs.Parse.{fine-row, row-out, row-blank}
-use Rattle.read_field.specs.Fields.{readAs, readOf, rangeTest}
+use Rattle.format.proofs.Pairs.{pair-of-fine, fine-pair}
+use Rattle.read_field.specs.Fields.{readAs, readOf, rangeTest, Decides}
 
 -- ---- any parse that came to an answer
 
@@ -46,6 +47,19 @@ no-value c at v next q = absurd (let z : _≡_ {A = ℕ} 0 1 = cc in let x : ⊥
 -- What holds of a value that was answered.
 pub value-is : (P : ℕ → ℕ → Type 0) (v next w x : ℕ) → P v next → Value v next ≡ Value w x → P w x
 value-is P v next w x h q = rw (let m : v ≡ w = cc in m, let m : next ≡ x = cc in m) at h
+
+-- What came of one parser and then another came of both.
+pub bind-got : {A B C : Type 0} {p : Parse A} {f : A → ℕ → Parse B} {y : B} {end : ℕ} → bind p f ≡ got y end
+    → ((x : A) (next : ℕ) → p ≡ got x next → f x next ≡ got y end → C) → C
+unfolding bind
+bind-got {p = got x next} e k = k x next refl e
+bind-got {p = bad c at} e k = absurd (let z : _≡_ {A = ℕ} 0 1 = cc in let x : ⊥ = omega arith in x)
+
+-- An answer of which something is made.
+pub bind-as : {A B : Type 0} (r : Read) (x : A) (f : A → B) → bind (readAs r x) (λ y end. got (f y) end) ≡ readAs r (f x)
+unfolding bind readAs
+bind-as (Value v next) x f = refl
+bind-as (Refused c at) x f = refl
 
 -- ---- any field
 
@@ -113,6 +127,14 @@ four-machine false true c d = refl
 four-machine false false true d = refl
 four-machine false false false d = refl
 
+-- The four tests that it passes.
+four-and : (a b c d : Bool) → a && b && c && d ≡ and a (and b (and c d))
+unfolding and
+four-and true true true d = refl
+four-and true true false d = refl
+four-and true false c d = refl
+four-and false b c d = refl
+
 module _ (n previous pair : ℕ) where
   range-machine : outOfRange n pair ≡ eqb (pair / 256) 0 || eqb (pair % 256) 0 || ltb n (pair / 256) || ltb n (pair % 256)
   unfolding outOfRange
@@ -137,6 +159,24 @@ module _ (n previous pair : ℕ) where
     unfolding outOfRange pairTest
     pair-fine o r =
         if-false _ _ _ (range-machine ∙ h) ∙ if-false _ _ _ (not-false-i _ (lt-ltb _ _ o)) ∙ if-false _ _ _ (not-false-i _ (lt-ltb _ _ r))
+
+  -- The four tests that a pair passes, as the machine joins them.
+  pub pair-decided : Decides (ltb 0 (pair / 256) && ltb (pair / 256) (pair % 256) && leb (pair % 256) n && ltb previous pair) (pairTest n previous pair ≡ fine)
+  pair-decided =
+      let m = four-and (ltb 0 (pair / 256)) (ltb (pair / 256) (pair % 256)) (leb (pair % 256) n) (ltb previous pair) in (
+        λ t. let all = rw m at t in
+            fine-pair n previous pair
+            (record {
+              first-in = ltb-true 0 (pair / 256) (and-l _ _ all);
+              ordered = ltb-true (pair / 256) (pair % 256) (and-l _ _ (and-r _ _ all));
+              second-in = leb-true (pair % 256) n (and-l _ _ (and-r _ _ (and-r _ _ all)));
+              after = ltb-true previous pair (and-r _ _ (and-r _ _ (and-r _ _ all)));
+            }),
+        λ f e. let p = pair-of-fine n previous pair e in
+            clash
+            (m ∙ and-i _ _ (lt-ltb _ _ (p .first-in)) (and-i _ _ (lt-ltb _ _ (p .ordered)) (and-i _ _ (le-leb _ _ (p .second-in)) (lt-ltb _ _ (p .after)))))
+            f,
+      )
 
 -- A word below 2 to the size has no bit at or above it: one test decides a row, and a union of rows.
 module _ (w : ℕ) (filled : Bool) (size row : ℕ) (l : row < 2 ^ w) where

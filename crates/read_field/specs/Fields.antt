@@ -1,6 +1,7 @@
 -- The answers of the functions that read, as parses.
+use mathlib.Core.Bool.{Bool, true, false}
 use mathlib.Core.Path.{_≡_}
-use Prim.Native.Nat.{ℕ, _%_, _≤_}
+use Prim.Native.Nat.{ℕ}
 use lib.Dec.{ltb}
 use Rattle.bounded.specs.Bool.{or, if}
 use Rattle.cause.specs.declared.Cause.{Cause}
@@ -23,6 +24,6 @@ readOf (Refused c at) = bad c at
 unfoldable pub rangeTest : ℕ → ℕ → Cause → ℕ → Test
 rangeTest least most c v = if (or (ltb v least) (ltb most v)) (fault c) fine
 
--- The bytes that a row has in some layout: two or four.
-abbrev pub RowBytes : ℕ → Type 0
-RowBytes k = (2 ≤ k) × (k ≤ 4) × (k % 2 ≡ 0)
+-- An answer says whether something holds.
+abbrev pub Decides : Bool → Type 0 → Type 0
+Decides b P = (b ≡ true → P) × (b ≡ false → P → ⊥)

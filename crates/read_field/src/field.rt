@@ -1,12 +1,14 @@
 // One field of a sheet at a time: its bytes, and its own test.
 ghost use mathlib.Core.Path.{_≡_};
-ghost use Prim.Native.Nat.{_+_, _*_, _/_, _%_, _<_, _≤_};
+ghost use Prim.Native.Nat.{_≤_};
 ghost use lib.ListN.{length};
 ghost use Rattle.words.specs.Word.{width};
-ghost use Rattle.format.specs.Layout.{pairTest, rowTest};
-ghost use Rattle.format.specs.Parse.{numberAt, field};
-ghost use Rattle.read_field.specs.Fields.{readOf, rangeTest, RowBytes};
+ghost use Rattle.format.specs.Layout.{fine, pairTest, rowTest};
+ghost use Rattle.format.specs.Parse.{field};
+ghost use Rattle.read_number.specs.Bytes.{RowBytes};
+ghost use Rattle.read_field.specs.Fields.{readOf, rangeTest, Decides};
 use cause::Cause;
+use read_number::number;
 
 // What a field comes to.
 pub enum Read {
@@ -28,41 +30,6 @@ pub fn byte_field(bytes: &[u8], at: usize, least: usize, most: usize, cause: Cau
         return Read::Refused(cause, at);
     }
     Read::Value(value, at + 1)
-}
-
-// Two bytes as they stand, the first in the lowest bits: one load.
-fn two(bytes: &[u8], at: usize) -> u16
-    requires { ⌜ at + 2 ≤ length (now bytes) ⌝ }
-    ensures { λ r. ⌜ numberAt 2 (now (bytes .entry)) at ≡ r % 256 * 256 + r / 256 ⌝ }
-{
-    bytes[at + 1] as u16 * 256 + bytes[at] as u16
-}
-
-// Four bytes as they stand.
-fn four(bytes: &[u8], at: usize) -> u32
-    requires { ⌜ at + 4 ≤ length (now bytes) ⌝ }
-    ensures { λ r. ⌜ numberAt 4 (now (bytes .entry)) at ≡ r % 256 * 16777216 + r / 256 % 256 * 65536 + r / 65536 % 256 * 256 + r / 16777216 ⌝ }
-{
-    bytes[at + 3] as u32 * 16777216
-        + bytes[at + 2] as u32 * 65536
-        + bytes[at + 1] as u32 * 256
-        + bytes[at] as u32
-}
-
-// The number in `k` bytes, two or four.
-pub fn number(bytes: &[u8], at: usize, k: usize) -> u32
-    requires { ⌜ RowBytes k × (at + k ≤ length (now bytes)) ⌝ }
-    ensures { λ r. ⌜ r ≡ numberAt k (now (bytes .entry)) at ⌝ }
-{
-    if k == 2 {
-        let low_first = two(bytes, at);
-        return (low_first % 256 * 256 + low_first / 256) as u32;
-    }
-    let low_first = four(bytes, at);
-    low_first % 256 * 16777216
-        + low_first / 256 % 256 * 65536
-        + low_first / 65536 % 256 * 256
-        + low_first / 16777216
 }
 
 // The pair of a table: a at `first` and b after it. Tested for 6, then 7 "option numbers out of range", 19 "a is not below b", 20 "the pair is not after
@@ -88,6 +55,15 @@ pub fn pair_field(bytes: &[u8], first: usize, n: usize, previous: usize) -> Read
         return Read::Refused(Cause::PairRepeated, first);
     }
     Read::Value(pair, second + 1)
+}
+
+// Whether a pair passes all of those tests.
+pub fn pair_passes(pair: usize, n: usize, previous: usize) -> bool
+    ensures { λ r. ⌜ Decides r (pairTest n previous pair ≡ fine) ⌝ }
+{
+    let a = pair / 256;
+    let b = pair % 256;
+    (0 < a) & (a < b) & (b <= n) & (previous < pair)
 }
 
 // A row of `k` bytes, against a variable of `size` values. Tested for 6, then 8 "row has a bit at or above the size of b", and then, where rows must be

@@ -4,7 +4,7 @@ mod header;
 
 pub use field::Read;
 pub use field::byte_field;
-pub use field::number;
 pub use field::pair_field;
+pub use field::pair_passes;
 pub use field::row_field;
 pub use header::wrong_length;

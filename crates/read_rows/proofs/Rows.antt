@@ -10,27 +10,27 @@ use mir.Syntax.{w8}
 use mir.Val.{Fits}
 use lib.Dec.{ltb}
 use lib.ListN.{length, getD}
-use borrow.Author.Tests.{ltb-true}
+use borrow.Author.Tests.{ltb-true, lt-ltb}
 use Rattle.bounded.specs.Bool.{or, implies}
-use Rattle.bounded.specs.Fold.{every}
+use Rattle.bounded.specs.Fold.{every, some}
 use Rattle.bounded.specs.Table.{tabulate}
-use Rattle.bounded.proofs.Bool.{machine-and, and-l, and-r, or-l, or-r, implies-e, not-true→false}
-use Rattle.bounded.proofs.Fold.{below-suc, every-e}
+use Rattle.bounded.proofs.Bool.{machine-and, clash, and-i, and-l, and-r, or-comm, implies-i, implies-e, not-true→false}
+use Rattle.bounded.proofs.Fold.{every-i, every-e, some-i, some-e, test-joins}
 use Rattle.words.specs.Word.{width, has, word}
-use Rattle.words.proofs.Laws.{has-word, within}
+use Rattle.words.proofs.Laws.{has-word, has-below, within, empty, word-cong, word-lt}
 use Rattle.pairs.specs.Frames.{RowPut}
 use Rattle.pairs.proofs.Frames.{stored-none, stored-more}
 use Rattle.cause.specs.declared.Cause.{Cause}
 use Rattle.format.specs.Layout.{Test, fine, rowTest}
-use Rattle.format.specs.Parse.{Octets, got, bad, numberAt, field, fields}
+use Rattle.format.specs.Parse.{Octets, got, bad, numberAt, field, many, fields}
 use Rattle.format.proofs.Numbers.{number-below}
-use Rattle.format.proofs.Parse.{fine-row}
+use Rattle.format.proofs.Parse.{fine-row, row-of-fine}
 use Rattle.read_field.specs.declared.field.Read.{Read}
 use Rattle.read_field.specs.declared.field.Read.the-variants.{Value, Refused}
 use Rattle.read_field.specs.Fields.{readAs, readOf}
-use Rattle.read_field.proofs.Fields.{field-got, field-fine, no-value, value-is}
+use Rattle.read_field.proofs.Fields.{FieldGot, field-got, field-fine, bind-got}
 use Rattle.read_field.proofs.Many.{prepend, prepend-none, fields-end, fields-go-on, fields-stop}
-use Rattle.read_rows.specs.Rows.{rowIn, RowsStored, RowsJoined, noneBanned, RowsWalked, RowsRead}
+use Rattle.read_rows.specs.Rows.{rowIn, RowsJoined, RowsFine, RowsTaken, RowsWalked}
 
 tabulate-more : (n : ℕ) (f : ℕ → ℕ) → tabulate (suc n) f ≡ tabulate n f ++ (f n ∷ [])
 unfolding tabulate
@@ -79,64 +79,73 @@ module _ {k : ℕ} {test : ℕ → Test} {bytes : List ℕ} {from count at a : �
   pub rows-refused : a < count → {c : Cause} {place : ℕ} → field k test bytes at ≡ bad c place
       → RowsWalked k test bytes from count (Refused c place)
   unfolding readAs
-  rows-refused l {c} {place} e =
-      record {
-        parsed = fields-stop k test bytes _ _ (count - a) at (so-far .parsed) (count - suc a) (omega arith) c place e;
-        ends = λ v next. no-value c place v next;
-      }
+  rows-refused l {c} {place} e = fields-stop k test bytes _ _ (count - a) at (so-far .parsed) (count - suc a) (omega arith) c place e
 
   pub rows-end : count ≤ a → RowsWalked k test bytes from count (Value count at)
   unfolding readAs
   rows-end h =
       let e : a ≡ count = omega (arith, so-far .within) in
-      record {
-        parsed = rw e at (fields-end k test bytes _ (tabulate a (rowIn k bytes from)) (count - a) at (so-far .parsed) (omega arith));
-        ends = λ v next. value-is (λ _ x. (x ≡ from + k * count) × (x ≤ length bytes)) count at v next (rw e at (so-far .place-is), so-far .inside);
-      }
+      rw e at (fields-end k test bytes _ (tabulate a (rowIn k bytes from)) (count - a) at (so-far .parsed) (omega arith))
+
+-- ---- parsed
+
+-- A row that was parsed, and those after it that are fine.
+pass-more : {k : ℕ} {test : ℕ → Test} {bytes : List ℕ} {from v next count : ℕ} → FieldGot k test bytes from v next
+    → RowsFine k test bytes next count → (a : ℕ) → a < suc count → test (rowIn k bytes from a) ≡ fine
+unfolding rowIn
+pass-more {k} {test} {from} g later zero m = rw (mul-zero k, let z : from + 0 ≡ from = omega arith in z) (ap test (sym (g .value)) ∙ g .passed)
+pass-more {k} {from} {next} g later (suc a) m =
+    rw (let z : from + k * suc a ≡ next + k * a = omega (arith, mul-suc k a, g .ends) in z) (later .pass a (omega arith))
+
+-- Rows that were parsed are fine, all of them.
+pub parsed-fine : (k : ℕ) (test : ℕ → Test) (bytes : List ℕ) (count from : ℕ) {xs : List ℕ} {end : ℕ} → from ≤ length bytes
+    → fields k test count bytes from ≡ got xs end → RowsFine k test bytes from count
+unfolding fields many rowIn
+parsed-fine k test bytes zero from l e = record { there = omega (arith, mul-zero k); pass = λ a m. absurd (let x : ⊥ = omega arith in x) }
+parsed-fine k test bytes (suc count) from l e =
+    bind-got e (λ v next q rest.
+    bind-got rest (λ ys last rest′ _.
+    let g = field-got q in
+    let later = parsed-fine k test bytes count next (g .inside) rest′ in
+    record {
+      there = rw (mul-suc k count) (omega (arith, later .there, g .ends));
+      pass = pass-more g later;
+    }))
 
 -- ---- all at once
 
--- Rows within the bytes that pass their test are parsed, all of them.
-module _ (k : ℕ) (test : ℕ → Test) (bytes : List ℕ) (from count : ℕ) (there : from + k * count ≤ length bytes)
-    (passes : (a : ℕ) → a < count → test (rowIn k bytes from a) ≡ fine) where
+-- Rows that are fine are parsed, all of them.
+module _ {k : ℕ} {test : ℕ → Test} {bytes : List ℕ} {from count : ℕ} (rows : RowsFine k test bytes from count) where
   row-got : (a : ℕ) → a < count → field k test bytes (from + k * a) ≡ got (rowIn k bytes from a) (from + k * suc a)
   unfolding readOf rowIn
   row-got a l =
       let e : from + k * suc a ≡ from + k * a + k = omega (arith, mul-suc k a) in
-      field-fine k test bytes (from + k * a) refl e (omega (arith, row-inside k l)) (passes a l)
+      field-fine k test bytes (from + k * a) refl e (omega (arith, row-inside k l, rows .there)) (rows .pass a l)
 
   all-so-far : (a : ℕ) → a ≤ count → RowsSoFar k test bytes from count (from + k * a) a
-  all-so-far zero l = rw (let z : from + k * 0 ≡ from = omega (arith, mul-zero k) in z) (rows-none (omega arith))
+  all-so-far zero l = rw (let z : from + k * 0 ≡ from = omega (arith, mul-zero k) in z) (rows-none (omega (arith, rows .there)))
   all-so-far (suc a) l = rw (add-one a) at (rows-more (all-so-far a (omega arith)) (omega arith) (row-got a (omega arith)))
 
-  all-got : RowsWalked k test bytes from count (Value count (from + k * count))
-  all-got = rows-end (all-so-far count (omega arith)) (omega arith)
-
--- ---- none banned
-
--- Of no rows none is all-zero.
-pub banned-none : (k : ℕ) (bytes : List ℕ) (from : ℕ) → true ≡ every 0 (λ (c : ℕ). ltb 0 (rowIn k bytes from c))
-unfolding every
-banned-none k bytes from = refl
+  pub fine-parsed : fields k test count bytes from ≡ got (tabulate count (rowIn k bytes from)) (from + k * count)
+  unfolding readAs
+  fine-parsed = rows-end (all-so-far count (omega arith)) (omega arith)
 
 -- ---- stored and joined
 
-pub joined-none : {k : ℕ} {bytes : List ℕ} {from i j : ℕ} {rows : List ℕ} → RowsJoined k bytes from i j 0 rows rows 0
-joined-none = record { stored = stored-none width; covers = λ a v l m h. absurd (let x : ⊥ = omega arith in x) }
+pub joined-none : {k : ℕ} {bytes : List ℕ} {from i j : ℕ} {rows : List ℕ} → RowsJoined k bytes from i j 0 rows rows 0 true
+unfolding some every
+joined-none = record { stored = stored-none width; union-is = sym (empty width _ (word-lt width _) (λ v l. has-word width _ v l)); filled-is = refl }
 
-pub joined-more : {k : ℕ} {bytes : List ℕ} {from i j : ℕ} {before rows after : List ℕ} {a union row union′ : ℕ}
-    → RowsJoined k bytes from i j a before rows union → row ≡ numberAt k bytes (from + k * a) → RowPut width rows after i j a row
-    → union′ ≡ word width (λ (v : ℕ). or (has union v) (has row v)) → RowsJoined k bytes from i j (a + 1) before after union′
-unfolding rowIn
-joined-more {k} {bytes} {from} {i} {j} {before} {rows} {after} {a} {union} {row} {union′} joined here put e =
-    let both : (v : ℕ) → v < width → or (has union v) (has row v) ≡ true → has union′ v ≡ true = λ v m h. rw e (has-word width _ v m ∙ h) in
-    rw (add-one a)
-    (record {
-      stored = stored-more width before rows after i j _ a row (joined .stored) put (λ b l. rw here);
-      covers = λ c v l m h. below-suc a c l
-          (λ q. both v m (or-r _ _ (rw (q, ← here) at h)))
-          (λ m′. both v m (or-l _ _ (joined .covers c v m′ m h)));
-    })
+pub joined-more : {k : ℕ} {bytes : List ℕ} {from i j : ℕ} {before rows after : List ℕ} {a union row union′ : ℕ} {filled : Bool}
+    → RowsJoined k bytes from i j a before rows union filled → row ≡ numberAt k bytes (from + k * a) → RowPut width rows after i j a row
+    → union′ ≡ word width (λ (v : ℕ). or (has union v) (has row v)) → RowsJoined k bytes from i j (a + 1) before after union′ (filled && ltb 0 row)
+unfolding rowIn some
+joined-more {i} {j} {before} {rows} {after} {a} {union} {row} joined here put e =
+    record {
+      stored = rw (add-one a) (stored-more width before rows after i j _ a row (joined .stored) put (λ b l. rw here));
+      union-is = rw (add-one a) (e ∙ word-cong width _ _ (λ v l. or-comm (has union v) (has row v) ∙ rw (here, joined .union-is) (ap (or _) (has-word width _ v l))));
+      filled-is = test-joins _ a (joined .filled-is) (ap (ltb 0) here);
+    }
 
 -- ---- all of it
 
@@ -144,47 +153,63 @@ joined-more {k} {bytes} {from} {i} {j} {before} {rows} {after} {a} {union} {row}
 pub rows-few : {k count : ℕ} → k ≤ 4 → count ≤ 32 → k * count ≤ 128
 rows-few l m = mul-le-mul l m
 
--- Rows that are cut off are walked, and one is refused.
-pub rows-cut : {k : ℕ} {test : ℕ → Test} {bytes : List ℕ} {from i j count : ℕ} {before after : List ℕ} {r : Read} → RowsWalked k test bytes from count r
-    → length bytes < from + k * count → RowsRead k test bytes from i j count before after r
-rows-cut walked h =
-    record { parsed = walked .parsed; stored = λ v next q. absurd (let x : ⊥ = omega (arith, walked .ends v next q) in x) }
+-- Rows that are cut off are not fine.
+pub rows-cut : {k : ℕ} {test : ℕ → Test} {bytes : List ℕ} {from i j count : ℕ} {before after : List ℕ} → length bytes < from + k * count
+    → RowsTaken k test bytes from i j count before after false
+rows-cut h = record { told = (λ t. clash t refl, λ _ rows. omega (arith, rows .there)); stored = λ t. clash t refl }
 
 module _
-    {k : ℕ} {bytes : List ℕ} {from i j count : ℕ} {before after : List ℕ} {union : ℕ}
-    (joined : RowsJoined k bytes from i j count before after union)
+    {k : ℕ} {bytes : List ℕ} {from i j count : ℕ} {before after : List ℕ} {union : ℕ} {filled : Bool}
+    (joined : RowsJoined k bytes from i j count before after union filled) (octets : Octets bytes) (few : k ≤ 4) (there : from + k * count ≤ length bytes)
   where
-    -- A union within the size has every row within it.
-    union-within : (size : ℕ) → Octets bytes → k ≤ 4 → every width (λ (v : ℕ). implies (has union v) (ltb v size)) ≡ true
-        → (a : ℕ) → a < count → rowIn k bytes from a < 2 ^ size
+    row-below : (a : ℕ) → rowIn k bytes from a < 2 ^ width
     unfolding rowIn
-    union-within size octets few t a l =
-        within width (rowIn k bytes from a) size
-        (omega (arith, number-below bytes octets k (from + k * a), pow-le-pow-right {n = 256} (omega arith) few))
+    row-below a = omega (arith, number-below bytes octets k (from + k * a), pow-le-pow-right {n = 256} (omega arith) few)
+
+    -- What a row has, the union has.
+    row-in-union : (a v : ℕ) → a < count → v < width → has (rowIn k bytes from a) v ≡ true → has union v ≡ true
+    row-in-union a v l m h = rw (joined .union-is) (has-word width _ v m ∙ some-i count _ a l h)
+
+    -- A union within the size is that every row is.
+    rows-within : (size : ℕ) → every width (λ (v : ℕ). implies (has union v) (ltb v size)) ≡ true → (a : ℕ) → a < count → rowIn k bytes from a < 2 ^ size
+    rows-within size t a l =
+        within width (rowIn k bytes from a) size (row-below a)
         (λ v m n. not-true→false _ (λ h.
-        let x : ⊥ = omega (arith, ltb-true v size (implies-e _ _ (every-e width _ t v n) (joined .covers a v l n h))) in x))
+        let x : ⊥ = omega (arith, ltb-true v size (implies-e _ _ (every-e width _ t v n) (row-in-union a v l n h))) in x))
 
-    -- So where the union is, and no row is banned, every row passes its test.
-    rows-pass : (filled : Bool) (size : ℕ) → Octets bytes → k ≤ 4 → every width (λ (v : ℕ). implies (has union v) (ltb v size)) ≡ true
-        → noneBanned filled k bytes from count ≡ true → (a : ℕ) → a < count → rowTest filled size (rowIn k bytes from a) ≡ fine
-    unfolding noneBanned
-    rows-pass filled size octets few t none a l =
-        fine-row filled size _ (union-within size octets few t a l) (λ f. ltb-true 0 _ (every-e count _ (implies-e _ _ none f) a l))
+    union-within : (size : ℕ) → ((a : ℕ) → a < count → rowIn k bytes from a < 2 ^ size) → every width (λ (v : ℕ). implies (has union v) (ltb v size)) ≡ true
+    union-within size h =
+        every-i width _ (λ v l. implies-i _ _ (λ m.
+        some-e count _ (sym (has-word width _ v l) ∙ rw (joined .union-is) at m) (λ a below q. lt-ltb v size (has-below size _ v q (h a below)))))
 
-    pub rows-at-once : (filled : Bool) (size : ℕ) {within none : Bool} → ((a : ℕ) → Fits w8 (getD bytes a 0)) → k ≤ 4 → from + k * count ≤ length bytes
-        → within ≡ every width (λ (v : ℕ). implies (has union v) (ltb v size)) → none ≡ noneBanned filled k bytes from count
-        → within && none ≡ true
-        → RowsRead k (rowTest filled size) bytes from i j count before after (Value count (from + k * count))
-    rows-at-once filled size known few there w n both =
-        let b = sym (machine-and _ _) ∙ both in
-        record {
-          parsed = all-got k (rowTest filled size) bytes from count there
-              (rows-pass filled size (λ a. omega (arith, known a)) few (sym w ∙ and-l _ _ b) (sym n ∙ and-r _ _ b)) .parsed;
-          stored =
-              λ v next. value-is (λ _ x. (x ≤ length bytes) × RowsStored k bytes from i j count before after)
-              count (from + k * count) v next (there, joined .stored);
-        }
+    module _ (size : ℕ) {inside : Bool} (is : inside ≡ every width (λ (v : ℕ). implies (has union v) (ltb v size))) where
+      -- Where rows may be all-zero the union decides.
+      pub union-decides : RowsTaken k (rowTest false size) bytes from i j count before after inside
+      union-decides =
+          record {
+            told = (
+              λ t. record { there = there; pass = λ a l. fine-row false size _ (rows-within size (sym is ∙ t) a l) (λ f. clash f refl) },
+              λ f rows. clash (is ∙ union-within size (λ a l. row-of-fine false size _ (rows .pass a l) .0)) f,
+            );
+            stored = λ t. joined .stored;
+          }
 
-    -- Rows of which one is refused are walked too; that they stand in the array is of no use then.
-    pub rows-walked : {test : ℕ → Test} {r : Read} → RowsWalked k test bytes from count r → RowsRead k test bytes from i j count before after r
-    rows-walked walked = record { parsed = walked .parsed; stored = λ v next q. (walked .ends v next q .1, joined .stored) }
+      -- Where they must be filled, that and whether none is all-zero.
+      pub both-decide : RowsTaken k (rowTest true size) bytes from i j count before after (inside && filled)
+      both-decide =
+          record {
+            told = (
+              λ t. let b = sym (machine-and _ _) ∙ t in
+                  record {
+                    there = there;
+                    pass = λ a l. fine-row true size _ (rows-within size (sym is ∙ and-l _ _ b) a l)
+                        (λ f. ltb-true 0 _ (every-e count _ (sym (joined .filled-is) ∙ and-r _ _ b) a l));
+                  },
+              λ f rows. clash
+                  (machine-and _ _ ∙ and-i _ _
+                  (is ∙ union-within size (λ a l. row-of-fine true size _ (rows .pass a l) .0))
+                  (joined .filled-is ∙ every-i count _ (λ a l. lt-ltb 0 _ (row-of-fine true size _ (rows .pass a l) .1 refl))))
+                  f,
+            );
+            stored = λ t. joined .stored;
+          }

@@ -5,15 +5,13 @@ use mathlib.Core.Path.{_≡_}
 use Prim.Native.Nat.{ℕ, _+_, _*_, _≤_, _<_}
 use lib.Dec.{ltb}
 use lib.ListN.{length}
-use Rattle.bounded.specs.Bool.{implies}
-use Rattle.bounded.specs.Fold.{every}
+use Rattle.bounded.specs.Fold.{every, some}
 use Rattle.bounded.specs.Table.{tabulate}
-use Rattle.words.specs.Word.{width, has}
+use Rattle.words.specs.Word.{width, has, word}
 use Rattle.pairs.specs.Frames.{Stored}
 use Rattle.read_field.specs.declared.field.Read.{Read}
-use Rattle.read_field.specs.declared.field.Read.the-variants.{Value}
-use Rattle.read_field.specs.Fields.{readAs}
-use Rattle.format.specs.Layout.{Test}
+use Rattle.read_field.specs.Fields.{readAs, Decides}
+use Rattle.format.specs.Layout.{Test, fine}
 use Rattle.format.specs.Parse.{numberAt, fields}
 
 -- The row of value a, the first row standing at a place and each having k bytes.
@@ -24,21 +22,22 @@ rowIn k bytes from a = numberAt k bytes (from + k * a)
 abbrev pub RowsStored : ℕ → List ℕ → ℕ → ℕ → ℕ → ℕ → List ℕ → List ℕ → Type 0
 RowsStored k bytes from i j count before after = Stored width before after i j (λ (a b : ℕ). has (rowIn k bytes from a) b) count
 
--- They were stored, and the union has what each of them has.
-pub record RowsJoined (k : ℕ) (bytes : List ℕ) (from i j count : ℕ) (before after : List ℕ) (union : ℕ) : Type 0 where
+-- They were stored; the union is what they have together, and filled says whether none is all-zero.
+pub record RowsJoined (k : ℕ) (bytes : List ℕ) (from i j count : ℕ) (before after : List ℕ) (union : ℕ) (filled : Bool) : Type 0 where
   pub stored : RowsStored k bytes from i j count before after
-  pub covers : (a v : ℕ) → a < count → v < width → has (rowIn k bytes from a) v ≡ true → has union v ≡ true
+  pub union-is : union ≡ word width (λ (v : ℕ). some count (λ (a : ℕ). has (rowIn k bytes from a) v))
+  pub filled-is : filled ≡ every count (λ (a : ℕ). ltb 0 (rowIn k bytes from a))
 
--- Where rows must be filled, none of those below count is all-zero.
-unfoldable pub noneBanned : Bool → ℕ → List ℕ → ℕ → ℕ → Bool
-noneBanned filled k bytes from count = implies filled (every count (λ (a : ℕ). ltb 0 (rowIn k bytes from a)))
+-- All rows are there, and each passes its test.
+pub record RowsFine (k : ℕ) (test : ℕ → Test) (bytes : List ℕ) (from count : ℕ) : Type 0 where
+  pub there : from + k * count ≤ length bytes
+  pub pass : (a : ℕ) → a < count → test (rowIn k bytes from a) ≡ fine
 
--- The rows parsed, by a row test, are those in the bytes; where none is refused, they end where the last one does, within the bytes.
-pub record RowsWalked (k : ℕ) (test : ℕ → Test) (bytes : List ℕ) (from count : ℕ) (r : Read) : Type 0 where
-  pub parsed : fields k test count bytes from ≡ readAs r (tabulate count (rowIn k bytes from))
-  pub ends : (v next : ℕ) → r ≡ Value v next → (next ≡ from + k * count) × (next ≤ length bytes)
+-- Whether they are fine; where they are, they are stored.
+pub record RowsTaken (k : ℕ) (test : ℕ → Test) (bytes : List ℕ) (from i j count : ℕ) (before after : List ℕ) (r : Bool) : Type 0 where
+  pub told : Decides r (RowsFine k test bytes from count)
+  pub stored : r ≡ true → RowsStored k bytes from i j count before after
 
--- The rows parsed are those in the bytes; where none is refused, they are stored, and end within the bytes.
-pub record RowsRead (k : ℕ) (test : ℕ → Test) (bytes : List ℕ) (from i j count : ℕ) (before after : List ℕ) (r : Read) : Type 0 where
-  pub parsed : fields k test count bytes from ≡ readAs r (tabulate count (rowIn k bytes from))
-  pub stored : (v next : ℕ) → r ≡ Value v next → (next ≤ length bytes) × RowsStored k bytes from i j count before after
+-- The rows parsed, by a row test, are those in the bytes.
+abbrev pub RowsWalked : ℕ → (ℕ → Test) → List ℕ → ℕ → ℕ → Read → Type 0
+RowsWalked k test bytes from count r = fields k test count bytes from ≡ readAs r (tabulate count (rowIn k bytes from))

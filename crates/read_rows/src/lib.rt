@@ -6,12 +6,18 @@ ghost use lib.ListN.{length};
 ghost use Rattle.words.specs.Word.{width};
 ghost use Rattle.pairs.specs.Pairs.{variables};
 ghost use Rattle.format.specs.Layout.{rowTest};
-ghost use Rattle.read_field.specs.Fields.{RowBytes};
-ghost use Rattle.read_rows.specs.Rows.{RowsJoined, noneBanned, RowsWalked, RowsRead};
+ghost use Rattle.read_number.specs.Bytes.{RowBytes};
+ghost use Rattle.read_rows.specs.Rows.{RowsJoined, RowsTaken, RowsWalked};
 use pairs::Rows;
 use read_field::Read;
 
-// Stores all rows, whatever they are; what they have together.
+// What rows have together, and whether none of them is all-zero.
+struct Joined {
+    union: u32,
+    filled: bool,
+}
+
+// Stores all rows, whatever they are, and joins them.
 fn store_rows(
     bytes: &[u8],
     from: usize,
@@ -20,37 +26,78 @@ fn store_rows(
     j: usize,
     count: usize,
     rows: &mut Rows,
-) -> u32
+) -> Joined
     requires { ⌜ (from + k * count ≤ length (now bytes)) × RowBytes k × (i < j) × (j < variables) × (count ≤ width) × (length (now rows) ≡ 3840) ⌝ }
-    ensures { λ r. ⌜ RowsJoined k (now (bytes .entry)) from i j count (now (rows .entry)) (now (rows .exit)) r ⌝ }
+    ensures { λ r. ⌜ RowsJoined k (now (bytes .entry)) from i j count (now (rows .entry)) (now (rows .exit)) (r .union) (r .filled) ⌝ }
 {
     let mut union: u32 = 0;
+    let mut filled = true;
     for a in 0..count {
-        let row = read_field::number(bytes, from + k * a, k);
+        let row = read_number::number(bytes, from + k * a, k);
         pairs::put_row(rows, i, j, a, row);
         union = words::either(union, row);
+        filled = filled & (0 < row);
     }
-    union
+    Joined { union, filled }
 }
 
-// Where rows must be `filled`, whether none is all-zero; where they need not be, no row is looked at.
-fn none_banned(bytes: &[u8], from: usize, k: usize, count: usize, filled: bool) -> bool
-    requires { ⌜ (from + k * count ≤ length (now bytes)) × RowBytes k ⌝ }
-    ensures { λ r. ⌜ r ≡ noneBanned filled k (now (bytes .entry)) from count ⌝ }
+// The same. Where the bytes of a row are a constant the compiler reads several rows at once.
+fn join_rows(
+    bytes: &[u8],
+    from: usize,
+    k: usize,
+    i: usize,
+    j: usize,
+    count: usize,
+    rows: &mut Rows,
+) -> Joined
+    requires { ⌜ (from + k * count ≤ length (now bytes)) × RowBytes k × (i < j) × (j < variables) × (count ≤ width) × (length (now rows) ≡ 3840) ⌝ }
+    ensures { λ r. ⌜ RowsJoined k (now (bytes .entry)) from i j count (now (rows .entry)) (now (rows .exit)) (r .union) (r .filled) ⌝ }
 {
-    if !filled {
-        return true;
+    if k == 2 {
+        return store_rows(bytes, from, 2, i, j, count, rows);
     }
-    let mut none = true;
-    for a in 0..count {
-        let row = read_field::number(bytes, from + k * a, k);
-        none = none & (0 < row);
-    }
-    none
+    store_rows(bytes, from, 4, i, j, count, rows)
 }
 
-// The rows one by one, up to the first that is refused.
-fn walk_rows(bytes: &[u8], from: usize, k: usize, count: usize, size: usize, filled: bool) -> Read
+// One test of their length, one of their union and, where rows must be `filled`, one for all-zero rows decide whether all rows are fine. They are stored
+// whatever they are.
+pub fn take_rows(
+    bytes: &[u8],
+    from: usize,
+    k: usize,
+    i: usize,
+    j: usize,
+    count: usize,
+    size: usize,
+    filled: bool,
+    rows: &mut Rows,
+) -> bool
+    requires { ⌜ (from ≤ length (now bytes)) × RowBytes k × (i < j) × (j < variables) × (count ≤ width) × (size ≤ width) × (length (now rows) ≡ 3840) ⌝ }
+    ensures { λ r. ⌜ RowsTaken k (rowTest filled size) (now (bytes .entry)) from i j count (now (rows .entry)) (now (rows .exit)) r ⌝ }
+{
+    let end = from + k * count;
+    if bytes.len() < end {
+        return false;
+    }
+    // whether a row is all-zero is not found out where nobody asks
+    if filled {
+        let joined = join_rows(bytes, from, k, i, j, count, rows);
+        return words::within(joined.union, size) & joined.filled;
+    }
+    let joined = join_rows(bytes, from, k, i, j, count, rows);
+    words::within(joined.union, size)
+}
+
+// The rows one by one, up to the first that is refused: which it is, and where.
+pub fn walk_rows(
+    bytes: &[u8],
+    from: usize,
+    k: usize,
+    count: usize,
+    size: usize,
+    filled: bool,
+) -> Read
     requires { ⌜ (from ≤ length (now bytes)) × RowBytes k × (size ≤ width) ⌝ }
     ensures { λ r. ⌜ RowsWalked k (rowTest filled size) (now (bytes .entry)) from count r ⌝ }
 {
@@ -63,36 +110,4 @@ fn walk_rows(bytes: &[u8], from: usize, k: usize, count: usize, size: usize, fil
         at = next;
     }
     Read::Value(count, at)
-}
-
-// One test of their length, one of their union and one for all-zero rows decide all rows. Only where one fails are they walked, to find the row that is
-// refused and its place.
-pub fn read_rows(
-    bytes: &[u8],
-    from: usize,
-    k: usize,
-    i: usize,
-    j: usize,
-    count: usize,
-    size: usize,
-    filled: bool,
-    rows: &mut Rows,
-) -> Read
-    requires { ⌜ (from ≤ length (now bytes)) × RowBytes k × (i < j) × (j < variables) × (count ≤ width) × (size ≤ width) × (length (now rows) ≡ 3840) ⌝ }
-    ensures { λ r. ⌜ RowsRead k (rowTest filled size) (now (bytes .entry)) from i j count (now (rows .entry)) (now (rows .exit)) r ⌝ }
-{
-    let end = from + k * count;
-    if bytes.len() < end {
-        return walk_rows(bytes, from, k, count, size, filled);
-    }
-    // where the bytes of a row are a constant the compiler reads several rows at once
-    let union = if k == 2 {
-        store_rows(bytes, from, 2, i, j, count, rows)
-    } else {
-        store_rows(bytes, from, 4, i, j, count, rows)
-    };
-    if words::within(union, size) & none_banned(bytes, from, k, count, filled) {
-        return Read::Value(count, end);
-    }
-    walk_rows(bytes, from, k, count, size, filled)
 }

@@ -1,4 +1,2 @@
 pub mod SizesLoop
-pub mod Held
-pub mod TablesLoop
 pub mod Reading

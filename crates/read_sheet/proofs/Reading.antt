@@ -27,9 +27,10 @@ use Rattle.format.specs.Parse.{Parse, got, bad, bind, field, fields, parseTable
 use Rattle.format.proofs.Layouts.{other-unknown}
 use Rattle.format.proofs.Parse.{length-fits, parse-wrong-length, parse-wrong-version, parse-is-body}
 use Rattle.read_field.specs.Fields.{readAs, rangeTest}
-use Rattle.read_sheet.specs.Reading.{RowsIn, Sized, SizesRead, Held, TablesRead, Holds, SheetRead}
+use Rattle.read_tables.specs.Tables.{RowsIn, Sized, Held, TablesRead}
+use Rattle.read_tables.proofs.TablesLoop.{taken-length}
+use Rattle.read_sheet.specs.Reading.{SizesRead, Holds, SheetRead}
 use Rattle.read_field.proofs.Fields.{field-got, count-range, constraints-range, range-passed, as-got, as-bad, no-value, value-is}
-use Rattle.read_sheet.proofs.TablesLoop.{taken-length}
 
 -- ---- the arrays hold the sheet
 

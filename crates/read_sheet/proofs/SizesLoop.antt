@@ -7,10 +7,11 @@ use native.Mathlib.Omega.{arith}
 use mir.Syntax.{w8}
 use mir.Val.{Fits}
 use lib.Dec.{eqb}
-use lib.ListN.{length, getD, set, take, replicate, length-replicate, length-set}
+use lib.ListN.{length, getD, set, take, replicate, length-set}
 use lib.Seq.{take-suc-set}
 use borrow.Author.Tests.{eqb-true, eqb-false}
 use Rattle.bounded.proofs.Bool.{by-cases, if-true, if-false}
+use Rattle.bounded.proofs.Fill.{zeros-at, zeros-length}
 use Rattle.bounded.proofs.Table.{getD-set}
 use Rattle.words.specs.Word.{width}
 use Rattle.pairs.specs.Pairs.{variables}
@@ -20,7 +21,8 @@ use Rattle.read_field.specs.declared.field.Read.the-variants.{Value, Refused}
 use Rattle.format.specs.Layout.{sizeTest}
 use Rattle.format.specs.Parse.{got, bad, field, fields}
 use Rattle.read_field.specs.Fields.{readAs, rangeTest}
-use Rattle.read_sheet.specs.Reading.{Sized, SizesRead}
+use Rattle.read_tables.specs.Tables.{Sized}
+use Rattle.read_sheet.specs.Reading.{SizesRead}
 use Rattle.read_field.proofs.Fields.{field-got, size-range, range-passed}
 use Rattle.read_field.proofs.Many.{prepend, prepend-none, fields-end, fields-go-on, fields-stop}
 
@@ -29,18 +31,6 @@ pub record SizesSoFar (bytes : List ℕ) (n most : ℕ) (sizes : List ℕ) (at i
   pub within : i ≤ n
   pub parsed : fields 1 (sizeTest most) n bytes 4 ≡ prepend (take i sizes) (fields 1 (sizeTest most) (n - i) bytes at)
   pub sized : Sized i sizes
-
--- An array of zeros; its length is an argument, so that no list is written out.
-getD-zeros : (n k : ℕ) → getD {A = ℕ} (replicate n 0) k 0 ≡ 0
-getD-zeros zero k = refl
-getD-zeros (suc n) zero = refl
-getD-zeros (suc n) (suc k) = getD-zeros n k
-
-pub zeros-at : (n : ℕ) (l : List ℕ) → l ≡ replicate n 0 → (k : ℕ) → getD l k 0 ≡ 0
-zeros-at n l e k = ap (λ x. getD x k 0) e ∙ getD-zeros n k
-
-pub zeros-length : (n : ℕ) (l : List ℕ) → l ≡ replicate n 0 → length l ≡ n
-zeros-length n l e = ap length e ∙ length-replicate {A = ℕ} n 0
 
 pub sizes-none : (bytes : List ℕ) (n most : ℕ) (sizes : List ℕ) → sizes ≡ replicate variables 0 → SizesSoFar bytes n most sizes 4 0
 sizes-none bytes n most sizes e =

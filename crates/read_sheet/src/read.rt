@@ -6,10 +6,10 @@ ghost use Rattle.words.specs.Word.{width};
 ghost use Rattle.pairs.specs.Pairs.{variables};
 ghost use Rattle.format.specs.Layout.{Layout};
 ghost use Rattle.format.specs.Parse.{parseBody, parse};
-ghost use Rattle.read_field.specs.Fields.{RowBytes};
-ghost use Rattle.read_sheet.specs.Reading.{RowsIn, SheetRead};
+ghost use Rattle.read_number.specs.Bytes.{RowBytes};
+ghost use Rattle.read_tables.specs.Tables.{RowsIn};
+ghost use Rattle.read_sheet.specs.Reading.{SheetRead};
 use crate::sizes;
-use crate::tables;
 use cause::Cause;
 use pairs::Rows;
 use pairs::VARIABLES;
@@ -48,7 +48,7 @@ fn read_body(
     let Read::Value(p, first) = constraints else {
         return constraints;
     };
-    let all = tables::read_tables(bytes, first, k, filled, n, p, sizes, stated, rows);
+    let all = read_tables::read_tables(bytes, first, k, filled, n, p, sizes, stated, rows);
     let Read::Value(_, end) = all else {
         return all;
     };

@@ -22,13 +22,13 @@ pub struct ReadParts {
     pub head: Head,
 }
 
-// Full domains: all values below each size.
-fn full_domains(sizes: [u8; VARIABLES]) -> [u32; VARIABLES]
-    requires { ⌜ ((i : ℕ) → getD sizes i 0 ≤ width) ⌝ }
+// Full domains: all values below each size. Sizes past `n` are 0, and none has a value there.
+fn full_domains(n: usize, sizes: [u8; VARIABLES]) -> [u32; VARIABLES]
+    requires { ⌜ (n ≤ variables) × ((i : ℕ) → getD sizes i 0 ≤ width) × ((i : ℕ) → n ≤ i → getD sizes i 0 ≡ 0) ⌝ }
     ensures { λ r. ⌜ r ≡ tabulate variables (λ (i : ℕ). word width (λ (a : ℕ). ltb a (getD sizes i 0))) ⌝ }
 {
     let mut domains = [0u32; VARIABLES];
-    for i in 0..VARIABLES {
+    for i in 0..n {
         domains[i] = words::full(sizes[i] as usize);
     }
     domains
@@ -61,7 +61,7 @@ pub fn read_parts(bytes: &[u8], rows: &mut Rows) -> ReadParts
     let mut stated = [0u32; VARIABLES];
     match read_sheet::read_into(bytes, &mut sizes, &mut stated, rows) {
         Read::Value(n, _) => {
-            let domains = full_domains(sizes);
+            let domains = full_domains(n, sizes);
             let leaders = [0u8; VARIABLES];
             let head = Head {
                 n,

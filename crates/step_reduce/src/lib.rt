@@ -22,12 +22,13 @@ pub fn reduce_sound(head: Head, rows: &mut Rows) -> Reduction
 {
     let mut cut = head;
     let mut steps: usize = 0;
+    let mut pair = next_pair(head, rows);
     loop {
-        let pair = next_pair(cut, rows);
         let Pair::Found(i, j) = pair else {
             return Reduction { head: cut, steps };
         };
         cut = step(cut, rows, i, j);
         steps += 1;
+        pair = next_pair(cut, rows);
     }
 }

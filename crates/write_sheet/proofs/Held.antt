@@ -35,9 +35,9 @@ use Rattle.format.proofs.Layouts.{found-version, other-unknown}
 use Rattle.format.proofs.Lengths.{length-rows, few-tables}
 use Rattle.format.proofs.Writable.{unknown-unfit, written-wellformed, written-most}
 use Rattle.write_sheet.specs.Writing.{bytesHeld, LengthIs}
-use Rattle.write_sheet.specs.Texts.{joined, sizesText, rowOf, rowsText, tableText, laterText, tablesText, bodyText, sheetText}
-use Rattle.write_sheet.specs.Texts.{later, tableCount, tablesLength, sheetLength}
-use Rattle.write_sheet.proofs.Texts.{collect-none, collect-snoc, table-stated, table-unstated}
+use Rattle.write_tables.specs.Texts.{joined, sizesText, rowOf, rowsText, tableText, laterText, tablesText, bodyText, sheetText}
+use Rattle.write_tables.specs.Texts.{later, tableCount, tablesLength, sheetLength}
+use Rattle.write_tables.proofs.Texts.{collect-none, collect-snoc, table-stated, table-unstated}
 
 -- ---- what is collected
 

@@ -1,4 +1,1 @@
-pub mod Texts
 pub mod Held
-pub mod Version
-pub mod Filled

@@ -11,10 +11,10 @@ use Rattle.read_rows.proofs.store_rows.Reads as reads
 use Rattle.read_rows.proofs.store_rows.Lts as lts
 
 abbrev Inv-loop : tie.InvT-loop
-Inv-loop bytes from k i j count rows₀ union₀ a₀ rows union a = (a ≤ count) × RowsJoined k bytes from i j a rows₀ rows union
+Inv-loop bytes from k i j count rows₀ union₀ filled₀ a₀ rows union filled a = (a ≤ count) × RowsJoined k bytes from i j a rows₀ rows union filled
 
 abbrev μ-loop : tie.MeasureT-loop
-μ-loop bytes from k i j count rows₀ union₀ a₀ rows union a = count - a
+μ-loop bytes from k i j count rows₀ union₀ filled₀ a₀ rows union filled a = count - a
 
 loop-holds : tie.Need-loop-holds Inv-loop μ-loop
 loop-holds c = (omega arith, joined-none)

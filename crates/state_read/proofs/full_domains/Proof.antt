@@ -1,31 +1,30 @@
 -- The loop's invariant: the domains of the variables before the `i`th stand in the array.
-use Prim.Native.Nat.{ℕ, _-_}
+use mathlib.Core.Path.{refl}
+use Prim.Native.Nat.{_-_}
+use native.Mathlib.Omega.{arith}
 use borrow.Author.Needs.{needs}
-use lib.Dec.{ltb}
-use lib.ListN.{getD}
-use Rattle.bounded.proofs.Fill.{Filled, filled-none, filled-more, filled-end}
-use Rattle.words.specs.Word.{width, word}
-use Rattle.pairs.specs.Pairs.{variables}
+use Rattle.state_read.proofs.Reading.{DomainsSoFar, domains-none, domains-more, domains-end}
 use Rattle.state_read.proofs.full_domains.Statement.{statement}
 use Rattle.state_read.proofs.full_domains.Tie as tie
 
 abbrev Inv-loop : tie.InvT-loop
-Inv-loop sizes domains₀ i₀ domains i = Filled variables (λ (k : ℕ). word width (λ (a : ℕ). ltb a (getD sizes k 0))) domains i
+Inv-loop n sizes domains₀ i₀ domains i = DomainsSoFar n sizes domains i
 
 abbrev μ-loop : tie.MeasureT-loop
-μ-loop sizes domains₀ i₀ domains i = variables - i
+μ-loop n sizes domains₀ i₀ domains i = n - i
 
 loop-holds : tie.Need-loop-holds Inv-loop μ-loop
-loop-holds c = search (filled-none, needs)
+loop-holds c = domains-none refl (c .pre .2)
 
 full-requires : tie.Need-full-requires Inv-loop μ-loop
-full-requires c κs = c .before .before .pre (c .before .loop .i)
+full-requires c κs = c .before .before .pre .1 (c .before .loop .i)
 
 loop-again : tie.Need-loop-again Inv-loop μ-loop
-loop-again c = search (filled-more, needs)
+loop-again c =
+    domains-more (c .before .before .before .pre .0) (c .before .before .loop .inv) (omega arith) (c .full .ensures)
 
 returns : tie.Need-returns Inv-loop μ-loop
-returns c = search (filled-end, needs)
+returns c = domains-end (c .before .before .pre .0) (c .before .loop .inv) (omega arith)
 
 pub full-domains-spec : {M : Type 1} → statement M
 full-domains-spec =

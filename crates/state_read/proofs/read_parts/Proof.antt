@@ -1,17 +1,19 @@
 use native.Mathlib.Omega.{arith}
 use borrow.Author.Needs.{needs}
+use Rattle.format.specs.Parse.{Octets}
 use Rattle.state_read.specs.Parts.{readPartsTold}
-use Rattle.state_read.proofs.Reading.{fullDomains, headRead, read-accepted, read-refused, read-sizes}
+use Rattle.state_read.proofs.Reading.{fullDomains, headRead, read-accepted, read-refused, read-few, read-past, read-sizes}
 use Rattle.state_read.proofs.read_parts.Statement.{statement}
 use Rattle.state_read.proofs.read_parts.Tie as tie
 
 full-domains-requires : tie.Need-full-domains-requires
-full-domains-requires c κs i =
+full-domains-requires c κs =
     let r = c .before .before .before in
-    omega (
-      arith,
-      read-sizes _ (r .read-into .ensures)
-          (λ k. omega (arith, r .before .before .before .before .shared-slice-known .given k)) (c .before .n .given .1) i,
+    let octets : Octets (r .before .before .before .before .before .args .bytes .now) =
+    λ k. omega (arith, r .before .before .before .before .shared-slice-known .given k) in (
+      read-few _ (r .read-into .ensures) octets (c .before .n .given .1),
+      λ i. omega (arith, read-sizes _ (r .read-into .ensures) octets (c .before .n .given .1) i),
+      read-past _ (r .read-into .ensures) (c .before .n .given .1),
     )
 
 returns : tie.Need-returns

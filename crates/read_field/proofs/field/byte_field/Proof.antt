@@ -3,7 +3,7 @@ use mathlib.Core.Path.{refl}
 use borrow.Author.Needs.{needs}
 use native.Mathlib.Omega.{arith}
 use Rattle.read_field.proofs.Fields.{field-cut, field-fault, field-fine, range-fault, range-fine}
-use Rattle.read_field.proofs.Numbers.{byte-fits, number-one}
+use Rattle.read_number.proofs.Numbers.{byte-fits, number-one}
 use Rattle.read_field.proofs.field.byte_field.Statement.{statement}
 use Rattle.read_field.proofs.field.byte_field.Tie as tie
 

@@ -12,27 +12,29 @@ put-refusal-requires : tie.Need-put-refusal-requires
 put-refusal-requires c κs =
     let t = c .before .before .before in
     let s = t .before .before in
-    omega (arith, rw (refused-text (s .args .cut) _ (t .enum-told2 .given .1) (c .before .read-number .ensures) (c .read-place .ensures)) at (text-fits _ (s .pre [])))
+    rw (s .pre .0)
+    (omega (arith, rw (refused-text (s .args .cut) _ (t .enum-told2 .given .1) (c .before .read-number .ensures) (c .read-place .ensures)) at (text-fits _ (s .pre .1 []))))
 
 returns : tie.Need-returns
 returns c = λ rows.
-    let p = c .before .before in
+    let p = c .before in
     let t = p .before .before .before in
     let s = t .before .before in
-    rw (refused-text (s .args .cut) _ (t .enum-told2 .given .1) (p .before .read-number .ensures) (p .read-place .ensures)) (printed 512 (c .before .put-refusal .ensures))
+    rw (refused-text (s .args .cut) _ (t .enum-told2 .given .1) (p .before .read-number .ensures) (p .read-place .ensures))
+    (printed 512 (rw (s .pre .0) at (c .put-refusal .ensures)))
 
 put-cut-requires : tie.Need-put-cut-requires
 unfolding cutPartsTold
 put-cut-requires c κs =
     let t = c .before .before .before .before .before .before .before .before in
     let s = t .before .before in
-    (s .pre [] .options-le, omega (arith, rw (accepted-text (s .args .cut) _ (t .enum-told .given .1)) at (text-fits _ (s .pre []))))
+    (s .pre .1 [] .options-le, rw (s .pre .0) (omega (arith, rw (accepted-text (s .args .cut) _ (t .enum-told .given .1)) at (text-fits _ (s .pre .1 [])))))
 
 returns-2 : tie.Need-returns-2
 returns-2 c = λ rows.
-    let t = c .before .before .before .before .before .before .before .before .before .before in
+    let t = c .before .before .before .before .before .before .before .before .before in
     let s = t .before .before in
-    rw (accepted-text (s .args .cut) _ (t .enum-told .given .1)) (printed 512 (c .before .put-cut .ensures))
+    rw (accepted-text (s .args .cut) _ (t .enum-told .given .1)) (printed 512 (rw (s .pre .0) at (c .put-cut .ensures)))
 
 pub written-spec : {M : Type 1} → statement M
 written-spec =
@@ -40,11 +42,9 @@ written-spec =
     (tie.spec
     (λ c. search needs)
     (λ c. search needs)
-    (λ c. search needs)
     (λ c κs. search needs)
     (λ c κs. search needs)
     put-refusal-requires
     returns
-    (λ c. search needs)
     put-cut-requires
     returns-2)

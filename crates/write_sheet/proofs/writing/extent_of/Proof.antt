@@ -4,7 +4,7 @@ use Prim.Native.Nat.{ℕ, _+_, _-_, _*_, _≤_}
 use native.Mathlib.Omega.{arith}
 use lib.ListN.{getD}
 use borrow.Author.Needs.{needs}
-use Rattle.write_sheet.specs.Texts.{tableCount, tablesLength, sheetLength}
+use Rattle.write_tables.specs.Texts.{tableCount, tablesLength, sheetLength}
 use Rattle.write_sheet.proofs.Held.{count-none, count-more, bytes-none, bytes-more, length-held}
 use Rattle.write_sheet.proofs.writing.extent_of.Statement.{statement}
 use Rattle.write_sheet.proofs.writing.extent_of.Tie as tie

@@ -9,9 +9,9 @@ use Rattle.pairs.specs.Pairs.{variables}
 use Rattle.head.proofs.Held.{HeadShaped, shape, held-n, held-size}
 use Rattle.format.specs.Print.{bytesOf}
 use Rattle.write_sheet.specs.Writing.{bytesHeld}
-use Rattle.write_sheet.specs.Texts.{rowOf, sizesText, tablesText, bodyText, sheetText}
-use Rattle.write_sheet.proofs.Held.{version-byte, sound-most, sound-count, sound-text, sheet-parts, body-parts, wrote-sheet}
-use Rattle.write_sheet.proofs.Texts.{wrote-whole}
+use Rattle.write_tables.specs.Texts.{rowOf, sizesText, tablesText, bodyText, sheetText}
+use Rattle.write_sheet.proofs.Held.{version-byte, stated-below, sound-most, sound-count, sound-text, sheet-parts, body-parts, wrote-sheet}
+use Rattle.write_tables.proofs.Texts.{wrote-whole}
 use Rattle.write_sheet.proofs.writing.write_into.Statement.{statement}
 use Rattle.write_sheet.proofs.writing.write_into.Tie as tie
 
@@ -99,7 +99,8 @@ write-tables-requires c κs =
     let header = headed (sizes .before) in
     let f = fixed header in
     let small : (i : ℕ) → getD (start f .args .t1 .sizes) i 0 ≤ width = λ i. omega (arith, held-size _ _ (shaped (start f)) (start f .pre .0 .0) i) in
-    search (needs, bytes f, f .fixed-by .ensures, header .write-header .ensures, sizes .write-sizes .ensures, byte .put-byte .ensures)
+    let below = stated-below _ (shaped (start f)) (start f .pre .0 .0) in
+    search (needs, below, bytes f, f .fixed-by .ensures, header .write-header .ensures, sizes .write-sizes .ensures, byte .put-byte .ensures)
 
 returns : tie.Need-returns
 returns c =

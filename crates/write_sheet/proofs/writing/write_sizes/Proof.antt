@@ -6,8 +6,8 @@ use native.Mathlib.Omega.{arith}
 use lib.ListN.{getD}
 use borrow.Author.Needs.{needs}
 use Rattle.buffers.specs.Wrote.{Wrote}
-use Rattle.write_sheet.specs.Texts.{joined, sizesText}
-use Rattle.write_sheet.proofs.Texts.{wrote-start, wrote-room, wrote-next}
+use Rattle.write_tables.specs.Texts.{joined, sizesText}
+use Rattle.write_tables.proofs.Texts.{wrote-start, wrote-room, wrote-next}
 use Rattle.write_sheet.proofs.writing.write_sizes.Statement.{statement}
 use Rattle.write_sheet.proofs.writing.write_sizes.Tie as tie
 

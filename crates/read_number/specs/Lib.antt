@@ -1,0 +1,2 @@
+-- How many bytes a number may have.
+pub mod Bytes

@@ -1,0 +1,2 @@
+-- What the functions that read tables do.
+pub mod Tables

@@ -1,0 +1,2 @@
+-- The parts of a text.
+pub mod Texts

@@ -1,0 +1,3 @@
+-- What a version fixes for the writer, and which rows it takes.
+pub mod Filled
+pub mod Version
