@@ -69,10 +69,13 @@ static bool all_zero(const uint8_t *bytes, size_t length) {
     return length == 0;
 }
 
-static bool is_text(const struct sheet_text_answer *answer, const char *text) {
-    size_t length = strlen(text);
-    return answer->length == length && memcmp(answer->bytes, text, length) == 0 &&
-           all_zero(answer->bytes + length, sizeof answer->bytes - length);
+/* The library prints this text for the bytes, whatever the array held. */
+static bool prints(const uint8_t *bytes, size_t length, const char *expected) {
+    uint8_t text[SHEET_TEXT_BYTES];
+    size_t all = strlen(expected);
+    memset(text, 0xff, sizeof text);
+    return sheet_text(bytes, length, text) == all && memcmp(text, expected, all) == 0 &&
+           all_zero(text + all, sizeof text - all);
 }
 
 /* Reading, cutting and the text of bytes that are refused with this number at this place. */
@@ -86,8 +89,7 @@ static void refused_bytes(const uint8_t *bytes, size_t length, int number, size_
     struct sheet_cut_answer cut = sheet_cut(bytes, length, &state);
     CHECK(cut.number == number && cut.place == place && same(&state, &zero));
     CHECK(cut.steps == 0 && cut.kind == SHEET_NO_VERDICT && all_zero(cut.build, sizeof cut.build));
-    struct sheet_text_answer printed = sheet_text(bytes, length);
-    CHECK(is_text(&printed, text));
+    CHECK(prints(bytes, length, text));
 }
 
 /* Each cause of reading: one byte of case A is wrong, or two for 20, its first pair in the place of its second. */
@@ -105,8 +107,7 @@ static void check_bytes(void) {
     struct sheet_cut_answer cut = sheet_cut(CASE_A, LENGTH_A, &state);
     CHECK(cut.number == SHEET_NOT_REFUSED && cut.place == 0 && cut.steps == 2 && same(&state, &reduced));
     CHECK(cut.kind == SHEET_BUILT && cut.build[2] == 1 && all_zero(cut.build, 2) && all_zero(cut.build + 3, 13));
-    struct sheet_text_answer printed = sheet_text(CASE_A, LENGTH_A);
-    CHECK(is_text(&printed, TEXT_A));
+    CHECK(prints(CASE_A, LENGTH_A, TEXT_A));
     for (size_t k = 0; k < sizeof wrongs / sizeof *wrongs; k++) {
         uint8_t bytes[LENGTH_A];
         memcpy(bytes, CASE_A, LENGTH_A);
@@ -460,7 +461,10 @@ static void complete_it(void) { memset(bytes, 0, 3), sheet_complete(&reduced, by
 static void verdict_it(void) { bytes[0] = sheet_verdict(&reduced).kind; }
 static void search_it(void) { bytes[0] = sheet_search(&deep).kind; }
 static void cut_it(void) { sheet_cut(CASE_A, LENGTH_A, &held); }
-static void text_it(void) { bytes[0] = (uint8_t)sheet_text(CASE_A, LENGTH_A).length; }
+static void text_it(void) {
+    static uint8_t text[SHEET_TEXT_BYTES];
+    bytes[0] = (uint8_t)sheet_text(CASE_A, LENGTH_A, text);
+}
 
 static void run_on_own_stack(void (*call)(void)) {
     memset(stack, 0xa5, sizeof stack);

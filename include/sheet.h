@@ -39,8 +39,8 @@
 
 /* The version of these declarations: MAJOR rises where a caller has to be changed or compiled anew, MINOR where something is
  * added. The version in byte 0 of a sheet is another number. */
-#define SHEET_VERSION_MAJOR 3
-#define SHEET_VERSION_MINOR 4
+#define SHEET_VERSION_MAJOR 4
+#define SHEET_VERSION_MINOR 0
 
 #define SHEET_LARGEST_BYTES 15621 /* "The largest version 2 sheet has 15,621 bytes, which is the limit in number 1" */
 #define SHEET_MOST_OPTIONS 16    /* length of the arrays that hold something for each option */
@@ -187,12 +187,6 @@ struct sheet_cut_answer {
     size_t steps;                       /* of the reduction */
     uint8_t kind;                       /* of the verdict, with its build */
     uint8_t build[SHEET_MOST_OPTIONS];
-};
-
-/* What sheetcut prints. */
-struct sheet_text_answer {
-    size_t length;
-    uint8_t bytes[SHEET_TEXT_BYTES];  /* zero past length */
 };
 
 /* The functions of the library on the arrays of a state; each is described at the call without _parts below. */
@@ -342,8 +336,9 @@ static inline struct sheet_verdict_answer meter_fit(struct sheet_state *state) {
     return meter_fit_parts(state->n, state->sizes, state->lists, state->leaders, state->stated, state->rows);
 }
 
-/* The text that sheetcut prints for these bytes, which may be a refusal's. No numbers. */
-struct sheet_text_answer sheet_text(const uint8_t *bytes, size_t length);
+/* The text that sheetcut prints for these bytes, which may be a refusal's, is stored in `text`, with zeros past it. Answers how many
+ * bytes it has, fewer than SHEET_TEXT_BYTES. No numbers. */
+size_t sheet_text(const uint8_t *bytes, size_t length, uint8_t text[SHEET_TEXT_BYTES]);
 
 #ifdef __cplusplus
 }
@@ -384,8 +379,6 @@ SHEET_AT(sheet_cut_answer, steps, 16);
 SHEET_AT(sheet_cut_answer, kind, 24);
 SHEET_AT(sheet_cut_answer, build, 25);
 SHEET_HAS(sheet_cut_answer, 48);
-SHEET_AT(sheet_text_answer, bytes, 8);
-SHEET_HAS(sheet_text_answer, 520);
 
 #undef SHEET_HAS
 #undef SHEET_AT

@@ -1,7 +1,7 @@
 //! Compares the proved library with plain Rust: number, place, state, buffer and text of every call. `differ [SHEETS]` sets how many sheets are made.
 use bench::inputs::*;
 use bench::plain;
-use bench::proved::{self, Cause, Cut, Read, State, Text};
+use bench::proved::{self, Cause, Cut, Read, State};
 
 /// What was compared, and how the calls answered.
 struct Counts {
@@ -59,9 +59,10 @@ fn read(bytes: &[u8], before: &State, counts: &mut Counts) -> State {
     let (number, place) = plain::read(bytes, &mut there);
     counts.note(0, one.number, &(one, here), &(Read { number, place }, there));
     cut(bytes, before, counts);
-    let mut text = [1; 512];
-    let length = plain::text(bytes, &mut text);
-    counts.note(9, one.number, &proved::text(bytes), &Text { length, bytes: text });
+    let (mut mine, mut theirs) = ([1; 512], [2; 512]);
+    let printed = (proved::text(bytes, &mut mine), mine);
+    let other = (plain::text(bytes, &mut theirs), theirs);
+    counts.note(9, one.number, &printed, &other);
     here
 }
 

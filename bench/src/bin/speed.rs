@@ -137,7 +137,7 @@ const CALLS: [(&str, Start, Call, Call); 13] = [
     (
         "text",
         AS_READ,
-        |c, _, _| look(proved::text(&c.sheet.bytes)),
+        |c, _, b| look(proved::text(&c.sheet.bytes, b.first_chunk_mut().unwrap())),
         |c, _, b| look(plain::text(&c.sheet.bytes, b.first_chunk_mut().unwrap())),
     ),
     (

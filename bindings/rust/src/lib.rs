@@ -145,7 +145,7 @@ extern "C" {
         stated: &mut [u32; MOST_OPTIONS],
         rows: &mut Rows,
     ) -> Verdict;
-    fn sheet_text(bytes: *const u8, length: usize) -> Text;
+    fn sheet_text(bytes: *const u8, length: usize, text: &mut [u8; TEXT_BYTES]) -> usize;
 }
 
 // SAFETY, for every call below: the function has no `requires`, so it takes any state and any slice and keeps to what it is lent;
@@ -356,8 +356,9 @@ pub fn meter_fit(state: &mut State) -> Verdict {
     unsafe { meter_fit_parts(s.n, &s.sizes, &mut s.lists, &mut s.leaders, &mut s.stated, &mut s.rows) }
 }
 
-/// The text that sheetcut prints for these bytes, which may be a refusal's. No numbers.
+/// The text that sheetcut prints for these bytes, which may be a refusal's, is stored in `text`, with zeros past it. Answers how many
+/// bytes it has. No numbers.
 #[inline]
-pub fn text(bytes: &[u8]) -> Text {
-    unsafe { sheet_text(bytes.as_ptr(), bytes.len()) }
+pub fn text(bytes: &[u8], text: &mut [u8; TEXT_BYTES]) -> usize {
+    unsafe { sheet_text(bytes.as_ptr(), bytes.len(), text) }
 }

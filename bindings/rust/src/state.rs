@@ -129,22 +129,6 @@ pub struct Cut {
     pub build: [u8; MOST_OPTIONS],
 }
 
-/// What [`text`](crate::text) answers.
-#[repr(C)]
-#[derive(Clone, Copy, PartialEq, Eq, Debug)]
-pub struct Text {
-    pub length: usize,
-    /// Zero past `length`.
-    pub bytes: [u8; TEXT_BYTES],
-}
-
-impl Text {
-    /// The text itself.
-    pub fn as_bytes(&self) -> &[u8] {
-        &self.bytes[..self.length]
-    }
-}
-
 // the layout by which the library was compiled, as include/sheet.h has it
 const _: () = {
     assert!(offset_of!(State, sizes) == 8 && offset_of!(State, lists) == 24 && offset_of!(State, leaders) == 88);
@@ -156,5 +140,4 @@ const _: () = {
     assert!(offset_of!(Verdict, kind) == 1 && offset_of!(Verdict, build) == 2 && size_of::<Verdict>() == 18);
     assert!(offset_of!(Cut, place) == 8 && offset_of!(Cut, steps) == 16 && offset_of!(Cut, kind) == 24);
     assert!(offset_of!(Cut, build) == 25 && size_of::<Cut>() == 48);
-    assert!(offset_of!(Text, bytes) == 8 && size_of::<Text>() == 520);
 };

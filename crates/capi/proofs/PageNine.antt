@@ -11,9 +11,9 @@ use Rattle.meter.proofs.Fitted.{fitted-back}
 use Rattle.meter_parts.specs.declared.Fit.{Fit}
 use Rattle.meter_parts.specs.Parts.{fitTold}
 use Rattle.meter_parts.proofs.Fits.{fitted-same}
-use Rattle.capi_answers.specs.declared.lent.SheetStepped.{SheetStepped}
-use Rattle.capi_answers.specs.Answers.{headWith, stateWith, leftAs, Left}
-use Rattle.capi_answers.proofs.Laws.{left-as}
+use Rattle.capi_lent.specs.declared.SheetStepped.{SheetStepped}
+use Rattle.capi_lent.specs.Lent.{headWith, stateWith, leftAs, Left}
+use Rattle.capi_lent.proofs.Laws.{left-as}
 
 -- What is stored is the state told.
 pub fit-stored : {n : ℕ} {sizes lists leaders stated lists′ leaders′ stated′ rows′ : List ℕ} (rows : List ℕ) (r : Fit) {x : SheetStepped}

@@ -1,7 +1,7 @@
 // The calls that change a state where it is. A refused one stores nothing.
-use capi_answers::SheetStepped;
-use capi_answers::head_of;
-use capi_answers::left;
+use capi_lent::SheetStepped;
+use capi_lent::head_of;
+use capi_lent::left;
 use head::Rows;
 use head::VARIABLES;
 use state::add_parts;
@@ -10,7 +10,7 @@ use state::reduce_parts;
 ghost use mathlib.Core.Path.{_≡_};
 ghost use Rattle.state.specs.Steps.{stepped, reduced};
 ghost use Rattle.state.specs.Tables.{tableAdded};
-ghost use Rattle.capi_answers.specs.Answers.{stateWith, leftAs};
+ghost use Rattle.capi_lent.specs.Lent.{stateWith, leftAs};
 
 // One follow step in place, options counted from 1.
 #[no_mangle]

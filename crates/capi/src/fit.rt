@@ -1,14 +1,15 @@
 // Page nine of the flat meter on a state where it is. A refused call stores nothing.
 use capi_answers::SheetVerdict;
-use capi_answers::head_of;
-use capi_answers::left;
 use capi_answers::verdict_told;
+use capi_lent::head_of;
+use capi_lent::left;
 use head::Rows;
 use head::VARIABLES;
 use meter_parts::fit_parts;
 ghost use mathlib.Core.Path.{_≡_};
 ghost use Rattle.meter.specs.Fitted.{fitted};
-ghost use Rattle.capi_answers.specs.Answers.{stateWith, verdictOut};
+ghost use Rattle.capi_lent.specs.Lent.{stateWith};
+ghost use Rattle.capi_answers.specs.Answers.{verdictOut};
 
 // Page nine in place: the number that refuses, the kind of the verdict, and the build shown.
 #[no_mangle]

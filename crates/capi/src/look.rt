@@ -3,17 +3,18 @@ use answers::outcome_number;
 use capi_answers::SheetTested;
 use capi_answers::SheetVerdict;
 use capi_answers::SheetWritten;
-use capi_answers::head_of;
 use capi_answers::tested;
 use capi_answers::verdict_told;
 use capi_answers::written;
+use capi_lent::head_of;
 use head::Rows;
 use head::VARIABLES;
 ghost use mathlib.Core.Path.{_≡_};
 ghost use Rattle.state.specs.View.{soundState};
 ghost use Rattle.state.specs.Write.{writeSheet};
 ghost use Rattle.state.specs.Solutions.{tested, completeNumber, completedBuffer, verdictOf, searchOf};
-ghost use Rattle.capi_answers.specs.Answers.{stateWith, writtenOut, testedOut, verdictOut};
+ghost use Rattle.capi_lent.specs.Lent.{stateWith};
+ghost use Rattle.capi_answers.specs.Answers.{writtenOut, testedOut, verdictOut};
 
 // Writes the sheet of a state in a version into the buffer.
 #[no_mangle]

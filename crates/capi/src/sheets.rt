@@ -2,9 +2,9 @@
 use capi_answers::SheetCut;
 use capi_answers::SheetRead;
 use capi_answers::cut_told;
-use capi_answers::put_head;
 use capi_answers::read_told;
-use capi_answers::zero_rows;
+use capi_lent::put_head;
+use capi_lent::zero_rows;
 use head::Rows;
 use head::VARIABLES;
 use state_cut::cut_parts;
@@ -16,14 +16,8 @@ ghost use Rattle.state.specs.Read.{readSheet};
 ghost use Rattle.state.specs.Cut.{cutSheet};
 ghost use Rattle.text_report.specs.Text.{textOf};
 ghost use Rattle.text_report.specs.Printed.{Printed};
-ghost use Rattle.capi_answers.specs.Answers.{stateWith, readOut, cutOut};
-
-// What sheetcut prints: how many bytes, and those, zero past them.
-#[repr(C)]
-pub struct SheetText {
-    pub length: usize,
-    pub bytes: [u8; LONGEST],
-}
+ghost use Rattle.capi_lent.specs.Lent.{stateWith};
+ghost use Rattle.capi_answers.specs.Answers.{readOut, cutOut};
 
 // Reads a sheet's bytes into a state, whatever that held.
 #[no_mangle]
@@ -77,15 +71,10 @@ pub extern "C" fn sheet_cut_parts(
     cut_told(outcome, cut.steps, verdict, solution)
 }
 
-// The text of sheetcut for a sheet's bytes.
+// The text of sheetcut for a sheet's bytes, into an array, whatever that held: how many bytes it has, zeros past them.
 #[no_mangle]
-pub extern "C" fn sheet_text(bytes: &[u8]) -> SheetText
-    ensures { λ r. ⌜ Printed 512 (textOf (now (bytes .entry))) (r .bytes) (r .length) ⌝ }
+pub extern "C" fn sheet_text(bytes: &[u8], text: &mut [u8; LONGEST]) -> usize
+    ensures { λ r. ⌜ Printed 512 (textOf (now (bytes .entry))) (now (text .exit)) r ⌝ }
 {
-    let mut text = [0u8; LONGEST];
-    let length = report_into(bytes, &mut text);
-    SheetText {
-        length,
-        bytes: text,
-    }
+    report_into(bytes, text)
 }

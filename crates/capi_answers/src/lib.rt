@@ -1,12 +1,6 @@
-// What the calls for C and Rust tell, and what they store. Enums do not cross, so an answer is a struct of document 01's numbers; 0 stands for "not refused".
-mod lent;
+// What the calls for C and Rust tell. Enums do not cross, so an answer is a struct of document 01's numbers; 0 stands for "not refused".
 mod told;
 
-pub use lent::SheetStepped;
-pub use lent::head_of;
-pub use lent::left;
-pub use lent::put_head;
-pub use lent::zero_rows;
 pub use told::SheetCut;
 pub use told::SheetRead;
 pub use told::SheetTested;

@@ -1,4 +1,4 @@
--- Page nine is kept: from the laws of `sheet`, with nothing of how a state is held.
+-- Page nine is kept: from the laws of `promise`, with nothing of how a state is held.
 use mathlib.Core.Bool.{Bool, true}
 use mathlib.Core.List.{List}
 use mathlib.Core.Path.{_≡_, refl, sym, ap, subst, _∙_}
@@ -14,9 +14,9 @@ use Rattle.answers.specs.Answers.{rules}
 use Rattle.state.specs.declared.state.State.{State}
 use Rattle.state.specs.View.{Shaped, soundState}
 use Rattle.state.specs.Tables.{tableAdded}
-use Rattle.sheet.specs.Promise.{lastState, buildOfSheet}
-use Rattle.sheet.specs.Laws.{buildOf, keepsToRows, HandedOn, RowsFit, StateLaws, SoundLaws, AfterLaws}
-use Rattle.sheet.proofs.Laws.{sound-laws, after-laws}
+use Rattle.promise.specs.Promise.{lastState, buildOfSheet}
+use Rattle.promise.specs.Laws.{buildOf, keepsToRows, HandedOn, RowsFit, StateLaws, SoundLaws, AfterLaws}
+use Rattle.promise.proofs.Laws.{sound-laws, after-laws}
 use Rattle.meter_rule.specs.PageNine.{goTogether, pageNine}
 use Rattle.meter.specs.Fitted.{fitRefusal, fittedState, fitted}
 use Rattle.meter.specs.Promise.{keepsPageNine, KeepsPageNine, MeterPromise, PageNineKept, SheetPromise, PageNineAfter}

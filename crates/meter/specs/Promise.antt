@@ -13,8 +13,8 @@ use Rattle.answers.specs.Answers.{rules}
 use Rattle.state.specs.declared.state.State.{State}
 use Rattle.state.specs.View.{Shaped, view, soundState}
 use Rattle.state.specs.Read.{readSheet}
-use Rattle.sheet.specs.Promise.{ruledAs, lastState, buildOfSheet}
-use Rattle.sheet.specs.Laws.{buildOf}
+use Rattle.promise.specs.Promise.{ruledAs, lastState, buildOfSheet}
+use Rattle.promise.specs.Laws.{buildOf}
 use Rattle.meter_rule.specs.PageNine.{goTogether, pageNine}
 use Rattle.meter.specs.Fitted.{fitted}
 

@@ -1,4 +1,4 @@
-// The flat meter: page nine as a layer above the sheets. It calls the public calls of `sheet`, and its proofs cite `sheet`'s laws.
+// The flat meter: page nine as a layer above the sheets. It calls the public calls of `sheet`, and its proofs cite the laws of `promise`.
 pub use meter_rule::fits;
 pub use meter_rule::page_nine;
 use sheet::Cause;

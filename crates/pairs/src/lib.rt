@@ -1,14 +1,11 @@
-// The array of rows, each pair held once: `row` and `partners` read it from either side of a pair, and `put_row` stores from the lower.
-mod read;
+// The array of rows, each pair held once: the rows of one pair where they stand, and `put_row`, which stores one.
 mod run;
 mod store;
 
-pub use read::partners;
-pub use read::partners_within;
-pub use read::row;
-pub use read::stored_row;
+pub use run::hits;
 pub use run::joined;
 pub use run::place;
+pub use run::union;
 pub use store::put_row;
 
 // How many variables there are at most.

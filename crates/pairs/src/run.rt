@@ -26,7 +26,7 @@ fn meets(x: u32, y: u32) -> bool
 }
 
 // The values whose row has a member of `set`. All rows are looked at, with no branch for any: the compiler makes vectors of it.
-pub(crate) fn hits(rows: &Rows, at: usize, set: u32) -> u32
+pub fn hits(rows: &Rows, at: usize, set: u32) -> u32
     requires { ⌜ at + width ≤ 3840 ⌝ }
     ensures { λ r. ⌜ r ≡ hitsAt width (now (rows .entry)) at set ⌝ }
 {
@@ -38,7 +38,7 @@ pub(crate) fn hits(rows: &Rows, at: usize, set: u32) -> u32
 }
 
 // What the rows of the values in `set` have together.
-pub(crate) fn union(rows: &Rows, at: usize, set: u32) -> u32
+pub fn union(rows: &Rows, at: usize, set: u32) -> u32
     requires { ⌜ at + width ≤ 3840 ⌝ }
     ensures { λ r. ⌜ r ≡ unionAt width (now (rows .entry)) at set ⌝ }
 {

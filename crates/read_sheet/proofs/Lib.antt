@@ -1,2 +1,1 @@
-pub mod SizesLoop
-pub mod Reading
+pub mod Into

@@ -2,7 +2,7 @@
 // fall. Rows are lent, and each value that is taken narrows a copy of the domains, 64 bytes, and of nothing else.
 use pairs::Rows;
 use pairs::VARIABLES;
-use pairs::stored_row;
+use pairs_read::stored_row;
 use words::both;
 use words::dropped;
 use words::lowest;

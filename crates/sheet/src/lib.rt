@@ -1,4 +1,4 @@
-// Option sheets: the public calls, and in `specs/Promise.antt` what they promise together.
+// Option sheets: the public calls, and the types of what they answer. What they promise together stands in the crate `promise`.
 pub use answers::Outcome;
 pub use answers::ReadOutcome;
 pub use answers::TestAnswer;

@@ -1,12 +1,9 @@
-// Solutions against the lent arrays of a state.
+// What the tester and the completer ask of lent arrays, and write.
 mod values;
 
 pub use values::complete_values;
-pub use values::domains_open;
-pub use values::free_apart;
 pub use values::free_variables;
-pub use values::fresh_parts;
-pub use values::lowest_solution;
+pub use values::lowest_value;
 pub use values::pairs_kept;
 pub use values::values_below;
 pub use values::values_kept;

@@ -1,5 +1,4 @@
 // Values against the lent arrays of a state: tests, completion and the lowest solution.
-use head::Head;
 use pairs::Rows;
 use pairs::VARIABLES;
 use words::WIDTH;
@@ -8,10 +7,9 @@ ghost use mathlib.Core.Bool.{true};
 ghost use Prim.Native.Nat.{ℕ, suc, _<_, _≤_};
 ghost use lib.ListN.{length, getD};
 ghost use Rattle.bounded.specs.Fold.{first};
-ghost use Rattle.bounded.specs.Table.{tabulate};
 ghost use Rattle.words.specs.Word.{width, has};
 ghost use Rattle.pairs.specs.Pairs.{variables, allowsOf};
-ghost use Rattle.solutions.specs.Choices.{valuesBelow, valueKept, valuesKept, amongKept, pairsKept, Mirrored, partnerOf, valueCompleted, Led, Completed, LeaderReady, domainOpen, domainsOpen, lowestOf, freeWord, sideApart, freeApart, freshValue, freshParts};
+ghost use Rattle.solutions.specs.Choices.{valuesBelow, valueKept, valuesKept, amongKept, pairsKept, Mirrored, partnerOf, valueCompleted, Led, Completed, LeaderReady, freeWord};
 
 // Each value is below its size.
 pub fn values_below(n: usize, sizes: &[u8; VARIABLES], values: &[u8]) -> bool
@@ -83,7 +81,7 @@ fn row_allows(rows: &Rows, i: usize, j: usize, a: u8, b: u8) -> bool
     if WIDTH <= value {
         return false;
     }
-    has_value(pairs::stored_row(rows, i, j, value), b)
+    has_value(pairs_read::stored_row(rows, i, j, value), b)
 }
 
 // The pairs of a free variable `i` with those of `among`, all of them higher, allow their two values.
@@ -128,7 +126,7 @@ pub fn pairs_kept<'a>(
 }
 
 // The lowest value of a domain: its trailing zeros.
-fn lowest_value(domain: u32) -> u8
+pub fn lowest_value(domain: u32) -> u8
     ensures { λ r. ⌜ r ≡ first width (has domain) ⌝ }
 {
     words::lowest(domain) as u8
@@ -139,7 +137,7 @@ fn partner_of(rows: &Rows, l: usize, i: usize, domain: u32, a: usize) -> u8
     requires { ⌜ (l < variables) × (i < variables) × (l ≡ i → ⊥) × (a < width) ⌝ }
     ensures { λ r. ⌜ r ≡ partnerOf (now (rows .entry)) l i domain a ⌝ }
 {
-    lowest_value(words::both(domain, pairs::row(rows, l, i, a)))
+    lowest_value(words::both(domain, pairs_read::row(rows, l, i, a)))
 }
 
 // A free variable keeps its value; a follower gets the partner of its leader's.
@@ -176,106 +174,4 @@ pub fn complete_values<'a>(
         let value = value_completed(domains, leaders, rows, values, i);
         values[i] = value;
     }
-}
-
-// A free variable has a value left.
-fn domain_open(leader: u8, domain: u32) -> bool
-    ensures { λ r. ⌜ r ≡ domainOpen leader domain ⌝ }
-{
-    if leader != 0 {
-        return true;
-    }
-    domain != 0
-}
-
-pub fn domains_open<'a>(
-    n: usize,
-    leaders: &'a [u8; VARIABLES],
-    domains: &'a [u32; VARIABLES],
-) -> bool
-    requires { ⌜ n ≤ variables ⌝ }
-    ensures { λ r. ⌜ r ≡ domainsOpen n (now (leaders .entry)) (now (domains .entry)) ⌝ }
-{
-    let mut all = true;
-    for i in 0..n {
-        all &= domain_open(leaders[i], domains[i]);
-    }
-    all
-}
-
-// A free variable is stated with none of the free ones.
-fn side_apart(leader: u8, stated: u32, free: u32) -> bool
-    ensures { λ r. ⌜ r ≡ sideApart leader stated free ⌝ }
-{
-    if leader != 0 {
-        return true;
-    }
-    words::both(stated, free) == 0
-}
-
-// No two free variables are stated together. No row is read: stated is the mark, whatever the rows allow.
-pub fn free_apart<'a>(n: usize, leaders: &'a [u8; VARIABLES], stated: &'a [u32; VARIABLES]) -> bool
-    requires { ⌜ n ≤ variables ⌝ }
-    ensures { λ r. ⌜ r ≡ freeApart n (now (leaders .entry)) (now (stated .entry)) ⌝ }
-{
-    let free = free_variables(n, leaders);
-    let mut all = true;
-    for i in 0..n {
-        all &= side_apart(leaders[i], stated[i], free);
-    }
-    all
-}
-
-// The lowest value of each domain.
-fn lowest_values(n: usize, domains: &[u32; VARIABLES]) -> [u8; VARIABLES]
-    requires { ⌜ n ≤ variables ⌝ }
-    ensures { λ r. ⌜ r ≡ tabulate variables (lowestOf n (now (domains .entry))) ⌝ }
-{
-    let mut values = [0u8; VARIABLES];
-    for i in 0..n {
-        values[i] = lowest_value(domains[i]);
-    }
-    values
-}
-
-// The solution in which free variables take their lowest values.
-pub fn lowest_solution<'a>(
-    n: usize,
-    domains: &'a [u32; VARIABLES],
-    leaders: &'a [u8; VARIABLES],
-    rows: &'a Rows,
-) -> [u8; VARIABLES]
-    requires { ⌜ Led n (now leaders) (tabulate variables (lowestOf n (now domains))) ⌝ }
-    ensures { λ r. ⌜ Completed n (now (domains .entry)) (now (leaders .entry)) (now (rows .entry)) (tabulate variables (lowestOf n (now (domains .entry)))) r ⌝ }
-{
-    let mut values = lowest_values(n, domains);
-    complete_values(n, domains, leaders, rows, &mut values);
-    values
-}
-
-// A free variable with a full domain.
-fn fresh_value(leader: u8, domain: u32, size: u8) -> bool
-    requires { ⌜ size ≤ width ⌝ }
-    ensures { λ r. ⌜ r ≡ freshValue leader domain size ⌝ }
-{
-    if leader != 0 {
-        return false;
-    }
-    domain == words::full(words::wide(size))
-}
-
-// No follower, and each domain is full.
-pub fn fresh_parts(head: Head) -> bool
-    requires { ⌜ (head .n ≤ variables) × ((i : ℕ) → getD (head .sizes) i 0 ≤ width) ⌝ }
-    ensures { λ r. ⌜ r ≡ freshParts (head .n) (head .sizes) (head .domains) (head .leaders) ⌝ }
-{
-    let n = head.n;
-    let sizes = head.sizes;
-    let domains = head.domains;
-    let leaders = head.leaders;
-    let mut all = true;
-    for i in 0..n {
-        all &= fresh_value(leaders[i], domains[i], sizes[i]);
-    }
-    all
 }

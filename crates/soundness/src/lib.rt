@@ -36,7 +36,7 @@ fn follower_sound(
     if stated != words::single(l) {
         return false;
     }
-    pairs::partners_within(rows, l, i, domains[l], domains[i], 1, 1)
+    pairs_read::partners_within(rows, l, i, domains[l], domains[i], 1, 1)
 }
 
 // A variable is free or follows another.

@@ -24,7 +24,7 @@ use Rattle.format.proofs.SheetOf.{wellformed-size}
 use Rattle.read_field.specs.declared.field.Read.{Read}
 use Rattle.read_field.specs.declared.field.Read.the-variants.{Value, Refused}
 use Rattle.read_field.proofs.Fields.{as-got, as-bad}
-use Rattle.read_sheet.specs.Reading.{Holds, SheetRead}
+use Rattle.read_body.specs.Reading.{Holds, SheetRead}
 use Rattle.answers.specs.declared.ReadOutcome.the-variants as readOutcome
 use Rattle.answers.specs.Answers.{readNumber, readPlace}
 use Rattle.state.specs.View.{stateOf, pack, zeroState}

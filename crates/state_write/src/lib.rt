@@ -3,7 +3,7 @@ use answers::WriteAnswer;
 use cause::Cause;
 use head::Head;
 use head::Rows;
-use solutions::fresh_parts;
+use solutions_head::fresh_parts;
 use soundness::sound_parts;
 use write_sheet::extent_of;
 use write_sheet::write_into;

@@ -37,7 +37,7 @@ fn cut_row(rows: &Rows, table: &[u32], first: Side, second: Side, was: bool, a: 
     if !was {
         return row;
     }
-    both(row, pairs::stored_row(rows, p, q, a))
+    both(row, pairs_read::stored_row(rows, p, q, a))
 }
 
 // The same for all values, each stored where it is.

@@ -15,7 +15,7 @@ pub fn supported(rows: &Rows, i: usize, j: usize, di: u32, dj: u32) -> u32
     requires { ⌜ (i < variables) × (j < variables) × (i ≡ j → ⊥) ⌝ }
     ensures { λ r. ⌜ r ≡ supportedAt width (now (rows .entry)) i j di dj ⌝ }
 {
-    both(di, pairs::partners(rows, j, i, dj))
+    both(di, pairs_read::partners(rows, j, i, dj))
 }
 
 // Rule 2 for value `x` of `l`: the values of `h` that go with it. A value outside `dl` has none, and a pair that was stated bars what it barred.
@@ -36,12 +36,12 @@ fn composed_row(
     if !words::member(dl, x) {
         return 0;
     }
-    let joining = both(dj, pairs::row(rows, l, j, x));
-    let joined = both(dh, pairs::partners(rows, j, h, joining));
+    let joining = both(dj, pairs_read::row(rows, l, j, x));
+    let joined = both(dh, pairs_read::partners(rows, j, h, joining));
     if !was {
         return joined;
     }
-    both(joined, pairs::row(rows, l, h, x))
+    both(joined, pairs_read::row(rows, l, h, x))
 }
 
 // Rule 2 for value `c` of the third variable `k`: what it says is found and stored, and the pair reads alike from both sides, before the next value is

@@ -38,7 +38,7 @@ pub fn judge_pair(
     if !words::member(stated, j) {
         return Judgement::Refused(Cause::NotStated);
     }
-    if !pairs::partners_within(rows, i, j, di, dj, 0, 1) {
+    if !pairs_read::partners_within(rows, i, j, di, dj, 0, 1) {
         return Judgement::Refused(Cause::NotFunctional);
     }
     Judgement::Legal

@@ -56,7 +56,7 @@ fn partner(rows: &Rows, side: Side, a: usize) -> usize
     if p == x {
         return a;
     }
-    lowest(both(side.domain, pairs::row(rows, p, x, a)))
+    lowest(both(side.domain, pairs_read::row(rows, p, x, a)))
 }
 
 // The values of the leader whose partners are in `row`.
@@ -69,7 +69,7 @@ fn told(rows: &Rows, side: Side, row: u32) -> u32
     if p == x {
         return row;
     }
-    pairs::partners(rows, x, p, both(side.domain, row))
+    pairs_read::partners(rows, x, p, both(side.domain, row))
 }
 
 // The values of the second leader whose partners the table allows with the partner of value `a` of the first.

@@ -11,17 +11,14 @@ use test_inputs::families::first_room;
 use test_inputs::tables::Table;
 use test_inputs::tables::first_words;
 use test_oracle::fields::same_bytes;
+pub use test_oracle::verdicts::BUILT;
+pub use test_oracle::verdicts::NONE;
+pub use test_oracle::verdicts::OPEN;
 
-// What the tester, the verdict and the search say, past the numbers of the causes.
+// What the tester says, past the numbers of the causes.
 pub const YES: u8 = 100;
 
 pub const NO: u8 = 101;
-
-pub const NONE: u8 = 102;
-
-pub const BUILT: u8 = 103;
-
-pub const OPEN: u8 = 104;
 
 pub struct Reading {
     pub number: u8,

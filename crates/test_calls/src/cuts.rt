@@ -8,19 +8,14 @@ use crate::tally::Tally;
 use state::State;
 use test_oracle::fields;
 
-// What a reduced state's verdict shows, against what was shown.
-fn is_judged(state: State, verdict: u8, solution: [u8; 16]) -> bool {
-    let judged = calls::verdict(state);
-    let shown = judged.solution;
-    (judged.verdict == verdict) & fields::same_bytes(shown, solution)
-}
-
 // The state that was read comes to the state, the steps and the verdict of the one call.
 fn is_cut(read: State, cut: Cutting) -> bool {
     let answer = calls::reduce(read);
+    let judged = calls::verdict(answer.state);
+    let shown = judged.solution;
     let solution = cut.solution;
     let is_same = (answer.steps == cut.steps) & states::same(answer.state, cut.state);
-    is_same & is_judged(answer.state, cut.verdict, solution)
+    is_same & (judged.verdict == cut.verdict) & fields::same_bytes(shown, solution)
 }
 
 // A refusal leaves zeros: the state, the steps and the build.
@@ -30,16 +25,12 @@ fn is_nothing(cut: Cutting) -> bool {
     is_zero & (cut.steps == 0) & states::same(cut.state, states::zero())
 }
 
-fn is_right(reading: Reading, cut: Cutting) -> bool {
-    if reading.number != 0 {
-        return is_nothing(cut);
-    }
-    is_cut(reading.state, cut)
-}
-
 // The one call answers what was read before.
 pub fn check(bytes: &[u8], reading: Reading, tally: Tally) -> Tally {
     let cut = calls::cut(bytes);
     let is_same = (cut.number == reading.number) & (cut.place == reading.place);
-    tally::expect(tally, tally::CUTS, is_same & is_right(reading, cut))
+    if reading.number != 0 {
+        return tally::expect(tally, tally::CUTS, is_same & is_nothing(cut));
+    }
+    tally::expect(tally, tally::CUTS, is_same & is_cut(reading.state, cut))
 }

@@ -4,13 +4,13 @@
 pub mod calls;
 // Reading, the full reduction and the verdict in one call, against the three calls.
 pub mod cuts;
-// Sound states with one fault.
-pub mod faults;
-// What a sheet comes to, against a text.
-pub mod outcomes;
-// Parts of a row of examples.
-pub mod parts;
-// Whole states: compared, stepped and reduced by the rules, and with a table added.
+// Tuples for the tester and the completer.
+pub mod draws;
+// Reading against the judge of bytes, and writing against bytes that are known.
+pub mod reads;
+// Whole states: compared, and their live options.
 pub mod states;
 // How often each thing was tried, and how often it came out wrong.
 pub mod tally;
+// A sheet in another version, and numbers that are no version.
+pub mod versions;

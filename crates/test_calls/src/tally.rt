@@ -3,7 +3,7 @@
 // One more than the greatest of the kinds that are counted.
 pub const KINDS: usize = 45;
 
-// The counts, and the seed of the number that is drawn next. Checks take it and hand it back: two loans would make a proof three times as long.
+// The counts, and the seed of the number that is drawn next. It goes by value, as loans make proofs longer.
 pub struct Tally {
     pub counts: [u64; KINDS],
     pub seed: u64,

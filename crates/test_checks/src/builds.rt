@@ -3,42 +3,25 @@ use state::State;
 use test_calls::calls;
 use test_calls::calls::BUILT;
 use test_calls::calls::NO;
-use test_calls::calls::NONE;
 use test_calls::calls::OPEN;
 use test_calls::calls::YES;
+use test_calls::draws;
 use test_calls::states;
 use test_calls::tally;
 use test_calls::tally::Tally;
-use test_inputs::draws;
 use test_inputs::random;
 use test_oracle::brute;
 use test_oracle::choices;
+use test_oracle::counts;
+use test_oracle::counts::Counts;
 use test_oracle::fields;
 use test_oracle::tables::Tables;
 use test_oracle::tables::is_build;
-
-// How many builds there are, the first of them by the live options of the state, how many choices the state allows, and what was counted meanwhile.
-struct Totals {
-    builds: u64,
-    first: [u8; 16],
-    choices: u64,
-    tally: Tally,
-}
-
-// The first build, where the tuple may be one; zero where there is none.
-fn first_of(free: u32, totals: Totals, tuple: [u8; 16], is_build: bool) -> [u8; 16] {
-    let first = totals.first;
-    if !is_build {
-        return first;
-    }
-    if (totals.builds != 0) & !choices::precedes(free, tuple, first) {
-        return first;
-    }
-    tuple
-}
+use test_oracle::verdicts;
 
 // The tester says yes exactly to the builds.
-fn check_test(state: State, tuple: [u8; 16], is_build: bool, tally: Tally) -> Tally {
+fn check_test(bytes: &[u8], tables: &Tables, state: State, tuple: [u8; 16], tally: Tally) -> Tally {
+    let is_build = is_build(bytes, tables, tuple);
     let answer = calls::test(state, tuple, state.n);
     let is_right = (is_build & (answer == YES)) | (!is_build & (answer == NO));
     tally::expect(tally, tally::TESTS, is_right)
@@ -52,10 +35,9 @@ fn check_completed(
     buffer: [u8; 16],
     tally: Tally,
 ) -> Tally {
-    let n = state.n;
-    let done = calls::complete(state, buffer, n);
+    let done = calls::complete(state, buffer, state.n);
     let after = done.buffer;
-    let is_kept = choices::are_kept(n, states::free(state), buffer, after);
+    let is_kept = choices::are_kept(state.n, states::free(state), buffer, after);
     let is_right = (done.number == 0) & is_kept & is_build(bytes, tables, after);
     tally::expect(tally, tally::COMPLETIONS, is_right)
 }
@@ -66,52 +48,25 @@ fn check_left(state: State, buffer: [u8; 16], length: usize, number: u8, tally: 
     tally::expect(tally, tally::COMPLETIONS_REFUSED, is_left)
 }
 
-// The completer: a choice to be refused with no number becomes a build, any other is refused.
-fn check_complete(
-    bytes: &[u8],
-    tables: &Tables,
-    state: State,
-    buffer: [u8; 16],
-    number: u8,
-    tally: Tally,
-) -> Tally {
-    if number == 0 {
-        return check_completed(bytes, tables, state, buffer, tally);
-    }
-    check_left(state, buffer, state.n, number, tally)
-}
-
-// With a tuple that the tester was asked about.
-fn tested(state: State, tuple: [u8; 16], is_build: bool, totals: Totals) -> Totals {
-    let first = first_of(states::free(state), totals, tuple, is_build);
-    Totals {
-        builds: std::num::wrapping_add_u64(totals.builds, is_build as u64),
-        first,
-        choices: totals.choices,
-        tally: check_test(state, tuple, is_build, totals.tally),
-    }
-}
-
-// With a choice that the completer was given, with any bytes at the followers.
-fn completed(
+// The completer, with any bytes at the followers: a choice that is allowed becomes a build, any other is refused.
+fn check_choice(
     bytes: &[u8],
     tables: &Tables,
     state: State,
     tuple: [u8; 16],
-    totals: Totals,
-) -> Totals {
-    let tally = totals.tally;
+    tally: Tally,
+) -> Tally {
+    let free = states::free(state);
+    let domains = state.domains;
+    let stated = state.stated;
     let mut seed = tally.seed;
-    let buffer = draws::with_garbage(states::free(state), tuple, &mut seed);
-    let number = states::choice_number(state, buffer);
+    let buffer = draws::with_garbage(free, tuple, &mut seed);
+    let number = choices::refusal(free, domains, stated, &state.rows, buffer);
     let drawn = tally::with_seed(tally, seed);
-    let first = totals.first;
-    Totals {
-        builds: totals.builds,
-        first,
-        choices: std::num::wrapping_add_u64(totals.choices, (number == 0) as u64),
-        tally: check_complete(bytes, tables, state, buffer, number, drawn),
+    if number == 0 {
+        return check_completed(bytes, tables, state, buffer, drawn);
     }
+    check_left(state, buffer, state.n, number, drawn)
 }
 
 // One tuple. Of those that agree at the live options, one is completed.
@@ -120,128 +75,85 @@ fn check_tuple(
     tables: &Tables,
     state: State,
     tuple: [u8; 16],
-    totals: Totals,
-) -> Totals {
-    let after = tested(state, tuple, is_build(bytes, tables, tuple), totals);
+    tally: Tally,
+) -> Tally {
+    let tested = check_test(bytes, tables, state, tuple, tally);
     if choices::is_choice(states::free(state), tuple) {
-        return completed(bytes, tables, state, tuple, after);
+        return check_choice(bytes, tables, state, tuple, tested);
+    }
+    tested
+}
+
+// Every tuple of a sheet that has at most 1,024.
+fn check_tuples(bytes: &[u8], tables: &Tables, state: State, tally: Tally) -> Tally {
+    let mut after = tally;
+    for k in 0..1024 {
+        let tuple = brute::numbered(bytes, k);
+        if tuple.rest != 0 {
+            return after;
+        }
+        let values = tuple.values;
+        after = check_tuple(bytes, tables, state, values, after);
     }
     after
 }
 
-// Every tuple of a sheet that has at most 1,024.
-fn check_tuples(bytes: &[u8], tables: &Tables, state: State, tally: Tally) -> Totals {
-    let mut totals = Totals {
-        builds: 0,
-        first: [0; 16],
-        choices: 0,
-        tally,
-    };
-    for k in 0..1024 {
-        let tuple = brute::numbered(bytes, k);
-        if tuple.rest != 0 {
-            return totals;
-        }
-        let values = tuple.values;
-        totals = check_tuple(bytes, tables, state, values, totals);
-    }
-    totals
-}
-
-// A verdict by the fields alone.
-fn expected_verdict(state: State) -> u8 {
+// The verdict. It is counted how often a build is shown with two or more live options.
+pub fn check_verdict(bytes: &[u8], tables: &Tables, state: State, tally: Tally) -> Tally {
     let free = states::free(state);
     let domains = state.domains;
     let stated = state.stated;
-    if choices::has_empty_list(free, domains) {
-        return NONE;
-    }
-    if choices::are_apart(free, stated) {
-        return BUILT;
-    }
-    OPEN
-}
-
-// A build of the sheet and the tables, zero past n.
-fn is_found(bytes: &[u8], tables: &Tables, state: State, solution: [u8; 16]) -> bool {
-    is_build(bytes, tables, solution) & fields::is_zero_from(solution, state.n)
-}
-
-// The build shown is a build, each live option at its lowest value, zero past n; with NONE or OPEN it is all zero.
-fn is_shown(bytes: &[u8], tables: &Tables, state: State, verdict: u8, solution: [u8; 16]) -> bool {
-    let domains = state.domains;
-    match verdict {
-        BUILT => {
-            is_found(bytes, tables, state, solution)
-                & choices::are_lowest(states::free(state), domains, solution)
-        }
-        _ => fields::is_zero_from(solution, 0),
-    }
-}
-
-// The verdict. It is counted how often a build is shown with two or more live options.
-pub fn check_verdict(bytes: &[u8], tables: &Tables, state: State, tally: Tally) -> Tally {
-    let expected = expected_verdict(state);
+    let expected = verdicts::expected(free, domains, stated);
     let answer = calls::verdict(state);
     let solution = answer.solution;
-    let is_shown = is_shown(bytes, tables, state, expected, solution);
+    let is_shown = verdicts::is_shown(bytes, tables, free, domains, expected, solution);
     let is_right = (answer.verdict == expected) & is_shown;
-    let is_apart = (expected == BUILT) & (1 < states::free_count(state));
+    let is_apart = (expected == BUILT) & (1 < u32::count_ones(free));
     let judged = tally::expect(tally, tally::VERDICTS, is_right);
     tally::add(judged, tally::APART, is_apart as u64)
 }
 
-// NONE where there is no build, BUILT where there is one.
-fn is_settled(verdict: u8, builds: u64) -> bool {
-    match verdict {
-        NONE => builds == 0,
-        BUILT => builds != 0,
-        _ => false,
-    }
-}
-
 // The search always settles it: it finds the first build of the sheet, or says that there is none.
-fn check_search(state: State, totals: Totals, tally: Tally) -> Tally {
+fn check_search(state: State, counts: Counts, tally: Tally) -> Tally {
     let answer = calls::search(state);
     let solution = answer.solution;
-    let first = totals.first;
+    let first = counts.first;
     let is_first = fields::same_bytes(solution, first);
-    let is_settled = is_settled(answer.verdict, totals.builds);
+    let is_settled = verdicts::is_settled(answer.verdict, counts.builds);
     tally::expect(tally, tally::SEARCHES, is_first & is_settled)
-}
-
-// What a search of many choices says: it is refused, or shows a build of the sheet, or says none, which the verdict does not contradict.
-fn is_sought(bytes: &[u8], tables: &Tables, state: State, verdict: u8, solution: [u8; 16]) -> bool {
-    let domains = state.domains;
-    let are_many = choices::are_many(states::free(state), domains);
-    let is_zero = fields::is_zero_from(solution, 0);
-    match verdict {
-        BUILT => !are_many & is_found(bytes, tables, state, solution),
-        NONE => !are_many & is_zero & (expected_verdict(state) != BUILT),
-        _ => are_many & is_zero & (verdict == 23),
-    }
 }
 
 // The search of a sheet that has too many tuples to try all.
 pub fn check_large_search(bytes: &[u8], tables: &Tables, state: State, tally: Tally) -> Tally {
+    let free = states::free(state);
+    let domains = state.domains;
+    let stated = state.stated;
     let answer = calls::search(state);
     let solution = answer.solution;
-    let is_right = is_sought(bytes, tables, state, answer.verdict, solution);
+    let verdict = answer.verdict;
+    let is_right = verdicts::is_sought(bytes, tables, free, domains, stated, verdict, solution);
     tally::expect(tally, tally::SEARCHES, is_right)
 }
 
-// All that is claimed of the builds of a sheet and the tables added, for the state that a list of calls came to: there are as many allowed choices as builds,
-// and the verdict is NONE only where there is no build, BUILT only where there is one.
+// There are as many allowed choices as builds, and the verdict is NONE only where there is no build, BUILT only where there is one.
+fn check_counts(bytes: &[u8], tables: &Tables, state: State, tally: Tally) -> Tally {
+    let free = states::free(state);
+    let domains = state.domains;
+    let stated = state.stated;
+    let counts = counts::counted(bytes, tables, free, domains, stated, &state.rows);
+    let verdict = verdicts::expected(free, domains, stated);
+    let is_borne_out = (verdict == OPEN) | verdicts::is_settled(verdict, counts.builds);
+    let mut after = tally::expect(tally, tally::COUNTED, counts.builds == counts.choices);
+    after = tally::add(after, tally::BUILDS, counts.builds);
+    after = tally::hold(after, is_borne_out);
+    check_search(state, counts, after)
+}
+
+// All that is claimed of the builds of a sheet and the tables added, for the state that a list of calls came to.
 pub fn check_all(bytes: &[u8], tables: &Tables, state: State, tally: Tally) -> Tally {
-    let totals = check_tuples(bytes, tables, state, tally);
-    let is_same = totals.builds == totals.choices;
-    let verdict = expected_verdict(state);
-    let is_borne_out = (verdict == OPEN) | is_settled(verdict, totals.builds);
-    let mut after = tally::expect(totals.tally, tally::COUNTED, is_same);
-    after = tally::add(after, tally::BUILDS, totals.builds);
-    after = check_search(state, totals, after);
-    after = check_verdict(bytes, tables, state, after);
-    tally::hold(after, is_borne_out)
+    let tried = check_tuples(bytes, tables, state, tally);
+    let counted = check_counts(bytes, tables, state, tried);
+    check_verdict(bytes, tables, state, counted)
 }
 
 // The tester, with a value at or above its size, and with a buffer of another length.
@@ -267,7 +179,7 @@ fn check_refused_completions(state: State, wrong: [u8; 16], length: usize, tally
 // The tester and the completer, refused.
 pub fn check_refusals(bytes: &[u8], state: State, tally: Tally) -> Tally {
     let mut seed = tally.seed;
-    let above = draws::drawn_above(bytes, state.n, &mut seed);
+    let above = draws::drawn_above(bytes, &mut seed);
     let tested = check_refused_tests(state, above, random::index(&mut seed, 17), tally);
     let unlisted = draws::drawn_unlisted(bytes, states::free(state), &mut seed);
     let length = random::index(&mut seed, 17);
@@ -277,11 +189,9 @@ pub fn check_refusals(bytes: &[u8], state: State, tally: Tally) -> Tally {
 fn check_drawn(bytes: &[u8], tables: &Tables, state: State, tally: Tally) -> Tally {
     let mut seed = tally.seed;
     let tuple = draws::drawn(bytes, &mut seed);
-    let buffer = draws::with_garbage(states::free(state), tuple, &mut seed);
-    let number = states::choice_number(state, buffer);
     let drawn = tally::with_seed(tally, seed);
-    let tested = check_test(state, tuple, is_build(bytes, tables, tuple), drawn);
-    check_complete(bytes, tables, state, buffer, number, tested)
+    let tested = check_test(bytes, tables, state, tuple, drawn);
+    check_choice(bytes, tables, state, tuple, tested)
 }
 
 // Some tuples of a sheet that has too many to try all.

@@ -4,7 +4,5 @@
 pub mod builds;
 // Lists of calls: follow steps with any two option numbers, full reductions, and added tables.
 pub mod lists;
-// Reading against the judge of bytes, and writing back what was read.
+// What was read is written in every version and read again.
 pub mod reads;
-// States with a fault: every call answers 9.
-pub mod unsound;

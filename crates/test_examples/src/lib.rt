@@ -1,18 +1,18 @@
 // Fixed examples, each with what it must come to.
 
-// Examples that are neither sheets nor lists of calls.
+// A state that no sheet of a list has.
+mod contrary;
+// Lists of examples.
 pub mod fixed;
-// Page nine.
-mod meters;
-// The tester, the completer and the writer on a fixed state.
+// Lines of a list.
+pub mod lines;
+// What a sheet comes to, against a text.
+pub mod outcomes;
+// Parts of a line.
+pub mod parts;
+// What a state answers.
 mod replies;
-// Rows of fixed examples.
-pub mod rows;
-// Lists of calls.
-pub mod scripts;
-// The search on fixed sheets.
-mod searches;
-// Fixed states, and follow steps on them.
+// Calls that lead from a state to another.
 mod steps;
-// Texts that the program prints.
-pub mod texts;
+// What the bytes of a line stand for.
+mod values;

@@ -1,66 +1,59 @@
-// The tester, the completer and the writer on a fixed state of three options.
-use crate::rows::Row;
-use crate::steps::state_named;
+// What a state answers, compared with what it must.
+use crate::outcomes::is_outcome;
+use crate::values::is_shown;
+use crate::values::table_of;
+use crate::values::values_of;
+use state::State;
 use test_calls::calls;
-use test_calls::parts::end_of;
-use test_calls::parts::part;
-use test_calls::tally::Tally;
-use test_checks::reads::check_unwritten;
-use test_checks::reads::check_written;
-use test_oracle::brute;
+use test_checks::lists::Run;
 use test_oracle::brute::byte;
-use test_oracle::brute::past;
+use test_oracle::brute::index_of;
+use test_oracle::fields;
 
-// Three values.
-fn three(list: &[u8], at: usize) -> [u8; 16] {
-    let mut values = [0u8; 16];
-    values[0] = byte(list, at);
-    values[1] = byte(list, past(at, 1));
-    values[2] = byte(list, past(at, 2));
-    values
+// What the tester answers for the values.
+fn is_tested(state: State, given: &[u8], answer: &[u8]) -> bool {
+    calls::test(state, values_of(given), given.len()) == byte(answer, 0)
 }
 
-// The state's name, three values, and what the tester answers.
-pub(crate) fn is_tested(list: &[u8], at: usize) -> bool {
-    let state = state_named(byte(list, at));
-    let answer = calls::test(state, three(list, past(at, 1)), 3);
-    answer == byte(list, past(at, 4))
+// The number that the completer answers for the values, and the values that it leaves.
+fn is_completed(state: State, given: &[u8], answer: &[u8]) -> bool {
+    let completed = calls::complete(state, values_of(given), given.len());
+    let left = completed.buffer;
+    is_shown(completed.number, left, answer)
 }
 
-// The state's name, three values, the number that the completer answers, and the values that it leaves.
-pub(crate) fn is_completed(list: &[u8], at: usize) -> bool {
-    let state = state_named(byte(list, at));
-    let before = three(list, past(at, 1));
-    let after = three(list, past(at, 5));
-    calls::is_completed(state, before, 3, byte(list, past(at, 4)), after)
+// What the search says, and the build.
+fn is_found(state: State, answer: &[u8]) -> bool {
+    let found = calls::search(state);
+    let solution = found.solution;
+    is_shown(found.verdict, solution, answer)
 }
 
-// The state's name, and a length that is not three: whatever a buffer of it holds, the tester and the completer answer 14.
-pub(crate) fn is_wrong_length(list: &[u8], at: usize) -> bool {
-    let state = state_named(byte(list, at));
-    let length = byte(list, past(at, 1)) as usize;
-    let tuple = three(b"\xff\x00\x01", 0);
-    let is_left = calls::is_completed(state, tuple, length, 14, tuple);
-    is_left & (calls::test(state, tuple, length) == 14)
+// Two options that are stated together, a value of the first, and its row.
+fn is_row(state: State, given: &[u8], answer: &[u8]) -> bool {
+    let i = index_of(byte(given, 0) as usize);
+    let j = index_of(byte(given, 1) as usize);
+    let row = fields::row_at(&state.rows, i, j, byte(given, 2) as usize);
+    let stated = state.stated;
+    fields::has(fields::word_at(stated, i), j) & (row == byte(answer, 0) as u32)
 }
 
-// The state's name, a version and the room of a buffer in two bytes each, and the number that the writer answers.
-pub(crate) fn room_at(list: &[u8], at: usize, tally: Tally) -> Row {
-    let state = state_named(byte(list, at));
-    let version = brute::number(list, past(at, 1));
-    let room = brute::number(list, past(at, 3));
-    Row {
-        tally: check_unwritten(state, version, room, byte(list, past(at, 5)), tally),
-        next: past(at, 6),
-    }
+// A table is refused with a number, by the call alone: the rules are those of sound states.
+fn is_turned_away(state: State, given: &[u8], answer: &[u8]) -> bool {
+    let added = calls::add_table(state, table_of(given));
+    calls::is_refused(state, added, byte(answer, 0))
 }
 
-// The state's name, and a part that it is written as, in its version.
-pub(crate) fn written_at(list: &[u8], at: usize, tally: Tally) -> Row {
-    let state = state_named(byte(list, at));
-    let begin = past(at, 1);
-    Row {
-        tally: check_written(part(list, begin), state, tally),
-        next: end_of(list, begin),
+// The state answers what it must. Another letter than these is none of a line.
+pub(crate) fn is_answered(run: Run, letter: u8, given: &[u8], answer: &[u8]) -> bool {
+    let state = run.state;
+    match letter {
+        b't' => is_tested(state, given, answer),
+        b'c' => is_completed(state, given, answer),
+        b's' => is_found(state, answer),
+        b'w' => is_row(state, given, answer),
+        b'o' => is_outcome(state, run.steps, answer),
+        b'u' => is_turned_away(state, given, answer),
+        _ => false,
     }
 }

@@ -2,8 +2,6 @@
 
 // Sheets with a fault, and bytes of any kind.
 pub mod damage;
-// Tuples for the tester and the completer.
-pub mod draws;
 // Sheets of random contents, by family.
 pub mod families;
 // A fixed stream of numbers.

@@ -6,7 +6,7 @@ use crate::fields::row_at;
 use crate::fields::word_at;
 
 // Each live option's value is in its list.
-pub fn are_listed(free: u32, domains: [u32; 16], tuple: [u8; 16]) -> bool {
+fn are_listed(free: u32, domains: [u32; 16], tuple: [u8; 16]) -> bool {
     for i in 0..16 {
         if has(free, i) & !has(word_at(domains, i), byte_at(tuple, i)) {
             return false;
@@ -28,13 +28,30 @@ fn is_allowed(
 }
 
 // Each stated pair of two live options allows its two values.
-pub fn are_allowed(free: u32, stated: [u32; 16], rows: &[u32; 3840], tuple: [u8; 16]) -> bool {
+fn are_allowed(free: u32, stated: [u32; 16], rows: &[u32; 3840], tuple: [u8; 16]) -> bool {
     for k in 0..256 {
         if !is_allowed(free, stated, rows, tuple, k / 16, k % 16) {
             return false;
         }
     }
     true
+}
+
+// What the completer is to refuse a choice with, 0 where it is allowed.
+pub fn refusal(
+    free: u32,
+    domains: [u32; 16],
+    stated: [u32; 16],
+    rows: &[u32; 3840],
+    tuple: [u8; 16],
+) -> u8 {
+    if !are_listed(free, domains, tuple) {
+        return 15;
+    }
+    if !are_allowed(free, stated, rows, tuple) {
+        return 16;
+    }
+    0
 }
 
 // The values of followers are 0: of the tuples that agree at the live options, one.
@@ -107,13 +124,9 @@ pub fn precedes(free: u32, one: [u8; 16], other: [u8; 16]) -> bool {
     false
 }
 
-fn wide(x: u32) -> usize {
-    x as usize
-}
-
 // How often a list of a live option goes into `left`; `left` for another.
-fn times_in(left: usize, free: u32, domain: u32, i: usize) -> usize {
-    let count = wide(u32::count_ones(domain));
+fn times_in(left: u32, free: u32, domain: u32, i: usize) -> u32 {
+    let count = u32::count_ones(domain);
     if !has(free, i) {
         return left;
     }
@@ -125,7 +138,7 @@ fn times_in(left: usize, free: u32, domain: u32, i: usize) -> usize {
 
 // The product of the sizes of the live lists exceeds 1,000,000, where none is empty: 1,000,000 divided by each in turn is 0.
 pub fn are_many(free: u32, domains: [u32; 16]) -> bool {
-    let mut left: usize = 1000000;
+    let mut left: u32 = 1000000;
     for i in 0..16 {
         left = times_in(left, free, domains[i], i);
     }

@@ -53,6 +53,11 @@ pub fn has(word: u32, v: usize) -> bool {
     brute::has(word as usize, v)
 }
 
+// A word as an index.
+pub fn wide(word: u32) -> usize {
+    word as usize
+}
+
 // The word of the option `i`.
 pub fn word_at(words: [u32; 16], i: usize) -> u32 {
     if 15 < i {
@@ -61,16 +66,20 @@ pub fn word_at(words: [u32; 16], i: usize) -> u32 {
     words[i]
 }
 
-fn wide(x: u8) -> usize {
-    x as usize
-}
-
 // The byte of the option `i`, as an index.
 pub fn byte_at(bytes: [u8; 16], i: usize) -> usize {
     if 15 < i {
         return 0;
     }
-    wide(bytes[i])
+    bytes[i] as usize
+}
+
+// The lower of two.
+pub fn lower(i: usize, j: usize) -> usize {
+    if i < j {
+        return i;
+    }
+    j
 }
 
 // Where the rows of each option begin, as the higher of a pair.

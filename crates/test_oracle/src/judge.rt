@@ -1,11 +1,14 @@
-// What the reader is to say of some bytes, written from the table of causes; nothing here calls the library.
+// What the reader is to say of some bytes, written from the table of causes, and what it is to make of a sheet; nothing here calls the library.
 use crate::brute::byte;
 use crate::brute::number;
 use crate::brute::options;
 use crate::brute::past;
 use crate::brute::row;
 use crate::brute::row_length;
+use crate::brute::size;
 use crate::brute::size_of;
+use crate::fields::byte_at;
+use crate::fields::wide;
 
 // The number of the cause, 0 where there is none, and its place; where there is none, the place after what was judged.
 pub struct Judged {
@@ -184,4 +187,17 @@ pub fn judge(bytes: &[u8]) -> Judged {
         return sizes;
     }
     judge_rest(bytes, n, sizes.place)
+}
+
+// "A sheet just read has full lists, no leader"; past n all is zero.
+pub fn are_fresh(bytes: &[u8], sizes: [u8; 16], domains: [u32; 16], leaders: [u8; 16]) -> bool {
+    for i in 0..16 {
+        let size = size(bytes, i);
+        let list = domains[i];
+        let is_full = !is_row_wide(list as usize, size) & (wide(u32::count_ones(list)) == size);
+        if !(is_full & (byte_at(sizes, i) == size) & (leaders[i] == 0)) {
+            return false;
+        }
+    }
+    true
 }

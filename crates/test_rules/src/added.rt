@@ -2,10 +2,14 @@
 use crate::refusals::is_option;
 use crate::rules::put_row;
 use crate::rules::was_allowed;
+use sheet::State;
+use test_inputs::tables::Table;
+use test_inputs::tables::first_words;
 use test_oracle::brute::index_of;
 use test_oracle::fields::bit_if;
 use test_oracle::fields::byte_at;
 use test_oracle::fields::has;
+use test_oracle::fields::lower;
 use test_oracle::fields::row_at;
 use test_oracle::fields::word_at;
 use test_oracle::judge::is_row_wide;
@@ -22,15 +26,20 @@ fn is_wide(rows: &[u32], size: usize) -> bool {
 }
 
 // "10, then 21 for two equal options, then 22 for a wrong count of rows or a bit at or above the size": 0 where none refuses. Options are counted from 1.
-pub fn refusal(n: usize, sizes: [u8; 16], first: usize, second: usize, rows: &[u32]) -> u8 {
-    if !(is_option(n, first) & is_option(n, second)) {
+pub fn refusal(state: State, table: Table) -> u8 {
+    let first = table.first;
+    let second = table.second;
+    if !(is_option(state.n, first) & is_option(state.n, second)) {
         return 10;
     }
     if first == second {
         return 21;
     }
-    let is_long = rows.len() != byte_at(sizes, index_of(first));
-    if is_long | is_wide(rows, byte_at(sizes, index_of(second))) {
+    let rows = table.rows;
+    let sizes = state.sizes;
+    let given = first_words(&rows, table.count);
+    let is_long = given.len() != byte_at(sizes, index_of(first));
+    if is_long | is_wide(given, byte_at(sizes, index_of(second))) {
         return 22;
     }
     0
@@ -53,15 +62,16 @@ fn traced(leaders: [u8; 16], x: usize) -> usize {
     index_of(leader)
 }
 
-// The sides of a table for two options, counted from 1.
-pub fn sides_of(leaders: [u8; 16], first: usize, second: usize) -> Sides {
-    let x = index_of(first);
-    let y = index_of(second);
+// The sides of a table for two options of a state.
+pub fn sides_of(state: State, table: Table) -> Sides {
+    let leaders = state.leaders;
+    let first = index_of(table.first);
+    let second = index_of(table.second);
     Sides {
-        first: x,
-        second: y,
-        first_leader: traced(leaders, x),
-        second_leader: traced(leaders, y),
+        first,
+        second,
+        first_leader: traced(leaders, first),
+        second_leader: traced(leaders, second),
     }
 }
 
@@ -73,18 +83,13 @@ fn partners(domains: [u32; 16], rows: &[u32; 3840], l: usize, x: usize, a: usize
     row_at(rows, l, x, a) & word_at(domains, x)
 }
 
-fn row_if(is_wanted: bool, table: &[u32], c: usize) -> u32 {
-    if is_wanted {
-        return row(table, c);
-    }
-    0
-}
-
 // What the rows of the values in `set` have together.
 fn reached(table: &[u32], set: u32) -> u32 {
     let mut word: u32 = 0;
     for c in 0..32 {
-        word = word | row_if(has(set, c), table, c);
+        if has(set, c) {
+            word = word | row(table, c);
+        }
     }
     word
 }
@@ -104,7 +109,7 @@ fn allows_partners(
 }
 
 // "If they are one, its list loses the values whose partners the new table forbids."
-pub fn trimmed(domains: [u32; 16], rows: &[u32; 3840], table: &[u32], sides: Sides) -> u32 {
+fn trimmed(domains: [u32; 16], rows: &[u32; 3840], table: &[u32], sides: Sides) -> u32 {
     let list = word_at(domains, sides.first_leader);
     let mut left: u32 = 0;
     for a in 0..32 {
@@ -172,15 +177,8 @@ fn row_after(
     row
 }
 
-fn lower(p: usize, q: usize) -> usize {
-    if p < q {
-        return p;
-    }
-    q
-}
-
 // The rows where the two leaders differ.
-pub fn rows_after(
+fn rows_after(
     domains: [u32; 16],
     stated: [u32; 16],
     rows: &[u32; 3840],
@@ -198,10 +196,31 @@ pub fn rows_after(
 }
 
 // "If the leaders differ, their pair becomes stated."
-pub fn stated_after(stated: [u32; 16], p: usize, q: usize) -> [u32; 16] {
+fn stated_after(stated: [u32; 16], p: usize, q: usize) -> [u32; 16] {
     let mut after = [0u32; 16];
     for u in 0..16 {
         after[u] = stated[u] | bit_if(u == p, q) | bit_if(u == q, p);
+    }
+    after
+}
+
+// The state after an added table that is not refused.
+pub fn with_table(state: State, table: Table) -> State {
+    let sides = sides_of(state, table);
+    let p = sides.first_leader;
+    let q = sides.second_leader;
+    let rows = table.rows;
+    let given = first_words(&rows, table.count);
+    let domains = state.domains;
+    let stated = state.stated;
+    let mut after = state;
+    if p != q {
+        after.stated = stated_after(stated, p, q);
+        after.rows = rows_after(domains, stated, &state.rows, given, sides);
+        return after;
+    }
+    if p < 16 {
+        after.domains[p] = trimmed(domains, &state.rows, given, sides);
     }
     after
 }

@@ -1,5 +1,7 @@
 // What a follow step is to be refused with, and which is legal. `free` has the live options as bits.
+use sheet::State;
 use test_oracle::brute::index_of;
+use test_oracle::fields;
 use test_oracle::fields::has;
 use test_oracle::fields::row_at;
 use test_oracle::fields::word_at;
@@ -20,26 +22,22 @@ fn is_functional(domains: [u32; 16], rows: &[u32; 3840], i: usize, j: usize) -> 
 }
 
 // What a step is to be refused with, options counted from 1; 0 where it is legal.
-pub fn refusal(
-    n: usize,
-    free: u32,
-    domains: [u32; 16],
-    stated: [u32; 16],
-    rows: &[u32; 3840],
-    leader: usize,
-    follower: usize,
-) -> u8 {
+pub fn refusal(state: State, leader: usize, follower: usize) -> u8 {
+    let n = state.n;
     if !(is_option(n, leader) & is_option(n, follower)) {
         return 10;
     }
     if leader == follower {
         return 11;
     }
+    let leaders = state.leaders;
+    let domains = state.domains;
+    let stated = state.stated;
     refusal_of_pair(
-        free,
+        fields::free(n, leaders),
         domains,
         stated,
-        rows,
+        &state.rows,
         index_of(leader),
         index_of(follower),
     )
@@ -73,16 +71,14 @@ pub struct Pair {
 
 // The first legal pair from the pair number `start` on, where the pair number `k` has the leader k / 16 and the follower k % 16, counted from 0.
 // From 0 on it is the lowest leader that has a legal follower, with the lowest such follower.
-pub fn legal_from(
-    free: u32,
-    domains: [u32; 16],
-    stated: [u32; 16],
-    rows: &[u32; 3840],
-    start: usize,
-) -> Pair {
+pub fn legal_from(state: State, start: usize) -> Pair {
+    let leaders = state.leaders;
+    let domains = state.domains;
+    let stated = state.stated;
+    let free = fields::free(state.n, leaders);
     for k in 0..256 {
         let p = std::num::wrapping_add_usize(start, k) % 256;
-        if refusal_of_pair(free, domains, stated, rows, p / 16, p % 16) == 0 {
+        if refusal_of_pair(free, domains, stated, &state.rows, p / 16, p % 16) == 0 {
             return Pair {
                 leader: p / 16 + 1,
                 follower: p % 16 + 1,

@@ -1,4 +1,7 @@
 // The three rules of a legal follow step by their words, value by value. `j` comes to follow `i`, both counted from 0.
+use crate::refusals::legal_from;
+use sheet::State;
+use test_oracle::brute::index_of;
 use test_oracle::fields::ROWS;
 use test_oracle::fields::bit_if;
 use test_oracle::fields::has;
@@ -7,7 +10,7 @@ use test_oracle::fields::row_at;
 use test_oracle::fields::word_at;
 
 // Rule 1: "The list of i loses each value that has no allowed partner in the list of j."
-pub fn trimmed(domains: [u32; 16], rows: &[u32; 3840], i: usize, j: usize) -> u32 {
+fn trimmed(domains: [u32; 16], rows: &[u32; 3840], i: usize, j: usize) -> u32 {
     let mut list: u32 = 0;
     for a in 0..32 {
         let has_partner = row_at(rows, i, j, a) & word_at(domains, j) != 0;
@@ -149,7 +152,7 @@ fn put_after(
 }
 
 // Rule 2: the rows after the step; `domains` has the new list of `i`.
-pub fn rows_after(
+fn rows_after(
     domains: [u32; 16],
     stated: [u32; 16],
     rows: &[u32; 3840],
@@ -175,7 +178,7 @@ fn is_stated_after(stated: [u32; 16], i: usize, j: usize, p: usize, q: usize) ->
 }
 
 // Rule 2: which pairs are stated after the step.
-pub fn stated_after(stated: [u32; 16], i: usize, j: usize) -> [u32; 16] {
+fn stated_after(stated: [u32; 16], i: usize, j: usize) -> [u32; 16] {
     let mut after = [0u32; 16];
     for k in 0..256 {
         let p = k / 16;
@@ -185,22 +188,49 @@ pub fn stated_after(stated: [u32; 16], i: usize, j: usize) -> [u32; 16] {
     after
 }
 
-fn number(i: usize) -> u8 {
-    (i % 16) as u8 + 1
-}
-
-fn leader_after(leader: u8, i: usize, j: usize, x: usize) -> u8 {
-    if (x == j) | (leader == number(j)) {
-        return number(i);
-    }
-    leader
-}
-
 // Rule 3: "Followers of j get i as leader, and so does j."
-pub fn leaders_after(leaders: [u8; 16], i: usize, j: usize) -> [u8; 16] {
-    let mut after = [0u8; 16];
+fn leaders_after(leaders: [u8; 16], i: usize, j: usize) -> [u8; 16] {
+    let leader = (i % 16) as u8 + 1;
+    let follower = (j % 16) as u8 + 1;
+    let mut after = leaders;
     for x in 0..16 {
-        after[x] = leader_after(leaders[x], i, j, x);
+        if (x == j) | (leaders[x] == follower) {
+            after[x] = leader;
+        }
+    }
+    after
+}
+
+// The state after a legal step, options counted from 1.
+pub fn step(state: State, leader: usize, follower: usize) -> State {
+    let i = index_of(leader);
+    let j = index_of(follower);
+    let n = state.n;
+    let sizes = state.sizes;
+    let leaders = state.leaders;
+    let stated = state.stated;
+    let mut domains = state.domains;
+    if i < 16 {
+        domains[i] = trimmed(domains, &state.rows, i, j);
+    }
+    State {
+        n,
+        sizes,
+        domains,
+        leaders: leaders_after(leaders, i, j),
+        stated: stated_after(stated, i, j),
+        rows: rows_after(domains, stated, &state.rows, i, j),
+    }
+}
+
+// The lowest legal step, again and again while there is one: sixteen options allow fifteen steps.
+pub fn reduced(state: State) -> State {
+    let mut after = state;
+    for _ in 0..16usize {
+        let pair = legal_from(after, 0);
+        if pair.leader != 0 {
+            after = step(after, pair.leader, pair.follower);
+        }
     }
     after
 }

@@ -4,12 +4,14 @@ use test_examples::fixed;
 
 // Fixed sheets, and tables added to them.
 mod examples;
-// Lists of rows of examples.
+// Lists of sheets.
 mod lists;
 // One input, and a list of calls on it.
 mod sheets;
 // One random input after the other.
 mod trials;
+// States with a fault.
+mod unsound;
 
 fn run_examples() {
     let run = fixed::run(examples::run(tally::start(88172645463325252)));

@@ -1,18 +1,18 @@
 // One input: it is read, and where it is a sheet a list of calls runs on it.
+use crate::unsound;
 use state::State;
 use test_calls::calls;
 use test_calls::calls::Reading;
 use test_calls::cuts;
 use test_calls::tally;
 use test_calls::tally::Tally;
+use test_calls::versions;
 use test_checks::builds;
 use test_checks::lists;
 use test_checks::lists::Run;
 use test_checks::reads;
-use test_checks::unsound;
 use test_inputs::families;
 use test_inputs::random;
-use test_rules::versions;
 
 // A state that a step led to is not written.
 fn check_unwritten(state: State, tally: Tally) -> Tally {

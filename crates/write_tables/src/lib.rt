@@ -61,7 +61,7 @@ fn put_rows(
 {
     let mut next = at;
     for a in 0..size {
-        next = put_number(buffer, next, pairs::stored_row(rows, i, j, a), bytes);
+        next = put_number(buffer, next, pairs_read::stored_row(rows, i, j, a), bytes);
     }
     next
 }

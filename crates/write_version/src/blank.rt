@@ -25,7 +25,7 @@ fn pair_filled(size: u8, stated: u32, i: usize, j: usize, rows: &Rows) -> bool
     if !words::member(stated, j) {
         return true;
     }
-    let partners = pairs::partners(rows, j, i, full(WIDTH));
+    let partners = pairs_read::partners(rows, j, i, full(WIDTH));
     words::without(full(words::wide(size)), partners) == 0
 }
 

@@ -24,17 +24,8 @@ given-at t = and 1 kinds.ps (is 1 kinds.ps μ-put-digits t) reads.Pre
 abbrev claims-below : ℕ → lts.Claims
 claims-below t = (put-byte-reads.Asked, put-byte-reads.Learnt, and 1 kinds.ps (falls 1 kinds.ps _<_ μ-put-digits t) reads.Pre, reads.Post)
 
-cast-put-byte : (t : ℕ) → lts.Need-cast-put-byte (claims-below t) (given-at t) reads.Post
-cast-put-byte t c = search needs
-
-add-put-byte : (t : ℕ) → lts.Need-add-put-byte (claims-below t) (given-at t) reads.Post
-add-put-byte t c = search needs
-
 put-byte-requires : (t : ℕ) → lts.Need-put-byte-requires (claims-below t) (given-at t) reads.Post
 put-byte-requires t c κs = omega (arith, length-decimal-one (c .before .before .before .args .n) (omega arith))
-
-same-length : (t : ℕ) → lts.Need-same-length (claims-below t) (given-at t) reads.Post
-same-length t c = search needs
 
 returns : (t : ℕ) → lts.Need-returns (claims-below t) (given-at t) reads.Post
 returns t c = rw (decimal-one _ (c .before .before .before .before .if1 .taken)) (c .before .before .put-byte .ensures)
@@ -42,17 +33,8 @@ returns t c = rw (decimal-one _ (c .before .before .before .before .if1 .taken))
 put-digits-requires : (t : ℕ) → lts.Need-put-digits-requires (claims-below t) (given-at t) reads.Post
 put-digits-requires t c κs = omega (arith, length-decimal-more (c .before .before .before .args .n) (omega arith))
 
-cast-put-byte-2 : (t : ℕ) → lts.Need-cast-put-byte-2 (claims-below t) (given-at t) reads.Post
-cast-put-byte-2 t c = search needs
-
-add-put-byte-2 : (t : ℕ) → lts.Need-add-put-byte-2 (claims-below t) (given-at t) reads.Post
-add-put-byte-2 t c = search needs
-
 put-byte-requires-2 : (t : ℕ) → lts.Need-put-byte-requires-2 (claims-below t) (given-at t) reads.Post
 put-byte-requires-2 t c κs = omega (arith, length-decimal-more (c .before .before .before .before .before .before .before .args .n) (omega arith))
-
-same-length-2 : (t : ℕ) → lts.Need-same-length-2 (claims-below t) (given-at t) reads.Post
-same-length-2 t c = search needs
 
 returns-2 : (t : ℕ) → lts.Need-returns-2 (claims-below t) (given-at t) reads.Post
 returns-2 t c =
@@ -67,14 +49,14 @@ pub +put-digits-spec : {M : Type 1} → statement M
     (claims-below t)
     (given-at t)
     reads.Post
-    (cast-put-byte t)
-    (add-put-byte t)
+    (λ c. search needs)
+    (λ c. search needs)
     (put-byte-requires t)
-    (same-length t)
+    (λ c. search needs)
     (returns t)
     (put-digits-requires t)
-    (cast-put-byte-2 t)
-    (add-put-byte-2 t)
+    (λ c. search needs)
+    (λ c. search needs)
     (put-byte-requires-2 t)
-    (same-length-2 t)
+    (λ c. search needs)
     (returns-2 t)

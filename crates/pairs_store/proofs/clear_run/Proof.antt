@@ -22,9 +22,6 @@ ended e h = rw e at h
 loop-holds : tie.Need-loop-holds Inv-loop μ-loop
 loop-holds c = (omega arith, run-none _ _ _)
 
-element-write-rows : tie.Need-element-write-rows Inv-loop μ-loop
-element-write-rows c = search needs
-
 loop-again : tie.Need-loop-again Inv-loop μ-loop
 loop-again c = let p = c .before .loop .inv .1 in (omega arith, rw add-one (run-more p (omega arith) refl))
 
@@ -40,7 +37,7 @@ clear-run-spec =
     loop-holds
     (λ c. search needs)
     (λ c. search needs)
-    element-write-rows
+    (λ c. search needs)
     (λ c. search needs)
     (λ c. search needs)
     loop-again

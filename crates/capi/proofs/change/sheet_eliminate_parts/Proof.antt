@@ -4,7 +4,7 @@ use Rattle.head.specs.Held.{HeadShaped}
 use Rattle.head.proofs.Held.{shape}
 use Rattle.state.proofs.Rules.{stepped-back}
 use Rattle.state.proofs.Sizes.{stepped-same}
-use Rattle.capi_answers.proofs.Laws.{left-as}
+use Rattle.capi_lent.proofs.Laws.{left-as}
 use Rattle.capi.proofs.change.sheet_eliminate_parts.Statement.{statement}
 use Rattle.capi.proofs.change.sheet_eliminate_parts.Tie as tie
 

@@ -5,10 +5,10 @@ use Rattle.test_checks.proofs.builds.check_tuples.Statement.{statement}
 use Rattle.test_checks.proofs.builds.check_tuples.Tie as tie
 
 abbrev Inv-loop : tie.InvT-loop
-Inv-loop bytes tables state totals₀ k₀ totals k = Unit
+Inv-loop bytes tables state after₀ k₀ after k = Unit
 
 abbrev μ-loop : tie.MeasureT-loop
-μ-loop bytes tables state totals₀ k₀ totals k = 1024 - k
+μ-loop bytes tables state after₀ k₀ after k = 1024 - k
 
 pub check-tuples-spec : {M : Type 1} → statement M
 check-tuples-spec =

@@ -5,13 +5,14 @@ use Rattle.test_trial.proofs.lists.run.Statement.{statement}
 use Rattle.test_trial.proofs.lists.run.Tie as tie
 
 abbrev Inv-loop : tie.InvT-loop
-Inv-loop list length row₀ counter₀ row counter = Unit
+Inv-loop list length after₀ at₀ counter₀ after at counter = Unit
 
 abbrev μ-loop : tie.MeasureT-loop
-μ-loop list length row₀ counter₀ row counter = length - counter
+μ-loop list length after₀ at₀ counter₀ after at counter = length - counter
 
 pub run-spec : {M : Type 1} → statement M
 run-spec =
     tie.close
-    (tie.spec Inv-loop μ-loop (λ c. search needs) (λ c κs. search needs) (λ c. search needs) (λ c. search needs)
-    (λ c. search needs) (λ c. search needs))
+    (tie.spec Inv-loop μ-loop (λ c. search needs) (λ c κs. search needs) (λ c κs. search needs) (λ c κs. search needs)
+    (λ c κs. search needs) (λ c κs. search needs) (λ c κs. search needs) (λ c κs. search needs) (λ c. search needs)
+    (λ c. search needs) (λ c. search needs) (λ c. search needs))

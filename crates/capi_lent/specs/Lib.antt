@@ -1,0 +1,2 @@
+-- The arrays that are lent.
+pub mod Lent

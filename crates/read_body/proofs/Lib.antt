@@ -1,0 +1,2 @@
+pub mod SizesLoop
+pub mod Reading

@@ -1,0 +1,78 @@
+// States with a fault: every call answers 9 and leaves the state and the buffer as they were.
+use state::State;
+use test_calls::calls;
+use test_calls::calls::Judgement;
+use test_calls::reads;
+use test_calls::tally;
+use test_calls::tally::Tally;
+use test_calls::versions;
+use test_inputs::families::ROOM;
+use test_inputs::random;
+use test_inputs::tables;
+use test_oracle::fields;
+use test_rules::faults;
+
+// The verdict or the search: 9, and no build is shown.
+fn check_answer(answer: Judgement, tally: Tally) -> Tally {
+    let solution = answer.solution;
+    let is_zero = fields::is_zero_from(solution, 0);
+    tally::expect(tally, tally::UNSOUND, (answer.verdict == 9) & is_zero)
+}
+
+// It is not called sound, and the tester, the completer, the verdict and the search say so.
+fn check_solving(state: State, tally: Tally) -> Tally {
+    let mut seed = tally.seed;
+    let tuple = [random::byte(&mut seed) % 4; 16];
+    let length = random::index(&mut seed, 17);
+    let is_found = !calls::is_sound(state);
+    let is_tested = calls::test(state, tuple, length) == 9;
+    let is_left = calls::is_completed(state, tuple, length, 9, tuple);
+    let mut after = tally::expect(tally::with_seed(tally, seed), tally::UNSOUND, is_found);
+    after = tally::expect(after, tally::UNSOUND, is_tested);
+    after = tally::expect(after, tally::UNSOUND, is_left);
+    after = check_answer(calls::verdict(state), after);
+    check_answer(calls::search(state), after)
+}
+
+// A step and the full reduction.
+fn check_steps(state: State, tally: Tally) -> Tally {
+    let mut seed = tally.seed;
+    let leader = random::index(&mut seed, 18);
+    let follower = random::index(&mut seed, 18);
+    let is_refused = calls::is_refused(state, calls::eliminate(state, leader, follower), 9);
+    let is_left = calls::is_refused(state, calls::reduce(state), 9);
+    let stepped = tally::expect(tally::with_seed(tally, seed), tally::UNSOUND, is_refused);
+    tally::expect(stepped, tally::UNSOUND, is_left)
+}
+
+// Whatever the table is.
+fn check_table(state: State, tally: Tally) -> Tally {
+    let mut seed = tally.seed;
+    let n = random::from(&mut seed, 1, 17);
+    let sizes = state.sizes;
+    let table = tables::drawn(n, sizes, &mut seed);
+    let is_refused = calls::is_refused(state, calls::add_table(state, table), 9);
+    tally::expect(
+        tally::with_seed(tally, seed),
+        tally::TABLES_UNSOUND,
+        is_refused,
+    )
+}
+
+fn check_write(state: State, tally: Tally) -> Tally {
+    let mut seed = tally.seed;
+    let room = random::index(&mut seed, ROOM + 1);
+    let version = versions::any(&mut seed);
+    reads::check_unwritten(state, version, room, 9, tally::with_seed(tally, seed))
+}
+
+// Every call on the state with one fault.
+pub(crate) fn check(state: State, tally: Tally) -> Tally {
+    let mut seed = tally.seed;
+    let damaged = faults::damaged(state, &mut seed);
+    let mut after = tally::count(tally, tally::DAMAGED_STATES);
+    after = check_solving(damaged, tally::with_seed(after, seed));
+    after = check_write(damaged, after);
+    after = check_steps(damaged, after);
+    check_table(damaged, after)
+}
