@@ -48,7 +48,7 @@
 #define SHEET_PAIR_ROWS 32       /* rows that a state has room for in each pair */
 #define SHEET_ROWS 3840          /* 120 pairs of SHEET_PAIR_ROWS rows */
 #define SHEET_TEXT_BYTES 512     /* longer than any text that sheetcut prints */
-#define SHEET_STACK_BYTES 24576  /* the object code takes at most 17,656 (sheet_text); the rest is for memcpy and memset, and margin */
+#define SHEET_STACK_BYTES 24576  /* the object code takes at most 16,776 (sheet_text); the rest is for memcpy and memset, and margin */
 
 #ifdef __cplusplus
 extern "C" {

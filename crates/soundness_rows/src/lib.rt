@@ -24,11 +24,14 @@ fn past_sound(n: usize, rows: &Rows) -> bool
 }
 
 // The rows of a stated pair, from `at` on: the values at or above the size of the lower variable have none, and no row has a bit at or above the
-// size of the other.
+// size of the other. Where every value has a row they are one run, whose length the compiler knows.
 fn constraint_sound(rows: &Rows, at: usize, size: usize, other: usize) -> bool
     requires { ⌜ (at + width ≤ 3840) × (size ≤ width) × (other ≤ width) ⌝ }
     ensures { λ r. ⌜ r ≡ constraintFits (now (rows .entry)) at size other ⌝ }
 {
+    if size == WIDTH {
+        return within(joined(rows, at, at + WIDTH), other);
+    }
     let end = at + size;
     if joined(rows, end, at + WIDTH) != 0 {
         return false;

@@ -1,4 +1,4 @@
--- The rows past the size are one run and the others another.
+-- All rows are one run, or those past the size are one and the others another.
 use mathlib.Core.Path.{refl, sym, ap, _∙_}
 use Prim.Native.Nat.{ℕ}
 use native.Mathlib.Omega.{arith}
@@ -8,30 +8,38 @@ use borrow.Author.Tests.{eq-eqb, ne-eqb}
 use Rattle.bounded.proofs.Bool.{and-fails, and-holds}
 use Rattle.soundness_head.specs.Fits.{within}
 use Rattle.soundness_rows.specs.Fits.{constraintFits}
-use Rattle.soundness_rows.proofs.Tests.{run-same}
+use Rattle.soundness_rows.proofs.Tests.{run-same, whole-is}
 use Rattle.soundness_rows.proofs.constraint_sound.Statement.{statement}
 use Rattle.soundness_rows.proofs.constraint_sound.Tie as tie
 
 returns : tie.Need-returns
-unfolding constraintFits
-returns c =
-    sym (and-fails _ _ (ap (λ (x : ℕ). eqb x 0) (sym (run-same _ (c .before .joined .ensures) refl (omega arith))) ∙ ne-eqb _ _ (c .if1 .taken)))
+unfolding within
+returns c = whole-is _ _ _ (c .before .before .if1 .taken) (run-same _ (c .before .joined .ensures) refl (omega arith)) (c .within .ensures)
 
 returns-2 : tie.Need-returns-2
-unfolding within constraintFits
+unfolding constraintFits
 returns-2 c =
+    sym (and-fails _ _ (ap (λ (x : ℕ). eqb x 0) (sym (run-same _ (c .before .joined2 .ensures) refl (omega arith))) ∙ ne-eqb _ _ (c .if2 .taken)))
+
+returns-3 : tie.Need-returns-3
+unfolding within constraintFits
+returns-3 c =
     let past = c .before .before in
-    c .within .ensures ∙ ap (λ (x : ℕ). within x (past .before .before .args .other)) (run-same _ (c .before .joined2 .ensures) refl (omega arith))
-    ∙ sym (and-holds _ _ (ap (λ (x : ℕ). eqb x 0) (sym (run-same _ (past .before .joined .ensures) refl (omega arith))) ∙ eq-eqb _ _ (past .if1 .left)))
+    c .within2 .ensures ∙ ap (λ (x : ℕ). within x (past .before .before .before .args .other)) (run-same _ (c .before .joined3 .ensures) refl (omega arith))
+    ∙ sym (and-holds _ _ (ap (λ (x : ℕ). eqb x 0) (sym (run-same _ (past .before .joined2 .ensures) refl (omega arith))) ∙ eq-eqb _ _ (past .if2 .left)))
 
 pub constraint-sound-spec : {M : Type 1} → statement M
 constraint-sound-spec =
     tie.close
     (tie.spec
     (λ c. search needs)
-    (λ c. search needs)
+    (λ c κs. search needs)
     (λ c κs. search needs)
     returns
+    (λ c. search needs)
+    (λ c. search needs)
+    (λ c κs. search needs)
+    returns-2
     (λ c κs. search needs)
     (λ c κs. search needs)
-    returns-2)
+    returns-3)
