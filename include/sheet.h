@@ -47,7 +47,7 @@
 #define SHEET_MOST_VALUES 32     /* the largest size: bits of a list or row that may be set */
 #define SHEET_PAIR_ROWS 32       /* rows that a state has room for in each pair */
 #define SHEET_ROWS 3840          /* 120 pairs of SHEET_PAIR_ROWS rows */
-#define SHEET_TEXT_BYTES 512     /* longer than any text that sheetcut prints */
+#define SHEET_TEXT_BYTES 512     /* room for every text that sheetcut prints */
 #define SHEET_STACK_BYTES 24576  /* the object code takes at most 16,776 (sheet_text); the rest is for memcpy and memset, and margin */
 
 #ifdef __cplusplus
@@ -337,7 +337,7 @@ static inline struct sheet_verdict_answer meter_fit(struct sheet_state *state) {
 }
 
 /* The text that sheetcut prints for these bytes, which may be a refusal's, is stored in `text`, with zeros past it. Answers how many
- * bytes it has, fewer than SHEET_TEXT_BYTES. No numbers. */
+ * bytes it has, at most SHEET_TEXT_BYTES. No numbers. */
 size_t sheet_text(const uint8_t *bytes, size_t length, uint8_t text[SHEET_TEXT_BYTES]);
 
 #ifdef __cplusplus
