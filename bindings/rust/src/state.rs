@@ -11,7 +11,7 @@ pub const MOST_VALUES: usize = 32;
 pub const PAIR_ROWS: usize = 32;
 /// The rows of the 120 pairs.
 pub const ROWS: usize = MOST_OPTIONS * (MOST_OPTIONS - 1) / 2 * PAIR_ROWS;
-/// Longer than any text that sheetcut prints.
+/// Room for every text that sheetcut prints.
 pub const TEXT_BYTES: usize = 512;
 
 /// Each pair of options once, from its lower one: see [`row_place`].
