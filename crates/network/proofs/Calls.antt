@@ -1,19 +1,21 @@
 -- Every call of a list, refused or not, keeps the solutions that keep to the tables added.
 use mathlib.Core.Bool.{true, false}
 use mathlib.Core.List.{List, [], _∷_, _++_}
-use mathlib.Core.Path.{_≡_, refl, sym, ap, _∙_}
+use mathlib.Core.Path.{_≡_, refl, sym, ap, ap₂, _∙_}
+use native.Mathlib.Omega.{arith}
+use lib.ListN.{length}
 use Prim.Native.Nat.{ℕ, zero, suc, pred}
 use lib.Dec.{eqb}
 use borrow.Author.Tests.{eqb-true}
 use Rattle.bounded.specs.Bool.{and, or}
-use Rattle.bounded.proofs.Bool.{by-cases, clash, and-assoc, and-true, true-and, or-l, or-r, if-true, if-false}
+use Rattle.bounded.proofs.Bool.{by-cases, clash, and-l, and-r, and-assoc, and-true, true-and, or-l, or-r, if-true, if-false}
 use Rattle.network.specs.Network.{Network}
 use Rattle.network.specs.Sound.{Sound}
 use Rattle.network.specs.Step.{outside, refusal, legal, eliminate}
 use Rattle.network.specs.Reduction.{reduce}
 use Rattle.network.specs.Sheet.{Table}
 use Rattle.network.specs.Added.{meetsTable, addRefusal, added}
-use Rattle.network.specs.Calls.{Call, follow-step, full-reduction, add-table, answer, after, adds, addedBy, keepsTo, addsNone, tableless}
+use Rattle.network.specs.Calls.{Call, follow-step, full-reduction, add-table, refuses, made, answer, after, tablesOf, adds, addedBy, keepsTo, tableless}
 use Rattle.network.specs.Promise.{Keeps}
 use Rattle.network.proofs.Reduction.{keeps-refl, keeps-then, keeps-cong, step-keeps, run-keeps, reduce-run}
 use Rattle.network.proofs.Added.{not-refused, table-keeps}
@@ -33,45 +35,32 @@ not-refused-legal N zero f h = clash h (rw (outside-refused N zero f (or-l _ _ (
 not-refused-legal N (suc l) zero h = clash h (rw (outside-refused N (suc l) zero (or-r _ _ (zero-outside N))))
 not-refused-legal N (suc l) (suc f) h = h
 
-pub answer-taken : (N : Network) (l f : ℕ) → eqb (refusal N l f) 0 ≡ true → answer N (follow-step l f) ≡ eliminate N (pred l) (pred f)
-unfolding answer
-answer-taken N l f h = if-true _ _ _ h
-
--- "A refused call hands back what it was given."
-pub answer-refused : (N : Network) (l f : ℕ) → eqb (refusal N l f) 0 ≡ false → answer N (follow-step l f) ≡ N
-unfolding answer
-answer-refused N l f h = if-false _ _ _ h
-
-pub answer-reduced : (N : Network) → answer N full-reduction ≡ reduce N .network
-unfolding answer
-answer-reduced N = refl
-
-module _ (N : Network) (x y : ℕ) (rows : List ℕ) where
-  pub answer-added : eqb (addRefusal N x y rows) 0 ≡ true → answer N (add-table x y rows) ≡ added N (pred x) (pred y) rows
+-- A call, whichever it is.
+module _ (N : Network) (c : Call) where
+  pub answer-taken : eqb (refuses N c) 0 ≡ true → answer N c ≡ made N c .network
   unfolding answer
-  answer-added h = if-true _ _ _ h
+  answer-taken h = if-true _ _ _ h
 
-  pub answer-not-added : eqb (addRefusal N x y rows) 0 ≡ false → answer N (add-table x y rows) ≡ N
+  -- "A refused call hands back what it was given."
+  pub answer-refused : eqb (refuses N c) 0 ≡ false → answer N c ≡ N
   unfolding answer
-  answer-not-added h = if-false _ _ _ h
+  answer-refused h = if-false _ _ _ h
 
-  -- A table that is not refused is added,
-  pub adds-table : eqb (addRefusal N x y rows) 0 ≡ true → adds N (add-table x y rows) ≡ record { first = x; second = y; rows = rows } ∷ []
+  pub adds-taken : eqb (refuses N c) 0 ≡ true → adds N c ≡ tablesOf c
   unfolding adds
-  adds-table h = if-true _ _ _ h
+  adds-taken h = if-true _ _ _ h
 
-  -- and a refused one is not.
-  pub adds-refused : eqb (addRefusal N x y rows) 0 ≡ false → adds N (add-table x y rows) ≡ []
+  pub adds-refused : eqb (refuses N c) 0 ≡ false → adds N c ≡ []
   unfolding adds
   adds-refused h = if-false _ _ _ h
-
-  keeps-to-one : (f : ℕ → ℕ) → keepsTo (record { first = x; second = y; rows = rows } ∷ []) f ≡ meetsTable (pred x) (pred y) rows f
-  unfolding keepsTo
-  keeps-to-one f = and-true _
 
 pub keeps-to-none : (f : ℕ → ℕ) → keepsTo [] f ≡ true
 unfolding keepsTo
 keeps-to-none f = refl
+
+keeps-to-one : (x y : ℕ) (rows : List ℕ) (f : ℕ → ℕ) → keepsTo (record { first = x; second = y; rows = rows } ∷ []) f ≡ meetsTable (pred x) (pred y) rows f
+unfolding keepsTo
+keeps-to-one x y rows f = and-true _
 
 keeps-to-both : (ts us : List Table) (f : ℕ → ℕ) → keepsTo (ts ++ us) f ≡ and (keepsTo ts f) (keepsTo us f)
 unfolding keepsTo
@@ -79,38 +68,43 @@ keeps-to-both [] us f = sym (true-and _)
 keeps-to-both (t ∷ ts) us f = ap (and _) (keeps-to-both ts us f) ∙ sym (and-assoc _ (keepsTo ts f) (keepsTo us f))
 
 -- A call that adds nothing keeps the solutions as they are.
-keeps-none : (N M : Network) → Keeps N M (λ (f : ℕ → ℕ). true) → (ts : List Table) → ts ≡ [] → Keeps N M (keepsTo ts)
-keeps-none N M k ts e = rw e (keeps-cong N M _ _ (λ f. sym (keeps-to-none f)) k)
+keeps-none : (N M : Network) → Keeps N M (λ (f : ℕ → ℕ). true) → Keeps N M (keepsTo [])
+keeps-none N M k = keeps-cong N M _ _ (λ f. sym (keeps-to-none f)) k
 
--- Every call keeps the solutions, refused or not, but for those that break the table it adds.
+-- What a call makes where it is not refused keeps the solutions, but for those that break the table it adds: a clause for each call.
+made-keeps : (N : Network) → Sound N → (c : Call) → eqb (refuses N c) 0 ≡ true → Keeps N (made N c .network) (keepsTo (tablesOf c))
+unfolding refuses made tablesOf
+made-keeps N s (follow-step l f) t = keeps-none N _ (step-keeps N s (pred l) (pred f) (not-refused-legal N l f t))
+made-keeps N s full-reduction t = keeps-none N _ (run-keeps s (reduce-run N))
+made-keeps N s (add-table x y rows) t =
+    let inside = not-refused N x y rows (eqb-true _ 0 t) in
+    keeps-cong N _ _ _ (λ f. sym (keeps-to-one x y rows f)) (table-keeps N (pred x) (pred y) rows s (inside .0) (inside .1))
+
+-- So does every call, refused or not.
 pub answer-keeps : (N : Network) → Sound N → (c : Call) → Keeps N (answer N c) (keepsTo (adds N c))
-unfolding adds
-answer-keeps N s (follow-step l f) =
-    keeps-none N (answer N (follow-step l f))
-    (by-cases (eqb (refusal N l f) 0)
-    (λ t. rw (answer-taken N l f t) (step-keeps N s (pred l) (pred f) (not-refused-legal N l f t)))
-    (λ t. rw (answer-refused N l f t) (keeps-refl N s)))
-    [] refl
-answer-keeps N s full-reduction = keeps-none N (answer N full-reduction) (rw (answer-reduced N) (run-keeps s (reduce-run N))) [] refl
-answer-keeps N s (add-table x y rows) =
-    by-cases (eqb (addRefusal N x y rows) 0)
-    (λ t. let inside = not-refused N x y rows (eqb-true _ 0 t) in
-    rw (answer-added N x y rows t, adds-table N x y rows t)
-    (keeps-cong N _ _ _ (λ f. sym (keeps-to-one N x y rows f)) (table-keeps N (pred x) (pred y) rows s (inside .0) (inside .1))))
-    (λ t. rw (answer-not-added N x y rows t) (keeps-none N N (keeps-refl N s) _ (adds-refused N x y rows t)))
+answer-keeps N s c =
+    by-cases (eqb (refuses N c) 0)
+    (λ t. rw (answer-taken N c t, adds-taken N c t) (made-keeps N s c t))
+    (λ t. rw (answer-refused N c t, adds-refused N c t) (keeps-none N N (keeps-refl N s)))
 
 pub after-keeps : (N : Network) → Sound N → (cs : List Call) → Keeps N (after N cs) (keepsTo (addedBy N cs))
 unfolding after addedBy
-after-keeps N s [] = keeps-none N N (keeps-refl N s) [] refl
+after-keeps N s [] = keeps-none N N (keeps-refl N s)
 after-keeps N s (c ∷ cs) =
     let k : Keeps N (answer N c) (keepsTo (adds N c)) = answer-keeps N s c in
     keeps-cong N (after (answer N c) cs) _ _ (λ f. sym (keeps-to-both (adds N c) (addedBy (answer N c) cs) f))
     (keeps-then N (answer N c) (after (answer N c) cs) _ _ k (after-keeps (answer N c) (k .still-sound) cs))
 
+-- A call that is to add nothing adds nothing, refused or not.
+pub adds-none : (N : Network) (c : Call) → tablesOf c ≡ [] → adds N c ≡ []
+adds-none N c e = by-cases (eqb (refuses N c) 0) (λ t. adds-taken N c t ∙ e) (λ t. adds-refused N c t)
+
 -- Follow steps and full reductions add nothing.
 pub tableless-adds : (N : Network) (cs : List Call) → tableless cs ≡ true → addedBy N cs ≡ []
-unfolding tableless addsNone addedBy adds and
+unfolding tableless addedBy
 tableless-adds N [] h = refl
-tableless-adds N (follow-step l f ∷ cs) h = tableless-adds (answer N (follow-step l f)) cs h
-tableless-adds N (full-reduction ∷ cs) h = tableless-adds (answer N full-reduction) cs h
-tableless-adds N (add-table x y rows ∷ cs) h = clash h refl
+tableless-adds N (c ∷ cs) h = ap₂ (λ (ts us : List Table). ts ++ us) (adds-none N c (empty (tablesOf c) (eqb-true _ 0 (and-l _ _ h)))) (tableless-adds (answer N c) cs (and-r _ _ h))
+  where
+    empty : (ts : List Table) → length ts ≡ 0 → ts ≡ []
+    empty [] z = refl
+    empty (t ∷ ts) z = absurd (let b : ⊥ = omega arith in b)

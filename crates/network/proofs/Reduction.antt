@@ -6,11 +6,11 @@ use native.Mathlib.Omega.{arith}
 use Rattle.bounded.specs.Bool.{and, not}
 use Rattle.bounded.specs.Fold.{count}
 use Rattle.bounded.proofs.Bool.{by-cases, clash, bool-ext, not-true→false, and-i, and-l, and-r, and-true, and-assoc, if-true, if-false}
-use Rattle.bounded.proofs.Fold.{some-i, first-some, first-passes, first-below, count-cong, count-le, count-split, count-without}
+use Rattle.bounded.proofs.Fold.{some-i, some-e, first-some, first-passes, first-below, count-cong, count-le, count-split, count-without}
 use Rattle.network.specs.Network.{Network, free, solves}
 use Rattle.network.specs.Sound.{Sound}
 use Rattle.network.specs.Step.{legal, eliminate}
-use Rattle.network.specs.Reduction.{freeCount, leading, reducible, nextLeader, nextFollower, advance, oneMore, reduceWithin, reduce, Run, done, next}
+use Rattle.network.specs.Reduction.{freeCount, leading, reducible, nextLeader, lowestFollower, nextFollower, advance, oneMore, runWithin, reduceWithin, reduce, Run, done, next}
 use Rattle.network.specs.Promise.{Keeps}
 use Rattle.network.proofs.Step.{Legal, legal-e}
 use Rattle.network.proofs.Keep.{eliminate-solves, eliminate-sound, free-after}
@@ -123,47 +123,97 @@ unfolding nextLeader
 next-leader-lowest N i l = first-below (N .n) (leading N) i l
 
 pub next-follower-lowest : (N : Network) (j : ℕ) → j < nextFollower N → legal N (nextLeader N) j ≡ false
-unfolding nextFollower
+unfolding nextFollower lowestFollower
 next-follower-lowest N j l = first-below (N .n) (legal N (nextLeader N)) j l
 
 pub next-legal : (N : Network) → reducible N ≡ true → legal N (nextLeader N) (nextFollower N) ≡ true
-unfolding leading nextFollower
+unfolding leading nextFollower lowestFollower
 next-legal N h = first-passes (N .n) (legal N (nextLeader N)) (first-some (N .n) (legal N (nextLeader N)) (next-leads N h))
 
--- The reduction, case by case.
-pub reduceWithin-zero : (N : Network) → reduceWithin zero N ≡ record { network = N; steps = 0 }
-unfolding reduceWithin
-reduceWithin-zero N = refl
+-- Some step is legal exactly when the next leader has one.
+pub reducible-leads : (N : Network) → reducible N ≡ leading N (nextLeader N)
+unfolding reducible leading
+reducible-leads N =
+    bool-ext _ _ (next-leads N) (λ h. some-e (N .n) (legal N (nextLeader N)) h (λ j m l. legal-reducible N (nextLeader N) j l))
 
+-- A leader that has a legal follower has a lowest one.
+pub follower-legal : (N : Network) (i : ℕ) → leading N i ≡ true → legal N i (lowestFollower N i) ≡ true
+unfolding leading lowestFollower
+follower-legal N i h = first-passes (N .n) (legal N i) (first-some (N .n) (legal N i) h)
+
+pub follower-lowest : (N : Network) (i j : ℕ) → j < lowestFollower N i → legal N i j ≡ false
+unfolding lowestFollower
+follower-lowest N i j l = first-below (N .n) (legal N i) j l
+
+-- A leader with no legal step, of any number.
+pub not-leading : (N : Network) (i : ℕ) → leading N i ≡ false → (j : ℕ) → legal N i j ≡ false
+not-leading N i h j = not-true→false (legal N i j) (λ l. clash (leading-i N i j l) h)
+
+-- Steps of leaders that a rule names, case by case.
+module _ (who : Network → ℕ) where
+  runWithin-zero : (N : Network) → runWithin who zero N ≡ record { network = N; steps = 0 }
+  unfolding runWithin
+  runWithin-zero N = refl
+
+  pub runWithin-stop : (most : ℕ) (N : Network) → leading N (who N) ≡ false → runWithin who most N ≡ record { network = N; steps = 0 }
+  unfolding runWithin
+  runWithin-stop zero N h = refl
+  runWithin-stop (suc most) N h = if-false _ _ _ h
+
+  pub runWithin-step : (most : ℕ) (N : Network) → leading N (who N) ≡ true
+      → runWithin who (suc most) N ≡ oneMore (runWithin who most (eliminate N (who N) (lowestFollower N (who N))))
+  unfolding runWithin
+  runWithin-step most N h = if-true _ _ _ h
+
+  -- They are a run of legal steps,
+  pub runWithin-run : (most : ℕ) (N : Network) → Run N (runWithin who most N .network) (runWithin who most N .steps)
+  unfolding oneMore
+  runWithin-run zero N = rw (runWithin-zero N) done
+  runWithin-run (suc most) N =
+      by-cases (leading N (who N))
+      (λ t. rw (runWithin-step most N t) (next (who N) (lowestFollower N (who N)) (follower-legal N (who N) t) (runWithin-run most _)))
+      (λ t. rw (runWithin-stop (suc most) N t) done)
+
+  -- keep what each of them keeps,
+  pub runWithin-keeps : (P : Network → Type 0)
+      → ((M : Network) → P M → leading M (who M) ≡ true → P (eliminate M (who M) (lowestFollower M (who M))))
+      → (most : ℕ) (N : Network) → P N → P (runWithin who most N .network)
+  unfolding oneMore
+  runWithin-keeps P step zero N h = rw (runWithin-zero N) h
+  runWithin-keeps P step (suc most) N h =
+      by-cases (leading N (who N))
+      (λ t. rw (runWithin-step most N t) (runWithin-keeps P step most _ (step N h t)))
+      (λ t. rw (runWithin-stop (suc most) N t) h)
+
+  -- and where one is still possible, all that may be taken are taken.
+  runWithin-full : (most : ℕ) (N : Network)
+      → leading (runWithin who most N .network) (who (runWithin who most N .network)) ≡ true
+      → runWithin who most N .steps ≡ most
+  unfolding oneMore
+  runWithin-full zero N h = rw (runWithin-zero N) refl
+  runWithin-full (suc most) N h =
+      by-cases (leading N (who N))
+      (λ t. rw (runWithin-step most N t) (ap suc (runWithin-full most _ (rw (runWithin-step most N t) at h))))
+      (λ t. clash (rw (runWithin-stop (suc most) N t) at h) t)
+
+  -- So n steps are enough: "until none can follow".
+  pub runWithin-stops : (N : Network) → Sound N
+      → leading (runWithin who (N .n) N .network) (who (runWithin who (N .n) N .network)) ≡ false
+  runWithin-stops N s =
+      not-true→false _ (λ t. let x : ⊥ = omega (arith, runWithin-full (N .n) N t, run-most s (runWithin-run (N .n) N)) in x)
+
+-- The reduction, case by case.
 pub reduceWithin-stop : (most : ℕ) (N : Network) → reducible N ≡ false → reduceWithin most N ≡ record { network = N; steps = 0 }
 unfolding reduceWithin
-reduceWithin-stop zero N h = refl
-reduceWithin-stop (suc most) N h = if-false _ _ _ h
+reduceWithin-stop most N h = runWithin-stop nextLeader most N (sym (reducible-leads N) ∙ h)
 
 pub reduceWithin-step : (most : ℕ) (N : Network) → reducible N ≡ true → reduceWithin (suc most) N ≡ oneMore (reduceWithin most (advance N))
-unfolding reduceWithin
-reduceWithin-step most N h = if-true _ _ _ h
-
-pub reduceWithin-run : (most : ℕ) (N : Network) → Run N (reduceWithin most N .network) (reduceWithin most N .steps)
-unfolding oneMore advance
-reduceWithin-run zero N = rw (reduceWithin-zero N) done
-reduceWithin-run (suc most) N =
-    by-cases (reducible N)
-    (λ t. rw (reduceWithin-step most N t) (next (nextLeader N) (nextFollower N) (next-legal N t) (reduceWithin-run most (advance N))))
-    (λ t. rw (reduceWithin-stop (suc most) N t) done)
-
--- Where a step is still legal, all steps that it may take are taken.
-reduceWithin-full : (most : ℕ) (N : Network) → reducible (reduceWithin most N .network) ≡ true → reduceWithin most N .steps ≡ most
-unfolding oneMore
-reduceWithin-full zero N h = rw (reduceWithin-zero N) refl
-reduceWithin-full (suc most) N h =
-    by-cases (reducible N)
-    (λ t. rw (reduceWithin-step most N t) (ap suc (reduceWithin-full most (advance N) (rw (reduceWithin-step most N t) at h))))
-    (λ t. clash (rw (reduceWithin-stop (suc most) N t) at h) t)
+unfolding reduceWithin advance nextFollower
+reduceWithin-step most N h = runWithin-step nextLeader most N (sym (reducible-leads N) ∙ h)
 
 pub reduce-run : (N : Network) → Run N (reduce N .network) (reduce N .steps)
-unfolding reduce
-reduce-run N = reduceWithin-run _ N
+unfolding reduce reduceWithin
+reduce-run N = runWithin-run nextLeader _ N
 
 pub reduce-count : (N : Network) → Sound N → freeCount (reduce N .network) + reduce N .steps ≡ freeCount N
 reduce-count N s = run-count s (reduce-run N)
@@ -178,6 +228,5 @@ reduce-most N s = run-most s (reduce-run N)
 
 -- "repeats until no step is legal"
 pub reduce-stops : (N : Network) → Sound N → reducible (reduce N .network) ≡ false
-unfolding reduce
-reduce-stops N s =
-    not-true→false _ (λ t. let x : ⊥ = omega (arith, reduceWithin-full (N .n) N t, run-most s (reduceWithin-run (N .n) N)) in x)
+unfolding reduce reduceWithin
+reduce-stops N s = reducible-leads _ ∙ runWithin-stops nextLeader N s

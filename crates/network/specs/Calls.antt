@@ -4,10 +4,11 @@ use mathlib.Core.Bool.{Bool, true, false}
 use mathlib.Core.List.{List, [], _∷_, _++_}
 use Prim.Native.Nat.{ℕ, pred}
 use lib.Dec.{eqb}
+use lib.ListN.{length}
 use Rattle.bounded.specs.Bool.{and, if}
 use Rattle.network.specs.Network.{Network}
 use Rattle.network.specs.Step.{refusal, eliminate}
-use Rattle.network.specs.Reduction.{reduce}
+use Rattle.network.specs.Reduction.{Reduced, reduce}
 use Rattle.network.specs.Sheet.{Table}
 use Rattle.network.specs.Added.{meetsTable, addRefusal, added}
 
@@ -16,22 +17,36 @@ pub data Call : Type 0 where
   full-reduction : Call
   add-table : ℕ → ℕ → List ℕ → Call  -- the first and the second variable named, counted from 1, and a row for each value of the first
 
+-- The number that refuses a call, or 0. (9 goes by the state.)
+unfoldable pub refuses : Network → Call → ℕ
+refuses N (follow-step l f) = refusal N l f
+refuses N full-reduction = 0
+refuses N (add-table x y rows) = addRefusal N x y rows
+
+-- What a call that is not refused makes, and the number of its steps.
+unfoldable pub made : Network → Call → Reduced
+made N (follow-step l f) = record { network = eliminate N (pred l) (pred f); steps = 1 }
+made N full-reduction = reduce N
+made N (add-table x y rows) = record { network = added N (pred x) (pred y) rows; steps = 0 }
+
 -- What a call hands back: "a refused call hands back what it was given".
 unfoldable pub answer : Network → Call → Network
-answer N (follow-step l f) = if (eqb (refusal N l f) 0) (eliminate N (pred l) (pred f)) N
-answer N full-reduction = reduce N .network
-answer N (add-table x y rows) = if (eqb (addRefusal N x y rows) 0) (added N (pred x) (pred y) rows) N
+answer N c = if (eqb (refuses N c) 0) (made N c .network) N
 
 -- "Each call gets the state that the one before it handed back."
 unfoldable pub after : Network → List Call → Network
 after N [] = N
 after N (c ∷ cs) = after (answer N c) cs
 
--- The table that a call adds, if it adds one and is not refused.
+-- The table that a call is to add, if any,
+unfoldable pub tablesOf : Call → List Table
+tablesOf (follow-step l f) = []
+tablesOf full-reduction = []
+tablesOf (add-table x y rows) = record { first = x; second = y; rows = rows } ∷ []
+
+-- and adds where it is not refused.
 unfoldable pub adds : Network → Call → List Table
-adds N (follow-step l f) = []
-adds N full-reduction = []
-adds N (add-table x y rows) = if (eqb (addRefusal N x y rows) 0) (record { first = x; second = y; rows = rows } ∷ []) []
+adds N c = if (eqb (refuses N c) 0) (tablesOf c) []
 
 -- "the tables that calls not refused added"
 unfoldable pub addedBy : Network → List Call → List Table
@@ -43,12 +58,7 @@ unfoldable pub keepsTo : List Table → (ℕ → ℕ) → Bool
 keepsTo [] f = true
 keepsTo (t ∷ ts) f = and (meetsTable (pred (t .first)) (pred (t .second)) (t .rows) f) (keepsTo ts f)
 
--- No table is added: follow steps and full reductions alone, document 01's lists of calls.
-unfoldable pub addsNone : Call → Bool
-addsNone (follow-step l f) = true
-addsNone full-reduction = true
-addsNone (add-table x y rows) = false
-
+-- No table is to be added: follow steps and full reductions alone, document 01's lists of calls.
 unfoldable pub tableless : List Call → Bool
 tableless [] = true
-tableless (c ∷ cs) = and (addsNone c) (tableless cs)
+tableless (c ∷ cs) = and (eqb (length (tablesOf c)) 0) (tableless cs)

@@ -23,8 +23,12 @@ reducible N = some (N .n) (leading N)
 unfoldable pub nextLeader : Network → ℕ
 nextLeader N = first (N .n) (leading N)
 
+-- The lowest variable that can follow i.
+unfoldable pub lowestFollower : Network → ℕ → ℕ
+lowestFollower N i = first (N .n) (legal N i)
+
 unfoldable pub nextFollower : Network → ℕ
-nextFollower N = first (N .n) (legal N (nextLeader N))
+nextFollower N = lowestFollower N (nextLeader N)
 
 -- The network with that step taken.
 unfoldable pub advance : Network → Network
@@ -38,10 +42,17 @@ pub record Reduced : Type 0 where
 unfoldable pub oneMore : Reduced → Reduced
 oneMore r = record { network = r .network; steps = suc (r .steps) }
 
--- At most so many steps of that kind, fewer where none is legal any more.
+-- At most so many steps, each by the leader that `who` names, with the lowest variable that can follow it; fewer where that leader has none.
+unfoldable pub runWithin : (Network → ℕ) → ℕ → Network → Reduced
+runWithin who zero N = record { network = N; steps = 0 }
+runWithin who (suc most) N =
+    if (leading N (who N))
+    (oneMore (runWithin who most (eliminate N (who N) (lowestFollower N (who N)))))
+    (record { network = N; steps = 0 })
+
+-- At most so many steps of the reduction: it takes "the lowest i that has a legal j".
 unfoldable pub reduceWithin : ℕ → Network → Reduced
-reduceWithin zero N = record { network = N; steps = 0 }
-reduceWithin (suc most) N = if (reducible N) (oneMore (reduceWithin most (advance N))) (record { network = N; steps = 0 })
+reduceWithin most N = runWithin nextLeader most N
 
 -- "The full reduction .. repeats until no step is legal." Each step takes a free variable, so n steps are more than there can be.
 unfoldable pub reduce : Network → Reduced

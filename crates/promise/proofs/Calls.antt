@@ -1,13 +1,14 @@
 -- A call of the list: what it hands back and adds; and the kind of a verdict.
 use mathlib.Core.Bool.{true}
 use mathlib.Core.Logic.{_↔_}
-use mathlib.Core.Path.{_≡_, refl, ap, _∙_}
+use mathlib.Core.Path.{_≡_, refl, sym, ap, _∙_}
 use Rattle.bounded.specs.Table.{tabulate}
 use Rattle.answers.specs.Answers.{rules}
 use Rattle.network.specs.Completion.{Verdict, verdict, shown}
 use Rattle.state.specs.Solutions.{verdictOf}
 use Rattle.state.proofs.Solutions.{verdict-of}
-use Rattle.network.specs.Calls.{Call, follow-step, full-reduction, add-table, answer, adds}
+use Rattle.network.specs.Calls.{Call, follow-step, full-reduction, add-table, refuses, answer, tablesOf, adds}
+use Rattle.network.proofs.Calls.{adds-none}
 use Rattle.state.specs.declared.state.State.{State}
 use Rattle.state.specs.View.{view, pack, soundState}
 use Rattle.state.proofs.View.{Shaped}
@@ -24,9 +25,9 @@ call-answers s h t (add-table x y rows) = table-answers s h t x y rows
 
 -- And it adds the table that it adds to that network.
 pub call-adds : (s : State) → soundState s ≡ true → (c : Call) → addsTo s c ≡ adds (view s) c
-unfolding addsTo adds
-call-adds s t (follow-step l f) = refl
-call-adds s t full-reduction = refl
+unfolding addsTo adds refuses tablesOf
+call-adds s t (follow-step l f) = sym (adds-none (view s) (follow-step l f) refl)
+call-adds s t full-reduction = sym (adds-none (view s) full-reduction refl)
 call-adds s t (add-table x y rows) = rw (table-number s x y rows, sound-table s x y rows t)
 
 pub ruled-as : (s : State) → soundState s ≡ true → (k : Verdict) → ruledAs k (verdictOf s) ↔ (verdict (view s) ≡ k)

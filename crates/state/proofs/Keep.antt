@@ -2,8 +2,9 @@
 use mathlib.Core.Bool.{true}
 use mathlib.Core.List.{List, [], _∷_}
 use mathlib.Core.Path.{_≡_}
+use Rattle.bounded.specs.Bool.{if}
 use Rattle.network.specs.Reduction.{reduce}
-use Rattle.network.specs.Calls.{Call, full-reduction, answer, after}
+use Rattle.network.specs.Calls.{Call, full-reduction, refuses, made, answer, after}
 use Rattle.network.proofs.Calls.{after-keeps}
 use Rattle.head.proofs.Held.{Packed, kept-packed}
 use Rattle.state.specs.View.{Shaped, view, soundState}
@@ -17,4 +18,4 @@ module _ (s : State) (h : Shaped s) (t : soundState s ≡ true) where
 
   -- and a full reduction.
   pub reduced-packed : Packed (reduce (view s) .network)
-  reduced-packed = let p = after-packed (full-reduction ∷ []) in unfold after answer in p
+  reduced-packed = let p = after-packed (full-reduction ∷ []) in unfold after answer refuses made if in p

@@ -1,5 +1,6 @@
 -- The follow step and the full reduction on states: what they hand back is sound where what they got is, and has the same solutions.
 use mathlib.Core.Bool.{Bool, true, false}
+use mathlib.Core.List.{[]}
 use mathlib.Core.Path.{_≡_, refl, sym, ap, _∙_}
 use Prim.Native.Nat.{ℕ, suc, pred, _+_, _≤_}
 use native.Mathlib.Omega.{arith}
@@ -15,8 +16,8 @@ use Rattle.network.specs.Network.{Network, free, solves}
 use Rattle.network.specs.Promise.{Keeps}
 use Rattle.network.specs.Step.{refusal, eliminate}
 use Rattle.network.specs.Reduction.{freeCount, reducible, reduce}
-use Rattle.network.specs.Calls.{Call, follow-step, full-reduction, answer, adds, keepsTo}
-use Rattle.network.proofs.Calls.{answer-taken, answer-refused, answer-reduced, answer-keeps}
+use Rattle.network.specs.Calls.{Call, follow-step, full-reduction, refuses, made, answer, tablesOf, adds, keepsTo}
+use Rattle.network.proofs.Calls.{answer-taken, answer-refused, answer-keeps, adds-none}
 use Rattle.network.proofs.Reduction.{reduce-count, reduce-taken, reduce-most, reduce-stops}
 use Rattle.answers.specs.declared.Outcome.{Outcome}
 use Rattle.answers.specs.declared.Outcome.the-variants as outcome
@@ -78,17 +79,17 @@ module _ (s : State) where
 -- On a sound state a call hands back the state of the network that it answers.
 module _ (s : State) (h : Shaped s) (t : soundState s ≡ true) where
   pub step-answers : (l f : ℕ) → stepped s l f .state ≡ pack (answer (view s) (follow-step l f))
-  unfolding refused
+  unfolding refused refuses made
   step-answers l f =
       let same = sound-step s l f t in
       by-cases (eqb (refusal (view s) l f) 0)
-      (λ r. ap (λ (a : Told). a .state) (stepped-taken s l f (same ∙ eqb-true _ 0 r)) ∙ ap pack (sym (answer-taken (view s) l f r)))
+      (λ r. ap (λ (a : Told). a .state) (stepped-taken s l f (same ∙ eqb-true _ 0 r)) ∙ ap pack (sym (answer-taken (view s) (follow-step l f) r)))
       (λ r. ap (λ (a : Told). a .state) (stepped-refused s l f _ same (let d : refusal (view s) l f ≡ 0 → ⊥ = eqb-false _ 0 r in omega arith))
-      ∙ sym (pack-view s h) ∙ ap pack (sym (answer-refused (view s) l f r)))
+      ∙ sym (pack-view s h) ∙ ap pack (sym (answer-refused (view s) (follow-step l f) r)))
 
   pub reduced-answers : reduced s .state ≡ pack (answer (view s) full-reduction)
-  unfolding reducedAs
-  reduced-answers = ap (λ (a : Told). a .state) (reduced-done s t) ∙ ap pack (sym (answer-reduced (view s)))
+  unfolding reducedAs refuses made
+  reduced-answers = ap (λ (a : Told). a .state) (reduced-done s t) ∙ ap pack (sym (answer-taken (view s) full-reduction refl))
 
   pub answer-packed : (c : Call) → Packed (answer (view s) c)
   answer-packed c = kept-packed _ (h .head-shaped) t (answer (view s) c) (answer-keeps (view s) (state-sound s h t) c)
@@ -127,19 +128,25 @@ kept-packed-state s M p K P =
 pub answer-kept : (s : State) → Shaped s → soundState s ≡ true → (c : Call) → StateKept s (pack (answer (view s) c)) (keepsTo (adds (view s) c))
 answer-kept s h t c = kept-packed-state s (answer (view s) c) _ (answer-keeps (view s) (state-sound s h t) c) (answer-packed s h t c)
 
+-- A call that is to add no table keeps every solution.
+none-kept : (s : State) → Shaped s → soundState s ≡ true → (c : Call) → tablesOf c ≡ []
+    → StateKept s (pack (answer (view s) c)) (λ (g : ℕ → ℕ). true)
+unfolding keepsTo
+none-kept s h t c e = rw (adds-none (view s) c e) at (answer-kept s h t c)
+
 -- A step and a reduction keep every solution.
 pub step-keeps : (s : State) → Shaped s → (l f : ℕ) → StateKept s (stepped s l f .state) (λ (g : ℕ → ℕ). true)
-unfolding refused adds keepsTo
+unfolding refused tablesOf
 step-keeps s h l f =
     by-cases (soundState s)
-    (λ t. rw (step-answers s h t l f) (answer-kept s h t (follow-step l f)))
+    (λ t. rw (step-answers s h t l f) (none-kept s h t (follow-step l f) refl))
     (λ t. rw (stepped-refused s l f 9 (unsound-step s l f t) (omega arith)) (kept-self s h _ (λ g. refl)))
 
 pub reduced-keeps : (s : State) → Shaped s → StateKept s (reduced s .state) (λ (g : ℕ → ℕ). true)
-unfolding refused adds keepsTo
+unfolding refused tablesOf
 reduced-keeps s h =
     by-cases (soundState s)
-    (λ t. rw (reduced-answers s h t) (answer-kept s h t full-reduction))
+    (λ t. rw (reduced-answers s h t) (none-kept s h t full-reduction refl))
     (λ t. rw (reduced-refused s t) (kept-self s h _ (λ g. refl)))
 
 -- The full reduction of a sound state.

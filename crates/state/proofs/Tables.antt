@@ -12,9 +12,9 @@ use Rattle.bounded.proofs.Bool.{by-cases, implies-false, if-true, if-false}
 use Rattle.network.specs.Sound.{Sound}
 use Rattle.network.specs.Promise.{Keeps}
 use Rattle.network.specs.Added.{traced, meetsTable, addRefusal, added, Adds}
-use Rattle.network.specs.Calls.{add-table, answer}
+use Rattle.network.specs.Calls.{add-table, refuses, made, answer}
 use Rattle.network.proofs.Added.{not-refused, table-keeps, added-adds}
-use Rattle.network.proofs.Calls.{answer-added, answer-not-added}
+use Rattle.network.proofs.Calls.{answer-taken, answer-refused}
 use Rattle.answers.specs.declared.Outcome.{Outcome}
 use Rattle.answers.specs.declared.Outcome.the-variants as outcome
 use Rattle.answers.specs.Answers.{outcomeNumber}
@@ -90,13 +90,13 @@ module _ (s : State) (x y : ℕ) (rows : List ℕ) where
 -- On a sound state the call hands back the state of the network that it answers.
 pub table-answers : (s : State) → Shaped s → soundState s ≡ true → (x y : ℕ) (rows : List ℕ)
     → tableAdded s x y rows .state ≡ pack (answer (view s) (add-table x y rows))
-unfolding refused
+unfolding refused refuses made
 table-answers s h t x y rows =
     let same = sound-table s x y rows t in
     by-cases (eqb (addRefusal (view s) x y rows) 0)
-    (λ r. ap (λ (a : Told). a .state) (table-taken s x y rows (same ∙ eqb-true _ 0 r)) ∙ ap pack (sym (answer-added (view s) x y rows r)))
+    (λ r. ap (λ (a : Told). a .state) (table-taken s x y rows (same ∙ eqb-true _ 0 r)) ∙ ap pack (sym (answer-taken (view s) (add-table x y rows) r)))
     (λ r. ap (λ (a : Told). a .state) (table-refused s x y rows _ same (let d : addRefusal (view s) x y rows ≡ 0 → ⊥ = eqb-false _ 0 r in omega arith))
-    ∙ sym (pack-view s h) ∙ ap pack (sym (answer-not-added (view s) x y rows r)))
+    ∙ sym (pack-view s h) ∙ ap pack (sym (answer-refused (view s) (add-table x y rows) r)))
 
 -- The solutions that stay are those that keep to the table, if it is not refused.
 pub table-keeps-state : (s : State) → Shaped s → (x y : ℕ) (rows : List ℕ)

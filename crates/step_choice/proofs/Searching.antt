@@ -1,27 +1,26 @@
 -- The search for the next step: what has been passed over, and what is found.
 use mathlib.Core.Bool.{Bool, true, false}
 use mathlib.Core.List.{List}
-use mathlib.Core.Path.{_≡_, sym, ap, ap₂, _∙_}
+use mathlib.Core.Path.{_≡_, sym, ap, _∙_}
 use Prim.Native.Nat.{ℕ, _<_}
 use native.Mathlib.Omega.{arith}
 use lib.Dec.{eqb}
 use borrow.Author.Tests.{eq-eqb, ne-eqb}
 use Rattle.bounded.proofs.Bool.{if-true, if-false}
-use Rattle.bounded.specs.Fold.{first}
 use Rattle.bounded.proofs.Fold.{some-none, first-is}
 use Rattle.cause.proofs.Laws.{number-positive}
 use Rattle.cause.specs.declared.Cause.{Cause}
 use Rattle.network.specs.Network.{Network}
 use Rattle.network.specs.Step.{legal}
-use Rattle.network.specs.Reduction.{leading, reducible, nextLeader, nextFollower}
-use Rattle.network.proofs.Step.{legal-e}
-use Rattle.network.proofs.Reduction.{leading-i, legal-reducible}
+use Rattle.network.specs.Reduction.{leading, reducible, nextLeader, lowestFollower}
+use Rattle.network.proofs.Step.{Legal, legal-e}
+use Rattle.network.proofs.Reduction.{leading-i, reducible-leads}
 use Rattle.head.specs.declared.Head.{Head}
 use Rattle.head.specs.Held.{HeadShaped, held, soundIn}
 use Rattle.step_judge.specs.Judging.{judgedNumber, pairNumber}
 use Rattle.step_judge.specs.declared.Judgement.the-variants as judgement
 use Rattle.step_judge.proofs.Judging.{leader-led}
-use Rattle.step_choice.specs.Judging.{nextPair}
+use Rattle.step_choice.specs.Judging.{followerPair, nextPair}
 use Rattle.step_choice.specs.declared.Pair.the-variants as pair
 use Rattle.step_choice.proofs.Judging.{legalAt, not-zero, legal-counted}
 
@@ -43,15 +42,18 @@ module _ (N : Network) where
   found-first : (i j : ℕ) → legal N i j ≡ true
       → ((x : ℕ) → x < i → leading N x ≡ false) → ((y : ℕ) → y < j → legal N i y ≡ false)
       → pair.Found i j ≡ nextPair N
-  unfolding nextPair nextLeader nextFollower
+  unfolding followerPair nextLeader
   found-first i j l above before =
       let g = legal-e N i j l in
       let p : nextLeader N ≡ i = first-is (N .n) (leading N) i (g .i-in) (leading-i N i j l) above in
-      sym (if-true _ _ _ (legal-reducible N i j l) ∙ ap₂ pair.Found p (ap (λ (x : ℕ). first (N .n) (legal N x)) p ∙ first-is (N .n) (legal N i) j (g .j-in) l before))
+      sym (ap (followerPair N) p ∙ (if-true _ _ _ (leading-i N i j l) ∙ ap (pair.Found i) (lowest-is i j g l before)))
+    where
+      lowest-is : (i j : ℕ) → Legal N i j → legal N i j ≡ true → ((y : ℕ) → y < j → legal N i y ≡ false) → lowestFollower N i ≡ j
+      lowest-is i j g l before = unfold lowestFollower in first-is (N .n) (legal N i) j (g .j-in) l before
 
   none-found : ((x : ℕ) → x < N .n → leading N x ≡ false) → pair.Nothing ≡ nextPair N
-  unfolding nextPair reducible
-  none-found h = sym (if-false _ _ _ (some-none (N .n) (leading N) h))
+  unfolding followerPair reducible
+  none-found h = sym (if-false _ _ _ (sym (reducible-leads N) ∙ some-none (N .n) (leading N) h))
 
 -- The same on the words of a sound head and rows.
 module _ {h : Head} (rows : List ℕ) (S : HeadShaped h) (t : soundIn h rows ≡ true) where

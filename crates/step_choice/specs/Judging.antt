@@ -2,7 +2,7 @@
 use Prim.Native.Nat.{ℕ}
 use Rattle.bounded.specs.Bool.{if}
 use Rattle.network.specs.Network.{Network, free, functional}
-use Rattle.network.specs.Reduction.{reducible, nextLeader, nextFollower}
+use Rattle.network.specs.Reduction.{leading, nextLeader, lowestFollower}
 use Rattle.step_judge.specs.Judging.{pairNumber}
 use Rattle.step_choice.specs.declared.Pair.{Pair}
 use Rattle.step_choice.specs.declared.Pair.the-variants as pair
@@ -11,6 +11,10 @@ use Rattle.step_choice.specs.declared.Pair.the-variants as pair
 unfoldable pub pairRefusal : Network → ℕ → ℕ → ℕ
 pairRefusal N i j = pairNumber (free N i) (free N j) (N .stated i j) (functional N i j)
 
+-- i with the lowest variable that can follow it, or nothing where none can.
+unfoldable pub followerPair : Network → ℕ → Pair
+followerPair N i = if (leading N i) (pair.Found i (lowestFollower N i)) pair.Nothing
+
 -- "the lowest i that has a legal j, with the lowest such j", or nothing where no step is legal.
-unfoldable pub nextPair : Network → Pair
-nextPair N = if (reducible N) (pair.Found (nextLeader N) (nextFollower N)) pair.Nothing
+abbrev pub nextPair : Network → Pair
+nextPair N = followerPair N (nextLeader N)

@@ -3,26 +3,26 @@
 use mathlib.Core.Path.{_≡_, sym, _∙_}
 use native.Mathlib.Omega.{arith}
 use borrow.Author.Needs.{needs}
-use Rattle.network.specs.Reduction.{freeCount}
+use Rattle.network.specs.Reduction.{freeCount, nextLeader}
 use Rattle.step_choice.specs.Judging.{nextPair}
 use Rattle.step_choice.specs.declared.Pair.the-variants as pair
 use Rattle.head.specs.Held.{held}
 use Rattle.head.proofs.Held.{shape}
-use Rattle.step_reduce.proofs.Reducing.{Reducing, reducing-none, reducing-legal, reducing-steps, reducing-less, reducing-more, reducing-done}
+use Rattle.step_reduce.proofs.Reducing.{Running, running-none, running-legal, running-steps, running-less, running-more, running-done, reduced-to}
 use Rattle.step_reduce.proofs.reduce_sound.Statement.{statement}
 use Rattle.step_reduce.proofs.reduce_sound.Tie as tie
 
 abbrev Inv-loop : tie.InvT-loop
-Inv-loop rows₀ cut₀ steps₀ pair₀ rows cut steps pair = Reducing cut₀ rows₀ cut rows steps × (pair ≡ nextPair (held cut rows))
+Inv-loop rows₀ cut₀ steps₀ pair₀ rows cut steps pair = Running nextLeader cut₀ rows₀ cut rows steps × (pair ≡ nextPair (held cut rows))
 
 abbrev μ-loop : tie.MeasureT-loop
 μ-loop rows₀ cut₀ steps₀ pair₀ rows cut steps pair = freeCount (held cut rows)
 
 loop-holds : tie.Need-loop-holds Inv-loop μ-loop
-loop-holds c = let s = c .before .before in (reducing-none _ _ (search shape) (s .pre .0) (s .pre .1), c .next-pair .ensures)
+loop-holds c = let s = c .before .before in (running-none nextLeader _ _ (search shape) (s .pre .0) (s .pre .1), c .next-pair .ensures)
 
 returns : tie.Need-returns Inv-loop μ-loop
-returns c = let l = c .before .before .loop in reducing-done (l .inv .0) (sym (l .inv .1) ∙ c .enum-told .given .1)
+returns c = let l = c .before .before .loop in reduced-to _ _ _ _ (running-done (l .inv .0) (sym (l .inv .1) ∙ c .enum-told .given .1))
 
 -- The pair found.
 found : (c : tie.After-step-arg Inv-loop μ-loop) → let l = c .before .before .before .before .loop in
@@ -32,30 +32,30 @@ found c = let q = c .before .before in sym (q .before .before .loop .inv .1) ∙
 step-requires : tie.Need-step-requires Inv-loop μ-loop
 step-requires c κs =
     let R = c .before .before .before .before .loop .inv .0 in
-    (R .still-sound, R .still-rows, reducing-legal R (found c))
+    (R .still-sound, R .still-rows, running-legal R (found c))
 
 add-steps : tie.Need-add-steps Inv-loop μ-loop
 add-steps c =
     let R = c .before .before .before .before .before .loop .inv .0 in
-    omega (arith, reducing-steps R (found (c .before)))
+    omega (arith, running-steps R (found (c .before)))
 
 next-pair-requires-2 : tie.Need-next-pair-requires-2 Inv-loop μ-loop
 next-pair-requires-2 c κs =
     let t = c .before in
     let R = t .before .before .before .before .before .loop .inv .0 in
-    reducing-more R (found (t .before)) (t .step .ensures) .still-sound
+    running-more R (found (t .before)) (t .step .ensures) .still-sound
 
 loop-less : tie.Need-loop-less Inv-loop μ-loop
 loop-less c =
     let t = c .before .before in
     let R = t .before .before .before .before .before .loop .inv .0 in
-    reducing-less R (found (t .before)) (t .step .ensures)
+    running-less R (found (t .before)) (t .step .ensures)
 
 loop-again : tie.Need-loop-again Inv-loop μ-loop
 loop-again c =
     let t = c .before .before in
     let R = t .before .before .before .before .before .loop .inv .0 in
-    (reducing-more R (found (t .before)) (t .step .ensures), c .next-pair2 .ensures)
+    (running-more R (found (t .before)) (t .step .ensures), c .next-pair2 .ensures)
 
 pub reduce-sound-spec : {M : Type 1} → statement M
 reduce-sound-spec =
