@@ -12,6 +12,7 @@ use Rattle.cause.specs.declared.Cause.{Cause}
 use Rattle.cause.proofs.Laws.{number-positive}
 use Rattle.answers.specs.declared.Outcome.the-variants as outcome
 use Rattle.answers.specs.Answers.{outcomeNumber, VerdictTold}
+use Rattle.network.specs.Calls.{full-reduction, add-table}
 use Rattle.head.specs.Held.{HeadShaped}
 use Rattle.step_reduce.specs.declared.Reduction.{Reduction}
 use Rattle.step_reduce.specs.Reduced.{ReducedTo}
@@ -24,8 +25,7 @@ use Rattle.state.specs.Tables.{tableAdded}
 use Rattle.state.specs.Solutions.{verdictOf}
 use Rattle.state.specs.Worked.{workedTold}
 use Rattle.state.proofs.Steps.{reduced-done}
-use Rattle.state.proofs.Tables.{table-number, table-back, taken-sound}
-use Rattle.state.proofs.Sizes.{reduced-same, table-same, table-head}
+use Rattle.state.proofs.Calls.{call-number, call-back, call-same, call-head, taken-sound}
 use Rattle.state.proofs.Worked.{reduction-told}
 use Rattle.meter_rule.specs.PageNine.{pageNine}
 use Rattle.meter.specs.Fitted.{MeterTold, flatMeter, fitRefusal, turnedAway, fittedState, fitted}
@@ -48,7 +48,7 @@ module _ {s : State} (h : Shaped s) (f : flatMeter (s .n) (s .sizes) ≡ true) {
       let n : tableAdded s 1 2 pageNine .number ≡ numberOf c = sym (ap (λ (t : Told). t .number) added-told) ∙ ap outcomeNumber e in
       let unsound : soundState s ≡ false =
       by-cases (soundState s) (λ t. absurd (let z : ⊥ = omega (arith, page-nine-taken s h (refuses-none s t f), number-positive c) in z)) (λ t. t) in
-      ap (turnedAway 9) (limited-is ∙ table-back s 1 2 pageNine (λ z. omega (arith, number-positive c)))
+      ap (turnedAway 9) (limited-is ∙ call-back s (add-table 1 2 pageNine) (λ z. omega (arith, number-positive c)))
       ∙ sym (fitted-away s 9 (refuses-unsound s unsound) (omega arith))
 
   module _ (e : a .outcome ≡ outcome.Done) where
@@ -56,7 +56,7 @@ module _ {s : State} (h : Shaped s) (f : flatMeter (s .n) (s .sizes) ≡ true) {
     unfolding outcomeNumber
     fits =
         let n : tableAdded s 1 2 pageNine .number ≡ 0 = sym (ap (λ (t : Told). t .number) added-told) ∙ ap outcomeNumber e in
-        refuses-none s (taken-sound s 1 2 pageNine (sym (table-number s 1 2 pageNine) ∙ n)) f
+        refuses-none s (taken-sound s (add-table 1 2 pageNine) (sym (call-number s (add-table 1 2 pageNine)) ∙ n)) f
 
     pub limited-shaped : Shaped (stateOf (a .head) rows)
     limited-shaped = rw limited-is (with-table s h fits .on-shaped)
@@ -88,7 +88,7 @@ pub fitted-same : (s : State) → HeadShaped (headIn s) → (fitted s .state .n 
 unfolding turnedAway fittedState
 fitted-same s h =
     by-cases (eqb (fitRefusal s) 0)
-    (λ t. let x = table-same s h 1 2 pageNine in
-    let y = reduced-same _ (table-head s h 1 2 pageNine) in
+    (λ t. let x = call-same s h (add-table 1 2 pageNine) in
+    let y = call-same _ (call-head s h (add-table 1 2 pageNine)) full-reduction in
     rw (fitted-done s (eqb-true _ 0 t)) (y .0 ∙ x .0, y .1 ∙ x .1))
     (λ t. let d : fitRefusal s ≡ 0 → ⊥ = eqb-false _ 0 t in rw (fitted-away s _ refl (omega arith)) (refl, refl))

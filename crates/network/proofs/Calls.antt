@@ -58,7 +58,7 @@ pub keeps-to-none : (f : ℕ → ℕ) → keepsTo [] f ≡ true
 unfolding keepsTo
 keeps-to-none f = refl
 
-keeps-to-one : (x y : ℕ) (rows : List ℕ) (f : ℕ → ℕ) → keepsTo (record { first = x; second = y; rows = rows } ∷ []) f ≡ meetsTable (pred x) (pred y) rows f
+pub keeps-to-one : (x y : ℕ) (rows : List ℕ) (f : ℕ → ℕ) → keepsTo (record { first = x; second = y; rows = rows } ∷ []) f ≡ meetsTable (pred x) (pred y) rows f
 unfolding keepsTo
 keeps-to-one x y rows f = and-true _
 

@@ -28,8 +28,9 @@ use Rattle.state.specs.Steps.{reduced}
 use Rattle.state.specs.Tables.{tableAdded, TablesByRules}
 use Rattle.state.specs.Solutions.{valuesOf, tested, verdictOf}
 use Rattle.state.proofs.View.{state-sound}
-use Rattle.state.proofs.Steps.{StateKept, reduced-keeps}
-use Rattle.state.proofs.Tables.{sound-table, table-number, table-keeps-state}
+use Rattle.state.proofs.Calls.{StateKept, call-number}
+use Rattle.state.proofs.Steps.{reduced-keeps}
+use Rattle.state.proofs.Tables.{sound-table, table-keeps-state}
 use Rattle.state.proofs.Solutions.{tested-yes, yes-solves}
 use Rattle.state_read.proofs.RoundTrip.{accepted}
 use Rattle.promise.specs.Promise.{handedBack, stateAfter, ruledAs, lastState, buildOfSheet, Promise}
@@ -97,7 +98,7 @@ module _ (s : State) (h : Shaped s) (t : soundState s ≡ true) where
   fitting : (x y : ℕ) (rows : List ℕ) → RowsFit s x y rows → tableAdded s x y rows .number ≡ 0
   unfolding tableAllows held
   fitting x y rows F =
-      table-number s x y rows ∙ sound-table s x y rows t
+      call-number s (add-table x y rows) ∙ sound-table s x y rows t
       ∙ add-refuses (view s) x y rows .number-0 .1 (
         (record { from-1 = F .first-in .0; to-n = F .first-in .1 }, record { from-1 = F .second-in .0; to-n = F .second-in .1 }),
         (F .apart, record { row-count = F .a-row-each; bits-below = F .bits-below }),
@@ -106,7 +107,7 @@ module _ (s : State) (h : Shaped s) (t : soundState s ≡ true) where
   added-builds : (x y : ℕ) (rows : List ℕ) → tableAdded s x y rows .number ≡ 0 → HandedOn s (tableAdded s x y rows .state) (keepsToRows x y rows)
   unfolding meetsTable tableAllows valuesOf keepsToRows
   added-builds x y rows e =
-      handed-on s _ h t _ (table-keeps-state s h x y rows) _ (λ b. implies-true _ _ (eq-eqb _ 0 (sym (table-number s x y rows) ∙ e)))
+      handed-on s _ h t _ (table-keeps-state s h x y rows) _ (λ b. implies-true _ _ (eq-eqb _ 0 (sym (call-number s (add-table x y rows)) ∙ e)))
 
 pub sound-laws : SoundLaws
 unfolding SoundLaws ruledAs

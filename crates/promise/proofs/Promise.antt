@@ -40,8 +40,8 @@ use Rattle.state_search.proofs.Searches.{searches, not-too-many}
 use Rattle.promise.specs.Promise.{stateAfter, tablesAdded, networkRead, ruledAs, lastState, lastNetwork, lastTables, buildOfSheet, buildCount, Promise, WithoutTables, OneLive, Demand3}
 use Rattle.state.proofs.View.{Shaped, pack-view, packed-view, packed-state, packed-shaped}
 use Rattle.state.proofs.Keep.{after-packed}
-use Rattle.state.proofs.Steps.{answer-packed}
-use Rattle.promise.proofs.Calls.{call-answers, call-adds, ruled-as}
+use Rattle.state.proofs.Calls.{answer-packed}
+use Rattle.promise.proofs.Calls.{handed-answers, call-adds, ruled-as}
 use Rattle.state_read.proofs.RoundTrip.{Accepted, accepted, read-sound}
 use Rattle.state.proofs.Solutions.{tested-yes, yes-solves, complete-accepted, completed-buffer, verdict-of}
 
@@ -51,7 +51,7 @@ unfolding stateAfter after
 after-answers s h t [] = sym (pack-view s h)
 after-answers s h t (c ∷ cs) =
     let P = answer-packed s h t c in
-    ap (λ (u : State). stateAfter u cs) (call-answers s h t c)
+    ap (λ (u : State). stateAfter u cs) (handed-answers s h t c)
     ∙ after-answers (pack (answer (view s) c)) (packed-shaped P) (packed-state P) cs
     ∙ ap (λ (N : Network). pack (after N cs)) (packed-view P)
 
@@ -62,7 +62,7 @@ tables-answer s h t [] = refl
 tables-answer s h t (c ∷ cs) =
     let P = answer-packed s h t c in
     ap₂ (λ (ts us : List Table). ts ++ us) (call-adds s t c)
-    (ap (λ (u : State). tablesAdded u cs) (call-answers s h t c)
+    (ap (λ (u : State). tablesAdded u cs) (handed-answers s h t c)
     ∙ tables-answer (pack (answer (view s) c)) (packed-shaped P) (packed-state P) cs
     ∙ ap (λ (N : Network). addedBy N cs) (packed-view P))
 

@@ -14,22 +14,19 @@ use Rattle.network.specs.Completion.{Verdict, NONE, BUILT, allowedChoice, decid
 use Rattle.network.specs.Search.{precedes}
 use Rattle.network.specs.Count.{countTuples, choiceCount}
 use Rattle.network.specs.Sheet.{Table, Sheet, networkOf}
-use Rattle.network.specs.Calls.{Call, follow-step, full-reduction, add-table, after, keepsTo, tableless}
+use Rattle.network.specs.Calls.{Call, after, tablesOf, keepsTo, tableless}
 use Rattle.format.specs.Parse.{Octets, Parse, got, bad, parse}
 use Rattle.format.specs.Builds.{options, optionSize, isBuild, isBuildOf}
 use Rattle.state.specs.declared.state.State.{State}
 use Rattle.state.specs.View.{view, pack, zeroState}
 use Rattle.answers.specs.Answers.{says, VerdictTold, rules}
 use Rattle.state.specs.Read.{readSheet}
-use Rattle.state.specs.Steps.{stepped, reduced}
-use Rattle.state.specs.Tables.{tableAdded}
+use Rattle.state.specs.Calls.{called}
 use Rattle.state.specs.Solutions.{valuesOf, tested, completeNumber, completedBuffer, verdictOf, searchNumber, searchOf}
 
 -- "Each call gets the state that the one before it handed back; a refused call hands back what it was given, and nobody else changes it meanwhile."
 unfoldable pub handedBack : State → Call → State
-handedBack s (follow-step l f) = stepped s l f .state
-handedBack s full-reduction = reduced s .state
-handedBack s (add-table x y rows) = tableAdded s x y rows .state
+handedBack s c = called s c .state
 
 unfoldable pub stateAfter : State → List Call → State
 stateAfter s [] = s
@@ -37,9 +34,7 @@ stateAfter s (c ∷ cs) = stateAfter (handedBack s c) cs
 
 -- The table that a call adds to the sheet, read off the call and its answer: one that was not refused.
 unfoldable pub addsTo : State → Call → List Table
-addsTo s (follow-step l f) = []
-addsTo s full-reduction = []
-addsTo s (add-table x y rows) = if (eqb (tableAdded s x y rows .number) 0) (record { first = x; second = y; rows = rows } ∷ []) []
+addsTo s c = if (eqb (called s c .number) 0) (tablesOf c) []
 
 -- "the tables that calls not refused added" (document 02)
 unfoldable pub tablesAdded : State → List Call → List Table

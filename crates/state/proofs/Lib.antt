@@ -1,9 +1,9 @@
 pub mod View
 pub mod Keep
+pub mod Calls
 pub mod Steps
 pub mod Rules
 pub mod Tables
-pub mod Sizes
 pub mod Lists
 pub mod Solutions
 pub mod Worked

@@ -1,20 +1,17 @@
 -- A table added to a state: what is handed back is sound where what was given is, and has the solutions that keep to the table.
-use mathlib.Core.Bool.{true, false}
-use mathlib.Core.List.{List, []}
-use mathlib.Core.Path.{_≡_, refl, sym, ap, ap₂, _∙_}
+use mathlib.Core.Bool.{true}
+use mathlib.Core.List.{List}
+use mathlib.Core.Path.{_≡_, sym, ap, ap₂, _∙_}
 use Prim.Native.Nat.{ℕ, suc, pred, _-_, _≤_}
 use native.Mathlib.Numerals.{sub-one}
-use native.Mathlib.Omega.{arith}
 use lib.Dec.{eqb}
-use borrow.Author.Tests.{eq-eqb, ne-eqb, eqb-true, eqb-false}
 use Rattle.bounded.specs.Bool.{implies}
-use Rattle.bounded.proofs.Bool.{by-cases, implies-false, if-true, if-false}
 use Rattle.network.specs.Sound.{Sound}
 use Rattle.network.specs.Promise.{Keeps}
 use Rattle.network.specs.Added.{traced, meetsTable, addRefusal, added, Adds}
-use Rattle.network.specs.Calls.{add-table, refuses, made, answer}
+use Rattle.network.specs.Calls.{add-table, refuses, made, tablesOf}
 use Rattle.network.proofs.Added.{not-refused, table-keeps, added-adds}
-use Rattle.network.proofs.Calls.{answer-taken, answer-refused}
+use Rattle.network.proofs.Calls.{keeps-to-one}
 use Rattle.answers.specs.declared.Outcome.{Outcome}
 use Rattle.answers.specs.declared.Outcome.the-variants as outcome
 use Rattle.answers.specs.Answers.{outcomeNumber}
@@ -26,101 +23,58 @@ use Rattle.head.proofs.Held.{HeadShaped, Packed, held-sound, kept-packed}
 use Rattle.state.specs.declared.state.State.{State}
 use Rattle.state.specs.View.{headIn, stateOf, view, pack, soundState}
 use Rattle.state.specs.Answers.{Told}
-use Rattle.state.specs.Steps.{refused}
 use Rattle.state.specs.Tables.{tableRefusal, tableAdded, AddedByRules, TablesByRules}
-use Rattle.state.proofs.View.{Shaped, pack-view, packed-view}
-use Rattle.state.proofs.Steps.{StateKept, kept-self, kept-packed-state}
+use Rattle.state.proofs.View.{Shaped, packed-view}
+use Rattle.state.proofs.Calls.{StateKept, kept-cong, call-sound, call-taken, call-number, call-back, call-keeps, taken-sound}
 
 -- Case by case.
 module _ (s : State) (x y : ℕ) (rows : List ℕ) where
-  pub unsound-table : soundState s ≡ false → tableRefusal s x y rows ≡ 9
-  unfolding tableRefusal
-  unsound-table t = if-false _ _ _ t
-
   pub sound-table : soundState s ≡ true → tableRefusal s x y rows ≡ addRefusal (view s) x y rows
-  unfolding tableRefusal
-  sound-table t = if-true _ _ _ t
+  unfolding refuses
+  sound-table t = call-sound s (add-table x y rows) t
 
   pub table-taken : tableRefusal s x y rows ≡ 0
       → tableAdded s x y rows ≡ record { number = 0; state = pack (added (view s) (pred x) (pred y) rows); steps = 0 }
-  unfolding tableAdded
-  table-taken e = if-true _ _ _ (eq-eqb _ 0 e)
-
-  -- "Each of these hands back the state given."
-  pub table-refused : (number : ℕ) → tableRefusal s x y rows ≡ number → 1 ≤ number → tableAdded s x y rows ≡ refused number s
-  unfolding tableAdded
-  table-refused number e h = if-false _ _ _ (ne-eqb (tableRefusal s x y rows) 0 (omega arith)) ∙ ap (λ (k : ℕ). refused k s) e
-
-  -- The number answered is the one that refuses.
-  pub table-number : tableAdded s x y rows .number ≡ tableRefusal s x y rows
-  unfolding refused
-  table-number =
-      by-cases (eqb (tableRefusal s x y rows) 0)
-      (λ t. let e = eqb-true _ 0 t in ap (λ (a : Told). a .number) (table-taken e) ∙ sym e)
-      (λ t. let d : tableRefusal s x y rows ≡ 0 → ⊥ = eqb-false _ 0 t in ap (λ (a : Told). a .number) (table-refused _ refl (omega arith)))
-
-  -- Only a table for a sound state is not refused.
-  pub taken-sound : tableRefusal s x y rows ≡ 0 → soundState s ≡ true
-  taken-sound e = by-cases (soundState s) (λ t. t) (λ t. absurd (let z : ⊥ = omega (arith, unsound-table t) in z))
+  unfolding made
+  table-taken e = call-taken s (add-table x y rows) e
 
   pub taken-fits : tableRefusal s x y rows ≡ 0 → addRefusal (view s) x y rows ≡ 0
-  taken-fits e = sym (sound-table (taken-sound e)) ∙ e
-
-  -- "Each of these hands back the state given."
-  pub table-back : (tableAdded s x y rows .number ≡ 0 → ⊥) → tableAdded s x y rows .state ≡ s
-  unfolding refused
-  table-back n =
-      ap (λ (a : Told). a .state) (table-refused _ refl (let d : tableRefusal s x y rows ≡ 0 → ⊥ = λ e. n (table-number ∙ e) in omega arith))
+  taken-fits e = sym (sound-table (taken-sound s (add-table x y rows) e)) ∙ e
 
   -- A table that is not refused, of a state whose head is what its types say.
   module _ (h : HeadShaped (headIn s)) (e : tableRefusal s x y rows ≡ 0) where
     sound-network : Sound (view s)
-    sound-network = held-sound _ _ h (taken-sound e)
+    sound-network = held-sound _ _ h (taken-sound s (add-table x y rows) e)
 
     pub keeps-network : Keeps (view s) (added (view s) (pred x) (pred y) rows) (meetsTable (pred x) (pred y) rows)
     keeps-network = let inside = not-refused (view s) x y rows (taken-fits e) in
         table-keeps (view s) (pred x) (pred y) rows sound-network (inside .0) (inside .1)
 
     pub added-packed : Packed (added (view s) (pred x) (pred y) rows)
-    added-packed = kept-packed _ h (taken-sound e) _ keeps-network
+    added-packed = kept-packed _ h (taken-sound s (add-table x y rows) e) _ keeps-network
 
     added-view : view (tableAdded s x y rows .state) ≡ added (view s) (pred x) (pred y) rows
     added-view = ap (λ (a : Told). view (a .state)) (table-taken e) ∙ packed-view added-packed
 
--- On a sound state the call hands back the state of the network that it answers.
-pub table-answers : (s : State) → Shaped s → soundState s ≡ true → (x y : ℕ) (rows : List ℕ)
-    → tableAdded s x y rows .state ≡ pack (answer (view s) (add-table x y rows))
-unfolding refused refuses made
-table-answers s h t x y rows =
-    let same = sound-table s x y rows t in
-    by-cases (eqb (addRefusal (view s) x y rows) 0)
-    (λ r. ap (λ (a : Told). a .state) (table-taken s x y rows (same ∙ eqb-true _ 0 r)) ∙ ap pack (sym (answer-taken (view s) (add-table x y rows) r)))
-    (λ r. ap (λ (a : Told). a .state) (table-refused s x y rows _ same (let d : addRefusal (view s) x y rows ≡ 0 → ⊥ = eqb-false _ 0 r in omega arith))
-    ∙ sym (pack-view s h) ∙ ap pack (sym (answer-refused (view s) (add-table x y rows) r)))
-
 -- The solutions that stay are those that keep to the table, if it is not refused.
 pub table-keeps-state : (s : State) → Shaped s → (x y : ℕ) (rows : List ℕ)
     → StateKept s (tableAdded s x y rows .state) (λ (g : ℕ → ℕ). implies (eqb (tableRefusal s x y rows) 0) (meetsTable (pred x) (pred y) rows g))
-unfolding refused implies meetsTable
+unfolding tablesOf
 table-keeps-state s h x y rows =
-    by-cases (eqb (tableRefusal s x y rows) 0)
-    (λ r. let e = eqb-true _ 0 r in
-    rw (table-taken s x y rows e, e) (kept-packed-state s _ _ (keeps-network s x y rows (h .head-shaped) e) (added-packed s x y rows (h .head-shaped) e)))
-    (λ r. let d : tableRefusal s x y rows ≡ 0 → ⊥ = eqb-false _ 0 r in
-    rw (table-refused s x y rows _ refl (omega arith)) (kept-self s h _ (λ g. implies-false _ _ r)))
+    kept-cong (λ g. ap (implies (eqb (tableRefusal s x y rows) 0)) (keeps-to-one x y rows g)) (call-keeps s h (add-table x y rows))
 
 pub table-rules : TablesByRules
 unfolding TablesByRules
 table-rules s h x y rows =
     record {
-      taken = λ n. let e = sym (table-number s x y rows) ∙ n in (
+      taken = λ n. let e = sym (call-number s (add-table x y rows)) ∙ n in (
         traced (view s) (pred x),
         traced (view s) (pred y),
         rw (added-view s x y rows H e) (added-adds (view s) (pred x) (pred y) rows (sound-network s x y rows H e)),
       );
-      solutions = λ n f. let e = sym (table-number s x y rows) ∙ n in
+      solutions = λ n f. let e = sym (call-number s (add-table x y rows)) ∙ n in
           rw (added-view s x y rows H e) (keeps-network s x y rows H e .same-solutions f);
-      handed-back = table-back s x y rows;
+      handed-back = call-back s (add-table x y rows);
     }
   where
     H : HeadShaped (headIn s)
@@ -150,7 +104,7 @@ not-refused-table {s} {x} {y} {rows} e q =
     let from-0 = counted-from-0 (view s) x y rows (taken-fits s x y rows taken) in
     record {
       number-0 = taken;
-      for-sound = taken-sound s x y rows taken;
+      for-sound = taken-sound s (add-table x y rows) taken;
       first-some = from-0 .0;
       second-some = from-0 .1;
       fits = from-0 .2;

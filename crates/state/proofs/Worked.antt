@@ -18,8 +18,10 @@ use Rattle.head.specs.declared.Head.{Head}
 use Rattle.head.specs.Held.{held}
 use Rattle.state.specs.declared.state.State.{State}
 use Rattle.state.specs.View.{stateOf, view, pack, soundState}
-use Rattle.state.specs.Steps.{refused, stepRefusal, stepped, reducedAs, reduced}
-use Rattle.state.proofs.Rules.{taken-sound}
+use Rattle.state.specs.Calls.{refused}
+use Rattle.state.specs.Steps.{stepRefusal, stepped, reducedAs, reduced}
+use Rattle.network.specs.Calls.{follow-step}
+use Rattle.state.proofs.Calls.{taken-sound}
 use Rattle.state.proofs.Steps.{sound-step, stepped-taken, reduced-refused}
 
 -- What a step leaves is the state of the network after it.
@@ -41,7 +43,7 @@ pub not-refused-step : {s : State} {l f : ℕ} {o : Outcome} → o ≡ outcome.D
 unfolding outcomeNumber
 not-refused-step {s} {l} {f} e q =
     let taken : stepRefusal s l f ≡ 0 = sym q ∙ ap outcomeNumber e in
-    let sound = taken-sound s l f taken in
+    let sound = taken-sound s (follow-step l f) taken in
     let both = refusal-0 (view s) l f .0 (sym (sound-step s l f sound) ∙ taken) in
     record {
       number-0 = taken;

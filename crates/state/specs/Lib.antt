@@ -3,6 +3,7 @@ pub mod View
 pub mod Answers
 pub mod Read
 pub mod Write
+pub mod Calls
 pub mod Steps
 pub mod Rules
 pub mod Tables

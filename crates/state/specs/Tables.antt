@@ -2,25 +2,22 @@
 use mathlib.Core.List.{List}
 use mathlib.Core.Path.{_≡_}
 use Prim.Native.Nat.{ℕ, pred}
-use lib.Dec.{eqb}
-use Rattle.bounded.specs.Bool.{and, if}
+use Rattle.bounded.specs.Bool.{and}
 use Rattle.network.specs.Network.{solves}
-use Rattle.network.specs.Added.{meetsTable, addRefusal, added, Adds}
+use Rattle.network.specs.Added.{meetsTable, Adds}
+use Rattle.network.specs.Calls.{add-table}
 use Rattle.state.specs.declared.state.State.{State}
-use Rattle.state.specs.View.{Shaped, view, pack, soundState}
+use Rattle.state.specs.View.{Shaped, view}
 use Rattle.state.specs.Answers.{Told}
-use Rattle.state.specs.Steps.{refused}
+use Rattle.state.specs.Calls.{callRefusal, called}
 
 -- "It refuses with 9, then 10, then 21 for two equal options, then 22 for a wrong count of rows or a bit at or above the size."
-unfoldable pub tableRefusal : State → ℕ → ℕ → List ℕ → ℕ
-tableRefusal s first second rows = if (soundState s) (addRefusal (view s) first second rows) 9
+abbrev pub tableRefusal : State → ℕ → ℕ → List ℕ → ℕ
+tableRefusal s first second rows = callRefusal s (add-table first second rows)
 
 -- "Each of these hands back the state given." No step is made: the count is 0.
-unfoldable pub tableAdded : State → ℕ → ℕ → List ℕ → Told
-tableAdded s first second rows =
-    if (eqb (tableRefusal s first second rows) 0)
-    (record { number = 0; state = pack (added (view s) (pred first) (pred second) rows); steps = 0 })
-    (refused (tableRefusal s first second rows) s)
+abbrev pub tableAdded : State → ℕ → ℕ → List ℕ → Told
+tableAdded s first second rows = called s (add-table first second rows)
 
 -- The request's sentences, of what the call answers.
 pub record AddedByRules (s : State) (first second : ℕ) (rows : List ℕ) : Type 0 where

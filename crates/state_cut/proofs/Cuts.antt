@@ -25,13 +25,15 @@ use Rattle.state.specs.View.{stateOf, view, soundState, zeroState}
 use Rattle.answers.specs.Answers.{readNumber, readPlace, VerdictTold, verdictTold, no-verdict}
 use Rattle.state.specs.Answers.{ReadTold, Told}
 use Rattle.state.specs.Read.{readSheet}
-use Rattle.state.specs.Steps.{refused, reducedAs, reduced}
+use Rattle.state.specs.Calls.{refused}
+use Rattle.state.specs.Steps.{reducedAs, reduced}
 use Rattle.state.specs.Solutions.{verdictOf}
 use Rattle.state.specs.Cut.{CutTold, cutAs, cutSheet}
 use Rattle.state_read.specs.Parts.{readPartsTold}
 use Rattle.state_cut.specs.Parts.{cutPartsTold}
 use Rattle.state.proofs.View.{zero-unsound}
-use Rattle.state.proofs.Steps.{StateKept, reduced-done, reduced-refused, reduced-keeps, reduced-most}
+use Rattle.state.proofs.Calls.{StateKept}
+use Rattle.state.proofs.Steps.{reduced-done, reduced-refused, reduced-keeps, reduced-most}
 use Rattle.state.proofs.Solutions.{verdict-refused}
 use Rattle.state_read.proofs.RoundTrip.{AsRead, got-or-bad, read-refused, read-got, read-sound}
 

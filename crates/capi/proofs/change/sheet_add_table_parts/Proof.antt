@@ -2,8 +2,7 @@
 use borrow.Author.Needs.{needs}
 use Rattle.head.specs.Held.{HeadShaped}
 use Rattle.head.proofs.Held.{shape}
-use Rattle.state.proofs.Tables.{table-back}
-use Rattle.state.proofs.Sizes.{table-same}
+use Rattle.state.proofs.Calls.{call-back, call-same}
 use Rattle.capi_lent.proofs.Laws.{left-as}
 use Rattle.capi.proofs.change.sheet_add_table_parts.Statement.{statement}
 use Rattle.capi.proofs.change.sheet_add_table_parts.Tie as tie
@@ -17,7 +16,7 @@ returns c =
     let h = a .before .before in
     let g = h .before .before .before .before .before .args in
     left-as (rw (h .head-of .ensures) at (a .add-parts .ensures)) (c .left .ensures)
-    (table-same _ (rw (h .head-of .ensures) at (shaped h)) (g .first) (g .second) _) (table-back _ (g .first) (g .second) _)
+    (call-same _ (rw (h .head-of .ensures) at (shaped h)) _) (call-back _ _)
 
 pub sheet-add-table-parts-spec : {M : Type 1} → statement M
 sheet-add-table-parts-spec = tie.close (tie.spec (λ c κs. search needs) (λ c κs. search needs) (λ c κs. search needs) returns)

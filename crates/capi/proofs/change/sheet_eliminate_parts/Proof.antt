@@ -2,8 +2,7 @@
 use borrow.Author.Needs.{needs}
 use Rattle.head.specs.Held.{HeadShaped}
 use Rattle.head.proofs.Held.{shape}
-use Rattle.state.proofs.Rules.{stepped-back}
-use Rattle.state.proofs.Sizes.{stepped-same}
+use Rattle.state.proofs.Calls.{call-back, call-same}
 use Rattle.capi_lent.proofs.Laws.{left-as}
 use Rattle.capi.proofs.change.sheet_eliminate_parts.Statement.{statement}
 use Rattle.capi.proofs.change.sheet_eliminate_parts.Tie as tie
@@ -16,7 +15,7 @@ returns c =
     let a = c .before .before .before .before in
     let h = a .before .before in
     left-as (rw (h .head-of .ensures) at (a .eliminate-parts .ensures)) (c .left .ensures)
-    (stepped-same _ (rw (h .head-of .ensures) at (shaped h)) _ _) (stepped-back _ _ _)
+    (call-same _ (rw (h .head-of .ensures) at (shaped h)) _) (call-back _ _)
 
 pub sheet-eliminate-parts-spec : {M : Type 1} → statement M
 sheet-eliminate-parts-spec = tie.close (tie.spec (λ c κs. search needs) (λ c κs. search needs) (λ c κs. search needs) returns)

@@ -2,8 +2,7 @@
 use borrow.Author.Needs.{needs}
 use Rattle.head.specs.Held.{HeadShaped}
 use Rattle.head.proofs.Held.{shape}
-use Rattle.state.proofs.Steps.{reduced-back}
-use Rattle.state.proofs.Sizes.{reduced-same}
+use Rattle.state.proofs.Calls.{call-back, call-same}
 use Rattle.capi_lent.proofs.Laws.{left-as}
 use Rattle.capi.proofs.change.sheet_reduce_parts.Statement.{statement}
 use Rattle.capi.proofs.change.sheet_reduce_parts.Tie as tie
@@ -16,7 +15,7 @@ returns c =
     let a = c .before .before .before .before in
     let h = a .before .before in
     left-as (rw (h .head-of .ensures) at (a .reduce-parts .ensures)) (c .left .ensures)
-    (reduced-same _ (rw (h .head-of .ensures) at (shaped h))) (reduced-back _)
+    (call-same _ (rw (h .head-of .ensures) at (shaped h)) _) (call-back _ _)
 
 pub sheet-reduce-parts-spec : {M : Type 1} → statement M
 sheet-reduce-parts-spec = tie.close (tie.spec (λ c κs. search needs) (λ c κs. search needs) (λ c κs. search needs) returns)

@@ -1,14 +1,14 @@
 -- What refuses the step decides: `refusal-told`, or `step-told` with the step itself.
 use borrow.Author.Needs.{needs}
 use Rattle.state.specs.View.{stateOf}
-use Rattle.state.specs.Steps.{stepped}
+use Rattle.state.specs.Calls.{called}
 use Rattle.state.proofs.Steps.{refusal-told}
 use Rattle.state.proofs.Worked.{StepTaken, not-refused-step, step-state, step-told}
 use Rattle.state.proofs.reduction.eliminate_parts.Statement.{statement}
 use Rattle.state.proofs.reduction.eliminate_parts.Tie as tie
 
 returns : tie.Need-returns
-unfolding stepped
+unfolding called
 returns c = refusal-told _ (c .enum-told2 .given .1) (c .before .before .refuse-step .ensures)
 
 taken : (t : tie.After-enum-told) → let a = t .before .before .before .before .args in

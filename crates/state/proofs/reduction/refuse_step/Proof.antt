@@ -7,7 +7,8 @@ use Rattle.bounded.proofs.Bool.{if-true, if-false}
 use Rattle.answers.specs.Answers.{outcomeNumber}
 use Rattle.step_judge.specs.Judging.{judgedNumber}
 use Rattle.head.specs.Held.{soundIn}
-use Rattle.state.specs.Steps.{stepRefusal}
+use Rattle.network.specs.Calls.{refuses}
+use Rattle.state.specs.Calls.{callRefusal}
 use Rattle.state.proofs.reduction.refuse_step.Statement.{statement}
 use Rattle.state.proofs.reduction.refuse_step.Tie as tie
 
@@ -15,20 +16,20 @@ sound : (c : tie.Else1) → soundIn (c .before .before .args .head) (c .before .
 sound c = sym (c .before .sound-parts .ensures) ∙ not-false _ (c .if1 .left)
 
 returns : tie.Need-returns
-unfolding outcomeNumber stepRefusal
+unfolding outcomeNumber callRefusal refuses
 returns c = sym (if-false _ _ _ (sym (c .before .sound-parts .ensures) ∙ not-true _ (c .if1 .taken)))
 
 judge-requires : tie.Need-judge-requires
 judge-requires c κs = sound c
 
 returns-2 : tie.Need-returns-2
-unfolding outcomeNumber judgedNumber stepRefusal
+unfolding outcomeNumber judgedNumber callRefusal refuses
 returns-2 c =
     let j = c .before .before in
     ap judgedNumber (sym (c .enum-told .given .1)) ∙ j .judge .ensures ∙ sym (if-true _ _ _ (sound (j .before)))
 
 returns-3 : tie.Need-returns-3
-unfolding outcomeNumber judgedNumber stepRefusal
+unfolding outcomeNumber judgedNumber callRefusal refuses
 returns-3 c =
     let j = c .before .before .before in
     ap judgedNumber (sym (c .before .cause .given .1)) ∙ j .judge .ensures ∙ sym (if-true _ _ _ (sound (j .before)))

@@ -1,14 +1,14 @@
 -- What refuses the table decides: `refusal-told`, or `addition-told` with the table itself.
 use borrow.Author.Needs.{needs}
 use Rattle.state.specs.View.{stateOf}
-use Rattle.state.specs.Tables.{tableAdded}
+use Rattle.state.specs.Calls.{called}
 use Rattle.state.proofs.Steps.{refusal-told}
 use Rattle.state.proofs.Tables.{TableTaken, not-refused-table, table-state, addition-told}
 use Rattle.state.proofs.table.add_parts.Statement.{statement}
 use Rattle.state.proofs.table.add_parts.Tie as tie
 
 returns : tie.Need-returns
-unfolding tableAdded
+unfolding called
 returns c = refusal-told _ (c .enum-told2 .given .1) (c .before .before .refuse-table .ensures)
 
 taken : (t : tie.After-enum-told) → let a = t .before .before .before .before .before .args in

@@ -8,7 +8,8 @@ use Rattle.answers.specs.Answers.{outcomeNumber}
 use Rattle.step_add_judge.specs.Judging.{tableNumber}
 use Rattle.head.specs.Held.{soundIn}
 use Rattle.head.proofs.Held.{held-n, held-size, shape}
-use Rattle.state.specs.Tables.{tableRefusal}
+use Rattle.network.specs.Calls.{refuses}
+use Rattle.state.specs.Calls.{callRefusal}
 use Rattle.state.proofs.table.refuse_table.Statement.{statement}
 use Rattle.state.proofs.table.refuse_table.Tie as tie
 
@@ -16,20 +17,20 @@ sound : (c : tie.Else1) → soundIn (c .before .before .before .args .head) (c .
 sound c = sym (c .before .sound-parts .ensures) ∙ not-false _ (c .if1 .left)
 
 returns : tie.Need-returns
-unfolding outcomeNumber tableRefusal
+unfolding outcomeNumber callRefusal refuses
 returns c = sym (if-false _ _ _ (sym (c .before .sound-parts .ensures) ∙ not-true _ (c .if1 .taken)))
 
 judge-table-requires : tie.Need-judge-table-requires
 judge-table-requires c κs = (held-n _ _ (sound c), held-size _ _ (search shape) (sound c))
 
 returns-2 : tie.Need-returns-2
-unfolding outcomeNumber tableNumber tableRefusal
+unfolding outcomeNumber tableNumber callRefusal refuses
 returns-2 c =
     let j = c .before .before in
     ap tableNumber (sym (c .enum-told .given .1)) ∙ j .judge-table .ensures _ ∙ sym (if-true _ _ _ (sound (j .before)))
 
 returns-3 : tie.Need-returns-3
-unfolding outcomeNumber tableNumber tableRefusal
+unfolding outcomeNumber tableNumber callRefusal refuses
 returns-3 c =
     let j = c .before .before .before in
     ap tableNumber (sym (c .before .cause .given .1)) ∙ j .judge-table .ensures _ ∙ sym (if-true _ _ _ (sound (j .before)))
