@@ -9,12 +9,18 @@ ghost use mathlib.Core.Bool.{true};
 ghost use Rattle.head.specs.Held.{held, soundIn};
 ghost use Rattle.network.specs.Step.{refusal};
 ghost use Rattle.step_judge.specs.Judging.{judgedNumber};
-ghost use Rattle.step_choice.specs.Judging.{nextPair};
+ghost use Rattle.step_choice.specs.Judging.{followerPair, nextPair, whoLeads};
 
 // A leader and a follower, counted from 0.
 pub enum Pair {
     Found(usize, usize),
     Nothing,
+}
+
+// Who leads each step of a run: the lowest variable that has a legal follower, or one that is named, counted from 0.
+pub enum Leader {
+    Lowest,
+    Named(usize),
 }
 
 // What refuses the step, variables counted from 1. Tested upward: 10, 11, 12, 13.
@@ -87,4 +93,45 @@ pub fn next_pair(head: Head, rows: &Rows) -> Pair
         }
     }
     found
+}
+
+// The step that `i` takes next as a leader: with the lowest variable that can follow it.
+pub fn next_follower(head: Head, rows: &Rows, i: usize) -> Pair
+    requires { ⌜ soundIn head (now rows) ≡ true ⌝ }
+    ensures { λ r. ⌜ r ≡ followerPair (held head (now (rows .entry))) i ⌝ }
+{
+    let n = head.n;
+    if n <= i {
+        return Pair::Nothing;
+    }
+    let leaders = head.leaders;
+    let domains = head.domains;
+    let stated = head.stated;
+    for j in 0..n {
+        let judgement = judge_pair(
+            leaders[i],
+            leaders[j],
+            stated[i],
+            domains[i],
+            domains[j],
+            rows,
+            i,
+            j,
+        );
+        if let Judgement::Legal = judgement {
+            return Pair::Found(i, j);
+        }
+    }
+    Pair::Nothing
+}
+
+// The step that a run takes next.
+pub fn next_step(head: Head, rows: &Rows, leader: Leader) -> Pair
+    requires { ⌜ soundIn head (now rows) ≡ true ⌝ }
+    ensures { λ r. ⌜ r ≡ followerPair (held head (now (rows .entry))) (whoLeads leader (held head (now (rows .entry)))) ⌝ }
+{
+    match leader {
+        Leader::Lowest => next_pair(head, rows),
+        Leader::Named(i) => next_follower(head, rows, i),
+    }
 }

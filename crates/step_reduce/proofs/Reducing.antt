@@ -9,14 +9,15 @@ use Rattle.bounded.proofs.Fold.{count-le}
 use Rattle.words.specs.Word.{width}
 use Rattle.network.specs.Network.{Network}
 use Rattle.network.specs.Step.{legal, eliminate}
-use Rattle.network.specs.Reduction.{Reduced, freeCount, leading, nextLeader, lowestFollower, oneMore, runWithin, reduceWithin, reduce}
+use Rattle.network.specs.Reduction.{Reduced, freeCount, leading, lowestFollower, oneMore, runWithin, reduceWithin, reduce}
 use Rattle.network.proofs.Reduction.{step-keeps, step-count, follower-legal, runWithin-step, runWithin-stop}
 use Rattle.pairs.specs.Pairs.{variables, rowsOf}
 use Rattle.head.specs.declared.Head.{Head}
 use Rattle.head.specs.Held.{RowsShaped, held, headOf, soundIn}
 use Rattle.head.proofs.Held.{HeadShaped, Packed, held-n, held-sound, head-of-held, rows-of-held, kept-packed}
 use Rattle.step_choice.specs.declared.Pair.the-variants as pair
-use Rattle.step_choice.specs.Judging.{followerPair}
+use Rattle.step_choice.specs.declared.Leader.the-variants as leader
+use Rattle.step_choice.specs.Judging.{followerPair, whoLeads}
 use Rattle.step_rules.specs.Stepped.{Stepped}
 use Rattle.step_reduce.specs.declared.Reduction.{Reduction}
 use Rattle.step_reduce.specs.Reduced.{RanTo, ReducedTo}
@@ -140,6 +141,7 @@ module _ {who : Network → ℕ} {h r : Head} {before rows : List ℕ} {steps : 
       }
 
 -- Of the full reduction: the leader is the lowest that has a legal follower.
-pub reduced-to : (h : Head) (before : List ℕ) (r : Reduction) (rows : List ℕ) → RanTo (runWithin nextLeader (h .n) (held h before)) r rows → ReducedTo h before r rows
-unfolding reduce reduceWithin held
-reduced-to h before r rows t = record { head-is = t .head-is; rows-are = t .rows-are; steps-are = t .steps-are }
+pub lowest-reduces : (h : Head) (before : List ℕ) (r : Reduction) (rows : List ℕ) → RanTo (runWithin (whoLeads leader.Lowest) (h .n) (held h before)) r rows
+    → ReducedTo h before r rows
+unfolding reduce reduceWithin held whoLeads
+lowest-reduces h before r rows t = record { head-is = t .head-is; rows-are = t .rows-are; steps-are = t .steps-are }
