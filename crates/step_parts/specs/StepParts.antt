@@ -10,6 +10,7 @@ use Rattle.words.specs.Word.{has}
 use Rattle.network.specs.Pairs.{Stays}
 use Rattle.pairs.specs.Pairs.{allowsOf}
 use Rattle.pairs.specs.Frames.{Words}
+use Rattle.step_compose.specs.declared.Third.{Third}
 use Rattle.step_compose.specs.Compose.{composedAt}
 
 -- Rule 3, for x, whose leader was l: "Followers of j get i as leader, and so does j."
@@ -30,9 +31,13 @@ statedAfter i j T x others y =
     if (or (and (eqb x i) (T y)) (and (eqb y i) (T x))) true
     (if (or (and (eqb x j) (T y)) (and (eqb y j) (T x))) false (others y))
 
--- Rule 2 on rows: value a of i goes with value c of the third variable k. ti is the new domain of i, and i was stated with `others`.
+-- The composition of rule 2 for the third variable k: ti is the new domain of i, and `was` says whether i, k was stated before.
+abbrev pub composition : List ℕ → ℕ → ℕ → ℕ → ℕ → Bool → Third
+composition domains i j ti k was = record { i = i; j = j; k = k; ti = ti; dj = getD domains j 0; dk = getD domains k 0; was = was }
+
+-- Rule 2 on rows: value a of i goes with value c of the third variable k, where i was stated with `others`.
 unfoldable pub madeAt : ℕ → List ℕ → List ℕ → ℕ → ℕ → ℕ → ℕ → ℕ → ℕ → ℕ → Bool
-madeAt w rows domains others i j ti k a c = composedAt w rows i j k ti (getD domains j 0) (getD domains k 0) (has others k) a c
+madeAt w rows domains others i j ti k a c = composedAt w rows (composition domains i j ti k (has others k)) a c
 
 -- For each k of T the pair j, k has gone into the pair i, k, which allows what `made k` says. All other pairs are as before.
 pub record MovedRows (w : ℕ) (before after : List ℕ) (i j : ℕ) (T : ℕ → Bool) (made : ℕ → ℕ → ℕ → Bool) : Type 0 where

@@ -1,6 +1,7 @@
 // Rule 2 on the rows.
 use head::Rows;
 use head::VARIABLES;
+use step_compose::Third;
 ghost use mathlib.Core.Bool.{false};
 ghost use mathlib.Core.Path.{_≡_};
 ghost use Prim.Native.Nat.{_^_, _<_};
@@ -27,7 +28,19 @@ pub fn move_thirds(
     let mut rest = thirds;
     while rest != 0 {
         let k = words::lowest(rest);
-        step_compose::compose(rows, i, j, k, ti, dj, domains[k], words::member(others, k));
+        let was = words::member(others, k);
+        step_compose::compose(
+            rows,
+            Third {
+                i,
+                j,
+                k,
+                ti,
+                dj,
+                dk: domains[k],
+                was,
+            },
+        );
         pairs_store::clear(rows, j, k);
         rest = words::dropped(rest);
     }

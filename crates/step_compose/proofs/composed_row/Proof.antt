@@ -1,37 +1,30 @@
--- Each answer is a case of rule 2 for one value: `made-free`, `made-stated`. A value outside its domain goes with none.
+-- Each answer is a case of rule 2 for one value: `made-none`, `made-free`, `made-stated`.
 use mathlib.Core.Path.{sym, _∙_}
-use lib.Pow.{pow-pos}
 use borrow.Author.Needs.{needs}
 use borrow.Author.Tests.{not-true, not-false}
-use Rattle.bounded.proofs.Bool.{and-fails}
-use Rattle.words.proofs.Laws.{has-zero, is-word}
-use Rattle.step_compose.specs.Compose.{composedAt}
-use Rattle.step_compose.proofs.Composition.{made-free, made-stated}
+use Rattle.step_compose.proofs.Composition.{made-none, made-free, made-stated}
 use Rattle.step_compose.proofs.composed_row.Statement.{statement}
 use Rattle.step_compose.proofs.composed_row.Tie as tie
 
 returns : tie.Need-returns
-unfolding composedAt
-returns c = is-word 32 0 _ (pow-pos 32) (λ v l. has-zero v ∙ sym (and-fails _ _ (and-fails _ _ (sym (c .before .member .ensures) ∙ not-true _ (c .if1 .taken)))))
+returns c = made-none 32 _ (c .before .before .args .t) _ (sym (c .before .member .ensures) ∙ not-true _ (c .if1 .taken))
 
 returns-2 : tie.Need-returns-2
 returns-2 c =
-    let d = c .before in
+    let d = c .before .before in
     let r = d .before .before .before in
     let e = r .before in
-    let s = e .before .before .args in
-    made-free 32 _ (s .l) (s .j) (s .h) (s .dl) (s .dj) (s .dh) _ _
+    made-free 32 _ (e .before .before .args .t) _
     (sym (e .before .member .ensures) ∙ not-false _ (e .if1 .left)) (r .row .ensures) (d .before .before .both .ensures)
     (d .before .partners .ensures) (d .both2 .ensures) (not-true _ (c .if2 .taken))
 
 returns-3 : tie.Need-returns-3
 returns-3 c =
     let o = c .before in
-    let d = o .before .before in
+    let d = o .before .before .before in
     let r = d .before .before .before in
     let e = r .before in
-    let s = e .before .before .args in
-    made-stated 32 _ (s .l) (s .j) (s .h) (s .dl) (s .dj) (s .dh) _ _
+    made-stated 32 _ (e .before .before .args .t) _
     (sym (e .before .member .ensures) ∙ not-false _ (e .if1 .left)) (r .row .ensures) (d .before .before .both .ensures)
     (d .before .partners .ensures) (d .both2 .ensures) (not-false _ (o .before .if2 .left)) (o .row2 .ensures) (c .both3 .ensures)
 
