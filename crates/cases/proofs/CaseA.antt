@@ -68,7 +68,7 @@ unfolding and or not if countTest sizeTest constraintsTest outOfRange pairTest r
 parsed-last = refl
 
 -- Bytes are below 256.
-octet : (bytes : List ℕ) → every (length bytes) (λ (k : ℕ). ltb (getD bytes k 0) 256) ≡ true → (k : ℕ) → getD bytes k 0 < 256
+pub octet : (bytes : List ℕ) → every (length bytes) (λ (k : ℕ). ltb (getD bytes k 0) 256) ≡ true → (k : ℕ) → getD bytes k 0 < 256
 octet bytes h k =
     by-cases (ltb k (length bytes))
     (λ t. ltb-true _ _ (every-e _ _ h k (ltb-true _ _ t)))
