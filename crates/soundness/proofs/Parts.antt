@@ -29,11 +29,11 @@ use Rattle.soundness.specs.Parts.{followerFits, freeOrFits, followersFit
 use Rattle.soundness.proofs.Joins.{join-i, join-e, join-empty-e, join-empty-i}
 
 -- A word within k has its members below k.
-within-e : (x k v : ℕ) → v < width → within x k ≡ true → has x v ≡ true → v < k
+within-e : (x k v : ℕ) → v < width → within width x k ≡ true → has x v ≡ true → v < k
 unfolding within
 within-e x k v b h m = ltb-true _ _ (implies-e _ _ (every-e width _ h v b) m)
 
-within-i : (x k : ℕ) → ((v : ℕ) → v < width → has x v ≡ true → v < k) → within x k ≡ true
+within-i : (x k : ℕ) → ((v : ℕ) → v < width → has x v ≡ true → v < k) → within width x k ≡ true
 unfolding within
 within-i x k h = every-i width _ (λ v b. implies-i _ _ (λ m. lt-ltb _ _ (h v b m)))
 
@@ -48,7 +48,7 @@ module _ (h : Head) (A : HeadShaped h) where
 
   module _ (P : pairsFit (h .n) (h .stated) ≡ true) where
     below-e : (i j : ℕ) → has (getD (h .stated) i 0) j ≡ true → variableFits (h .n) (h .stated) i ≡ true
-        → and (within (getD (h .stated) i 0) (h .n)) (and (not (has (getD (h .stated) i 0) i)) (eqb (getD (h .stated) i 0) (statedWith (h .stated) i))) ≡ true
+        → and (within width (getD (h .stated) i 0) (h .n)) (and (not (has (getD (h .stated) i 0) i)) (eqb (getD (h .stated) i 0) (statedWith (h .stated) i))) ≡ true
     unfolding variableFits
     below-e i j s t =
         by-cases (ltb i (h .n))
@@ -75,7 +75,7 @@ module _ (h : Head) (A : HeadShaped h) where
   module _ (rows : List ℕ) where
     -- ---- the rows
 
-    module _ (m : h .n ≤ variables) (P : pairsFit (h .n) (h .stated) ≡ true) (R : rowsFit (h .n) (h .sizes) (h .stated) rows ≡ true) where
+    module _ (m : h .n ≤ variables) (P : pairsFit (h .n) (h .stated) ≡ true) (R : rowsFit width (h .n) (h .sizes) (h .stated) rows ≡ true) where
       -- A row belongs to a pair below n,
       upper-e : (i j a b : ℕ) → i < j → j < variables → a < width → b < width → has (getD rows (slot i j * width + a) 0) b ≡ true → j < h .n
       unfolding rowsFit pastFits
@@ -237,7 +237,7 @@ module _ (h : Head) (A : HeadShaped h) where
               is-word width _ _ (A .stated-array .element-lt i) (λ j _. S .stated-sym i j)
               ∙ word-widen variables width _ (omega arith) (λ v l _. rw (array-past variables (2 ^ width) (h .stated) (A .stated-array) v l) (has-zero i))
 
-      past-i : pastFits (h .n) rows ≡ true
+      past-i : pastFits width (h .n) rows ≡ true
       unfolding pastFits rowAt held
       past-i = join-empty-i width rows (slot 0 (h .n) * width) _ (λ k v l b.
           every-place width (λ (p : ℕ). slot 0 (h .n) * width ≤ p → has (getD rows p 0) v ≡ false)
@@ -246,7 +246,7 @@ module _ (h : Head) (A : HeadShaped h) where
           let x : ⊥ = omega (arith, slot-before i j (h .n) li (s .1) m) in x))
           (slot 0 (h .n) * width + k) (omega arith) (omega arith))
 
-      rows-i : rowsFit (h .n) (h .sizes) (h .stated) rows ≡ true
+      rows-i : rowsFit width (h .n) (h .sizes) (h .stated) rows ≡ true
       unfolding rowsFit lowerRowsFit pairRowsFit constraintFits held rowAt
       rows-i = and-i _ _ past-i (every-i (h .n) _ λ j lj. every-i j _ λ i li.
           let at = slot i j * width in

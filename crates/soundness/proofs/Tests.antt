@@ -7,7 +7,7 @@ use native.Mathlib.Omega.{arith}
 use lib.Dec.{eqb}
 use borrow.Author.Tests.{eq-eqb}
 use Rattle.bounded.proofs.Bool.{clash, and-fails, and-holds}
-use Rattle.words.specs.Word.{has, word}
+use Rattle.words.specs.Word.{width, has, word}
 use Rattle.words.proofs.Laws.{has-word}
 use Rattle.head.specs.declared.Head.{Head}
 use Rattle.soundness_head.specs.Fits.{headFits}
@@ -32,10 +32,10 @@ module _ (h : Head) (rows : List ℕ) where
   unfolding partsFit
   parts-head t = sym (and-fails _ _ t)
 
-  pub parts-rows : headFits h ≡ true → rowsFit (h .n) (h .sizes) (h .stated) rows ≡ false → false ≡ partsFit h rows
+  pub parts-rows : headFits h ≡ true → rowsFit width (h .n) (h .sizes) (h .stated) rows ≡ false → false ≡ partsFit h rows
   unfolding partsFit
   parts-rows t r = sym (and-holds _ _ t ∙ and-fails _ _ r)
 
-  pub parts-followers : headFits h ≡ true → rowsFit (h .n) (h .sizes) (h .stated) rows ≡ true → followersFit h rows ≡ partsFit h rows
+  pub parts-followers : headFits h ≡ true → rowsFit width (h .n) (h .sizes) (h .stated) rows ≡ true → followersFit h rows ≡ partsFit h rows
   unfolding partsFit
   parts-followers t r = sym (and-holds _ _ t ∙ and-holds _ _ r)

@@ -34,4 +34,4 @@ followersFit h rows =
 
 -- All of it, in the order of the code.
 unfoldable pub partsFit : Head → List ℕ → Bool
-partsFit h rows = and (headFits h) (and (rowsFit (h .n) (h .sizes) (h .stated) rows) (followersFit h rows))
+partsFit h rows = and (headFits h) (and (rowsFit width (h .n) (h .sizes) (h .stated) rows) (followersFit h rows))

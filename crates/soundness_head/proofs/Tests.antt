@@ -11,15 +11,15 @@ use Rattle.bounded.specs.Bool.{and}
 use Rattle.bounded.proofs.Array.{array-past}
 use Rattle.bounded.proofs.Bool.{by-cases, not-i, not-false-i, and-l, and-r, and-fails, and-holds, if-true, if-false}
 use Rattle.bounded.proofs.Fold.{every-e}
-use Rattle.words.specs.Word.{has}
+use Rattle.words.specs.Word.{width, has}
 use Rattle.pairs.specs.Pairs.{variables}
 use Rattle.head.specs.declared.Head.{Head}
 use Rattle.head.specs.Held.{mostValues, HeadShaped}
 use Rattle.soundness_head.specs.Fits.{sizeFits, sizesFit, within, domainsFit, statedWith, variableFits, pairsFit, headFits}
 
 -- The bound of a word's members, known by another name.
-pub within-same : {r : Bool} (x : ℕ) {k k′ : ℕ} → r ≡ within x k → k ≡ k′ → r ≡ within x k′
-within-same x h e = rw e at h
+pub within-same : (w : ℕ) {r : Bool} (x : ℕ) {k k′ : ℕ} → r ≡ within w x k → k ≡ k′ → r ≡ within w x k′
+within-same w x h e = rw e at h
 
 -- ---- a size
 
@@ -46,15 +46,15 @@ module _ (n : ℕ) (stated : List ℕ) (i : ℕ) where
   unfolding variableFits
   variable-past l = sym (if-false _ _ _ (le-ltb i n l))
 
-  pub variable-high : i < n → within (getD stated i 0) n ≡ false → false ≡ variableFits n stated i
+  pub variable-high : i < n → within width (getD stated i 0) n ≡ false → false ≡ variableFits n stated i
   unfolding variableFits
   variable-high l h = sym (if-true _ _ _ (lt-ltb i n l) ∙ and-fails _ _ h)
 
-  pub variable-self : i < n → within (getD stated i 0) n ≡ true → has (getD stated i 0) i ≡ true → false ≡ variableFits n stated i
+  pub variable-self : i < n → within width (getD stated i 0) n ≡ true → has (getD stated i 0) i ≡ true → false ≡ variableFits n stated i
   unfolding variableFits
   variable-self l h k = sym (if-true _ _ _ (lt-ltb i n l) ∙ and-holds _ _ h ∙ and-fails _ _ (not-false-i _ k))
 
-  pub variable-told : i < n → within (getD stated i 0) n ≡ true → has (getD stated i 0) i ≡ false
+  pub variable-told : i < n → within width (getD stated i 0) n ≡ true → has (getD stated i 0) i ≡ false
       → eqb (getD stated i 0) (statedWith stated i) ≡ variableFits n stated i
   unfolding variableFits
   variable-told l h k = sym (if-true _ _ _ (lt-ltb i n l) ∙ and-holds _ _ h ∙ and-holds _ _ (not-i _ k))

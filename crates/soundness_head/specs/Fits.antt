@@ -18,13 +18,13 @@ sizeFits n i size = if (ltb i n) (and (leb 1 size) (leb size mostValues)) (eqb s
 unfoldable pub sizesFit : ℕ → List ℕ → Bool
 sizesFit n sizes = every variables (λ (i : ℕ). sizeFits n i (getD sizes i 0))
 
--- A word has no member at or above k.
-unfoldable pub within : ℕ → ℕ → Bool
-within x k = every width (λ (v : ℕ). implies (has x v) (ltb v k))
+-- A word of w bits has no member at or above k.
+unfoldable pub within : ℕ → ℕ → ℕ → Bool
+within w x k = every w (λ (v : ℕ). implies (has x v) (ltb v k))
 
 -- "each list lies within its size"
 unfoldable pub domainsFit : List ℕ → List ℕ → Bool
-domainsFit sizes domains = every variables (λ (i : ℕ). within (getD domains i 0) (getD sizes i 0))
+domainsFit sizes domains = every variables (λ (i : ℕ). within width (getD domains i 0) (getD sizes i 0))
 
 -- The variables whose words have i.
 unfoldable pub statedWith : List ℕ → ℕ → ℕ
@@ -35,7 +35,7 @@ statedWith stated i = word variables (λ (j : ℕ). has (getD stated j 0) i)
 unfoldable pub variableFits : ℕ → List ℕ → ℕ → Bool
 variableFits n stated i =
     if (ltb i n)
-    (and (within (getD stated i 0) n) (and (not (has (getD stated i 0) i)) (eqb (getD stated i 0) (statedWith stated i))))
+    (and (within width (getD stated i 0) n) (and (not (has (getD stated i 0) i)) (eqb (getD stated i 0) (statedWith stated i))))
     (eqb (getD stated i 0) 0)
 
 unfoldable pub pairsFit : ℕ → List ℕ → Bool

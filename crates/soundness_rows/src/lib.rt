@@ -18,7 +18,7 @@ ghost use Rattle.soundness_rows.specs.Fits.{pastFits, constraintFits, pa
 // The rows past the pairs of the first `n` variables are empty: they are one run.
 fn past_sound(n: usize, rows: &Rows) -> bool
     requires { ⌜ (1 ≤ n) × (n ≤ variables) ⌝ }
-    ensures { λ r. ⌜ r ≡ pastFits n (now (rows .entry)) ⌝ }
+    ensures { λ r. ⌜ r ≡ pastFits width n (now (rows .entry)) ⌝ }
 {
     joined(rows, n * (n - 1) / 2 * WIDTH, PLACES) == 0
 }
@@ -27,7 +27,7 @@ fn past_sound(n: usize, rows: &Rows) -> bool
 // size of the other. Where every value has a row they are one run, whose length the compiler knows.
 fn constraint_sound(rows: &Rows, at: usize, size: usize, other: usize) -> bool
     requires { ⌜ (at + width ≤ 3840) × (size ≤ width) × (other ≤ width) ⌝ }
-    ensures { λ r. ⌜ r ≡ constraintFits (now (rows .entry)) at size other ⌝ }
+    ensures { λ r. ⌜ r ≡ constraintFits width (now (rows .entry)) at size other ⌝ }
 {
     if size == WIDTH {
         return within(joined(rows, at, at + WIDTH), other);
@@ -42,7 +42,7 @@ fn constraint_sound(rows: &Rows, at: usize, size: usize, other: usize) -> bool
 // The rows of `i` and the higher `j`: all are empty where the pair is not stated.
 fn pair_rows_sound(rows: &Rows, stated: bool, i: usize, j: usize, size: usize, other: usize) -> bool
     requires { ⌜ (i < j) × (j < variables) × (size ≤ width) × (other ≤ width) ⌝ }
-    ensures { λ r. ⌜ r ≡ pairRowsFit (now (rows .entry)) stated i j size other ⌝ }
+    ensures { λ r. ⌜ r ≡ pairRowsFit width (now (rows .entry)) stated i j size other ⌝ }
 {
     let at = pairs::place(i, j);
     if !stated {
@@ -54,7 +54,7 @@ fn pair_rows_sound(rows: &Rows, stated: bool, i: usize, j: usize, size: usize, o
 // The rows of `j` with each lower variable; `stated` is the word of `j`.
 fn lower_rows_sound(sizes: &[u8; VARIABLES], stated: u32, rows: &Rows, j: usize) -> bool
     requires { ⌜ (j < variables) × ((i : ℕ) → getD (now sizes) i 0 ≤ mostValues) ⌝ }
-    ensures { λ r. ⌜ r ≡ lowerRowsFit (now (sizes .entry)) stated (now (rows .entry)) j ⌝ }
+    ensures { λ r. ⌜ r ≡ lowerRowsFit width (now (sizes .entry)) stated (now (rows .entry)) j ⌝ }
 {
     let other = wide(sizes[j]);
     let mut all = true;
@@ -66,7 +66,7 @@ fn lower_rows_sound(sizes: &[u8; VARIABLES], stated: u32, rows: &Rows, j: usize)
 
 pub fn rows_sound(n: usize, sizes: &[u8; VARIABLES], stated: &[u32; VARIABLES], rows: &Rows) -> bool
     requires { ⌜ (1 ≤ n) × (n ≤ variables) × ((i : ℕ) → getD (now sizes) i 0 ≤ mostValues) ⌝ }
-    ensures { λ r. ⌜ r ≡ rowsFit n (now (sizes .entry)) (now (stated .entry)) (now (rows .entry)) ⌝ }
+    ensures { λ r. ⌜ r ≡ rowsFit width n (now (sizes .entry)) (now (stated .entry)) (now (rows .entry)) ⌝ }
 {
     if !past_sound(n, rows) {
         return false;

@@ -13,7 +13,7 @@ use Rattle.soundness_head.proofs.domains_sound.Statement.{statement}
 use Rattle.soundness_head.proofs.domains_sound.Tie as tie
 
 abbrev Inv-loop : tie.InvT-loop
-Inv-loop sizes domains all₀ i₀ all i = (i ≤ variables) × (all ≡ every i (λ (k : ℕ). within (getD domains k 0) (getD sizes k 0)))
+Inv-loop sizes domains all₀ i₀ all i = (i ≤ variables) × (all ≡ every i (λ (k : ℕ). within 32 (getD domains k 0) (getD sizes k 0)))
 
 abbrev μ-loop : tie.MeasureT-loop
 μ-loop sizes domains all₀ i₀ all i = variables - i
@@ -29,7 +29,7 @@ loop-again : tie.Need-loop-again Inv-loop μ-loop
 unfolding within
 loop-again c = (
   omega arith,
-  test-joins _ _ (c .before .before .before .before .before .loop .inv .1) (within-same _ (c .within .ensures) (c .before .wide .ensures)),
+  test-joins _ _ (c .before .before .before .before .before .loop .inv .1) (within-same 32 _ (c .within .ensures) (c .before .wide .ensures)),
 )
 
 returns : tie.Need-returns Inv-loop μ-loop

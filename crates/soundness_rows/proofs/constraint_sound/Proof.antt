@@ -14,19 +14,19 @@ use Rattle.soundness_rows.proofs.constraint_sound.Tie as tie
 
 returns : tie.Need-returns
 unfolding within
-returns c = whole-is _ _ _ (c .before .before .if1 .taken) (run-same _ (c .before .joined .ensures) refl (omega arith)) (c .within .ensures)
+returns c = whole-is 32 _ _ _ (c .before .before .if1 .taken) (run-same 32 _ (c .before .joined .ensures) refl (omega arith)) (c .within .ensures)
 
 returns-2 : tie.Need-returns-2
 unfolding constraintFits
 returns-2 c =
-    sym (and-fails _ _ (ap (λ (x : ℕ). eqb x 0) (sym (run-same _ (c .before .joined2 .ensures) refl (omega arith))) ∙ ne-eqb _ _ (c .if2 .taken)))
+    sym (and-fails _ _ (ap (λ (x : ℕ). eqb x 0) (sym (run-same 32 _ (c .before .joined2 .ensures) refl (omega arith))) ∙ ne-eqb _ _ (c .if2 .taken)))
 
 returns-3 : tie.Need-returns-3
 unfolding within constraintFits
 returns-3 c =
     let past = c .before .before in
-    c .within2 .ensures ∙ ap (λ (x : ℕ). within x (past .before .before .before .args .other)) (run-same _ (c .before .joined3 .ensures) refl (omega arith))
-    ∙ sym (and-holds _ _ (ap (λ (x : ℕ). eqb x 0) (sym (run-same _ (past .before .joined2 .ensures) refl (omega arith))) ∙ eq-eqb _ _ (past .if2 .left)))
+    c .within2 .ensures ∙ ap (λ (x : ℕ). within 32 x (past .before .before .before .args .other)) (run-same 32 _ (c .before .joined3 .ensures) refl (omega arith))
+    ∙ sym (and-holds _ _ (ap (λ (x : ℕ). eqb x 0) (sym (run-same 32 _ (past .before .joined2 .ensures) refl (omega arith))) ∙ eq-eqb _ _ (past .if2 .left)))
 
 pub constraint-sound-spec : {M : Type 1} → statement M
 constraint-sound-spec =

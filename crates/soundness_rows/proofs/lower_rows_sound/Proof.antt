@@ -14,7 +14,7 @@ use Rattle.soundness_rows.proofs.lower_rows_sound.Tie as tie
 
 abbrev Inv-loop : tie.InvT-loop
 Inv-loop sizes stated rows j other all₀ i₀ all i =
-    (i ≤ j) × (all ≡ every i (λ (k : ℕ). pairRowsFit rows (has stated k) k j (getD sizes k 0) (getD sizes j 0)))
+    (i ≤ j) × (all ≡ every i (λ (k : ℕ). pairRowsFit 32 rows (has stated k) k j (getD sizes k 0) (getD sizes j 0)))
 
 abbrev μ-loop : tie.MeasureT-loop
 μ-loop sizes stated rows j other all₀ i₀ all i = j - i
@@ -36,7 +36,7 @@ loop-again c =
     let loop = c .before .before .before .before .before in (
       omega arith,
       test-joins _ _ (loop .loop .inv .1)
-          (pair-same _ _ _ (c .pair-rows-sound .ensures) (c .before .before .before .member .ensures) (c .before .wide2 .ensures) (loop .before .wide .ensures)),
+          (pair-same 32 _ _ _ (c .pair-rows-sound .ensures) (c .before .before .before .member .ensures) (c .before .wide2 .ensures) (loop .before .wide .ensures)),
     )
 
 returns : tie.Need-returns Inv-loop μ-loop

@@ -14,7 +14,7 @@ use Rattle.soundness_rows.proofs.pair_rows_sound.Tie as tie
 returns : tie.Need-returns
 unfolding pairRowsFit
 returns c =
-    ap (λ (x : ℕ). eqb x 0) (run-same _ (c .joined .ensures) (c .before .before .place .ensures .0) (omega arith))
+    ap (λ (x : ℕ). eqb x 0) (run-same 32 _ (c .joined .ensures) (c .before .before .place .ensures .0) (omega arith))
     ∙ sym (if-false _ _ _ (not-true _ (c .before .if1 .taken)))
 
 returns-2 : tie.Need-returns-2

@@ -9,7 +9,7 @@ use Rattle.soundness_rows.proofs.past_sound.Tie as tie
 
 returns : tie.Need-returns
 unfolding slot
-returns c = past-is _ _ (c .joined .ensures) (omega arith)
+returns c = past-is 32 _ _ (c .joined .ensures) (omega arith)
 
 pub past-sound-spec : {M : Type 1} → statement M
 past-sound-spec =

@@ -13,7 +13,7 @@ use Rattle.soundness_rows.proofs.rows_sound.Statement.{statement}
 use Rattle.soundness_rows.proofs.rows_sound.Tie as tie
 
 abbrev Inv-loop : tie.InvT-loop
-Inv-loop n sizes stated rows all₀ j₀ all j = (j ≤ n) × (all ≡ every j (λ (k : ℕ). lowerRowsFit sizes (getD stated k 0) rows k))
+Inv-loop n sizes stated rows all₀ j₀ all j = (j ≤ n) × (all ≡ every j (λ (k : ℕ). lowerRowsFit 32 sizes (getD stated k 0) rows k))
 
 abbrev μ-loop : tie.MeasureT-loop
 μ-loop n sizes stated rows all₀ j₀ all j = n - j
