@@ -27,7 +27,7 @@ module _ (h : Head) (rows : List ℕ) (S : HeadShaped h) (t : soundIn h rows ≡
       let N = held-sound h rows S t in
       choice l (leader-n (held h rows) N i l e) (leader-is-free (held h rows) N i l e)
 
-  pub choice-led : h .n ≤ length values → Led (h .n) (h .leaders) values
+  pub choice-led : h .n ≤ length values → Led width (h .n) (h .leaders) values
   unfolding held
   choice-led m =
       let N = held-sound h rows S t in
@@ -41,19 +41,19 @@ module _ (h : Head) (rows : List ℕ) (S : HeadShaped h) (t : soundIn h rows ≡
 
   -- The lowest partner in a word is the lowest below the size, since there is one.
   partner-first : (i l : ℕ) → getD (h .leaders) i 0 ≡ suc l
-      → partnerOf rows l i (getD (h .domains) i 0) (getD values l 0) ≡ first (getD (h .sizes) i 0) (partner (held h rows) l i (getD values l 0))
+      → partnerOf width rows l i (getD (h .domains) i 0) (getD values l 0) ≡ first (getD (h .sizes) i 0) (partner (held h rows) l i (getD values l 0))
   unfolding held partner partnerOf
   partner-first i l e =
       let most = held-size h rows S t i in
       first-widen (getD (h .sizes) i 0) width _ (omega arith)
       (partner-some (held h rows) (held-sound h rows S t) i l (getD values l 0) e (leader-choice i l e))
 
-  pub value-is-completed : (i : ℕ) → valueCompleted (h .domains) (h .leaders) rows values i ≡ completed (held h rows) (λ (j : ℕ). getD values j 0) i
+  pub value-is-completed : (i : ℕ) → valueCompleted width (h .domains) (h .leaders) rows values i ≡ completed (held h rows) (λ (j : ℕ). getD values j 0) i
   unfolding held
   value-is-completed i =
       let N = held h rows in
       free-or-led N i
-      (λ f. sym (completed-live (h .domains) (h .leaders) rows values i (free-e N i f)) ∙ sym (completed-keeps N _ i f))
-      (λ l e. sym (completed-follower (h .domains) (h .leaders) rows values i l (getD values l 0) (λ q. let x : ⊥ = omega arith in x) (omega arith) refl)
+      (λ f. sym (completed-live width (h .domains) (h .leaders) rows values i (free-e N i f)) ∙ sym (completed-keeps N _ i f))
+      (λ l e. sym (completed-follower width (h .domains) (h .leaders) rows values i l (getD values l 0) (λ q. let x : ⊥ = omega arith in x) (omega arith) refl)
       ∙ partner-first i l e
       ∙ sym (completed-led N _ i l e))

@@ -10,7 +10,7 @@ use borrow.Author.Tests.{le-ltb, ltb-true, ltb-false, le-leb}
 use Rattle.bounded.specs.Bool.{and}
 use Rattle.bounded.proofs.Bool.{by-cases, clash, and-fails, and-holds, and-false}
 use Rattle.bounded.proofs.Table.{is-table}
-use Rattle.words.specs.Word.{has}
+use Rattle.words.specs.Word.{width, has}
 use Rattle.words.proofs.Laws.{has-word, has-word-past, has-below, word-lt}
 use Rattle.network.specs.Network.{Network, free}
 use Rattle.network.specs.Search.{none, found, searched, choiceProduct}
@@ -73,7 +73,7 @@ module _ {h : Head} (rows : List ℕ) (S : HeadShaped h) (t : soundIn h rows ≡
       unfolding held
       choice i l f = settled .found-is q .listed i (omega arith) l f
 
-      pub chosen-led : length values ≡ variables → Led (h .n) (h .leaders) values
+      pub chosen-led : length values ≡ variables → Led width (h .n) (h .leaders) values
       chosen-led m = choice-led h rows S t values choice (omega (arith, held-n h rows t))
 
       -- Past n nothing is chosen and nothing completed.
@@ -83,7 +83,7 @@ module _ {h : Head} (rows : List ℕ) (S : HeadShaped h) (t : soundIn h rows ≡
           C (held h rows) 0 start .others i (ap (and _) (and-fails _ _ (le-ltb i (h .n) l)) ∙ and-false _)
           ∙ getD-replicate variables i 0 0 b
 
-      pub chosen-found : {solution : List ℕ} → length solution ≡ variables → Completed (h .n) (h .domains) (h .leaders) rows values solution
+      pub chosen-found : {solution : List ℕ} → length solution ≡ variables → Completed width (h .n) (h .domains) (h .leaders) rows values solution
           → FoundIn (held h rows) (record { found = true; solution = solution })
       unfolding held
       chosen-found {solution} m D =

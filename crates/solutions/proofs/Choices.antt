@@ -16,7 +16,7 @@ use Rattle.bounded.proofs.Bool.{by-cases, clash, bool-ext, not-true→false, tr
 use Rattle.bounded.proofs.Bool.{implies-i, implies-e, implies-true, implies-false, not-i, not-e, if-true, if-false}
 use Rattle.bounded.proofs.Fold.{below-suc, every-i, every-e, first-cong}
 use Rattle.bounded.proofs.Table.{length-tabulate, getD-tabulate, is-table}
-use Rattle.words.specs.Word.{width, has, word}
+use Rattle.words.specs.Word.{has, word}
 use Rattle.words.proofs.Laws.{word-lt, has-ruled, has-all, has-below, has-zero, empty}
 use Rattle.pairs.specs.Pairs.{variables, allowsOf}
 use Rattle.pairs.proofs.Laws.{allows-alike}
@@ -36,12 +36,12 @@ module _ (leader domain value : ℕ) where
   value-live h = sym (implies-true _ _ (eq-eqb leader 0 h))
 
 -- A follower is not fresh, and a free variable is where its domain is full.
-module _ {leader : ℕ} (domain size : ℕ) where
-  pub fresh-led : (leader ≡ 0 → ⊥) → false ≡ freshValue leader domain size
+module _ (w : ℕ) {leader : ℕ} (domain size : ℕ) where
+  pub fresh-led : (leader ≡ 0 → ⊥) → false ≡ freshValue w leader domain size
   unfolding freshValue
   fresh-led h = rw (ne-eqb leader 0 h) (sym (false-and _))
 
-  pub fresh-live : {full : ℕ} → leader ≡ 0 → full ≡ word width (λ (v : ℕ). ltb v size) → eqb domain full ≡ freshValue leader domain size
+  pub fresh-live : {full : ℕ} → leader ≡ 0 → full ≡ word w (λ (v : ℕ). ltb v size) → eqb domain full ≡ freshValue w leader domain size
   unfolding freshValue
   fresh-live h e = rw (eq-eqb leader 0 h, e) (sym (true-and _))
 
@@ -88,37 +88,37 @@ row-tells w rows i j {v} b q e h =
 -- ---- completing
 
 -- The lowest of row x cut with the domain to y.
-pub partner-found : (domain : ℕ) (p : ℕ → Bool) {x y k : ℕ} → x ≡ word width p → y ≡ word width (λ (b : ℕ). and (has domain b) (has x b))
-    → k ≡ first width (has y)
-    → k ≡ first width (λ (b : ℕ). and (has domain b) (p b))
-partner-found domain p e f g =
-    g ∙ first-cong width _ _ (λ b m. has-ruled width _ f b m
-    ∙ ap (and (has domain b)) (has-ruled width p e b m))
+pub partner-found : (w domain : ℕ) (p : ℕ → Bool) {x y k : ℕ} → x ≡ word w p → y ≡ word w (λ (b : ℕ). and (has domain b) (has x b))
+    → k ≡ first w (has y)
+    → k ≡ first w (λ (b : ℕ). and (has domain b) (p b))
+partner-found w domain p e f g =
+    g ∙ first-cong w _ _ (λ b m. has-ruled w _ f b m
+    ∙ ap (and (has domain b)) (has-ruled w p e b m))
 
-module _ (domains leaders rows values : List ℕ) (i : ℕ) where
-  pub completed-live : getD leaders i 0 ≡ 0 → getD values i 0 ≡ valueCompleted domains leaders rows values i
+module _ (w : ℕ) (domains leaders rows values : List ℕ) (i : ℕ) where
+  pub completed-live : getD leaders i 0 ≡ 0 → getD values i 0 ≡ valueCompleted w domains leaders rows values i
   unfolding valueCompleted
   completed-live h = sym (if-true _ _ _ (eq-eqb _ 0 h))
 
   pub completed-follower : (l a : ℕ) → (getD leaders i 0 ≡ 0 → ⊥) → l ≡ pred (getD leaders i 0) → a ≡ getD values l 0
-      → partnerOf rows l i (getD domains i 0) a ≡ valueCompleted domains leaders rows values i
+      → partnerOf w rows l i (getD domains i 0) a ≡ valueCompleted w domains leaders rows values i
   unfolding valueCompleted
   completed-follower l a h e f = rw (f, e) (sym (if-false _ _ _ (ne-eqb _ 0 h)))
 
 -- The frames before the first turn and after one more.
-pub completed-none : {domains leaders rows values : List ℕ} → Completed 0 domains leaders rows values values
+pub completed-none : {w : ℕ} {domains leaders rows values : List ℕ} → Completed w 0 domains leaders rows values values
 completed-none =
     record { same-length = refl; value-completed = λ i l. absurd (let x : ⊥ = omega arith in x); value-past = λ i l. refl }
 
-module _ {n i : ℕ} {domains leaders rows before now : List ℕ} (L : Led n leaders before) (C : Completed i domains leaders rows before now) (m : i < n) where
+module _ {w n i : ℕ} {domains leaders rows before now : List ℕ} (L : Led w n leaders before) (C : Completed w i domains leaders rows before now) (m : i < n) where
   -- A leader still has the value that it came with: it is free.
   leader-kept : (l : ℕ) → getD leaders i 0 ≡ suc l → getD now l 0 ≡ getD before l 0
   leader-kept l e =
       by-cases (ltb l i)
-      (λ t. C .value-completed l (ltb-true l i t) ∙ sym (completed-live domains leaders rows before l (L .leader-live i l m e)))
+      (λ t. C .value-completed l (ltb-true l i t) ∙ sym (completed-live w domains leaders rows before l (L .leader-live i l m e)))
       (λ t. C .value-past l (ltb-false l i t))
 
-  pub leader-ready : (l : ℕ) → getD leaders i 0 ≡ suc l → LeaderReady i l now
+  pub leader-ready : (l : ℕ) → getD leaders i 0 ≡ suc l → LeaderReady w i l now
   leader-ready l e =
       let b = L .leader-below i l m e in
       record {
@@ -129,17 +129,17 @@ module _ {n i : ℕ} {domains leaders rows before now : List ℕ} (L : Led n lea
       }
 
   -- So what is completed from the present values is what is completed from those at entry.
-  now-completed : valueCompleted domains leaders rows now i ≡ valueCompleted domains leaders rows before i
+  now-completed : valueCompleted w domains leaders rows now i ≡ valueCompleted w domains leaders rows before i
   now-completed =
       by-cases (eqb (getD leaders i 0) 0)
       (λ t. let e : getD leaders i 0 ≡ 0 = eqb-true _ _ t in
-      sym (completed-live domains leaders rows now i e) ∙ C .value-past i (omega arith) ∙ completed-live domains leaders rows before i e)
+      sym (completed-live w domains leaders rows now i e) ∙ C .value-past i (omega arith) ∙ completed-live w domains leaders rows before i e)
       (λ t. let h : getD leaders i 0 ≡ 0 → ⊥ = eqb-false _ _ t in
       let l = pred (getD leaders i 0) in
-      sym (completed-follower domains leaders rows now i l (getD now l 0) h refl refl)
-      ∙ completed-follower domains leaders rows before i l (getD now l 0) h refl (leader-kept l (omega arith)))
+      sym (completed-follower w domains leaders rows now i l (getD now l 0) h refl refl)
+      ∙ completed-follower w domains leaders rows before i l (getD now l 0) h refl (leader-kept l (omega arith)))
 
-  pub completed-more : {v : ℕ} → v ≡ valueCompleted domains leaders rows now i → Completed (i + 1) domains leaders rows before (set now i v)
+  pub completed-more : {v : ℕ} → v ≡ valueCompleted w domains leaders rows now i → Completed w (i + 1) domains leaders rows before (set now i v)
   completed-more {v} e =
       record {
         same-length = length-set now i v ∙ C .same-length;
@@ -166,36 +166,36 @@ module _ (leader domain : ℕ) where
   unfolding domainOpen
   domain-live h = flip-not (eqb domain 0) ∙ sym (implies-true _ _ (eq-eqb leader 0 h))
 
-module _ {leader : ℕ} (stated free : ℕ) where
-  pub side-led : (leader ≡ 0 → ⊥) → true ≡ sideApart leader stated free
+module _ (w : ℕ) {leader : ℕ} (stated free : ℕ) where
+  pub side-led : (leader ≡ 0 → ⊥) → true ≡ sideApart w leader stated free
   unfolding sideApart
   side-led h = sym (implies-false _ _ (ne-eqb leader 0 h))
 
-  pub side-free : {common : ℕ} → leader ≡ 0 → common ≡ word width (λ (j : ℕ). and (has stated j) (has free j))
-      → eqb common 0 ≡ sideApart leader stated free
+  pub side-free : {common : ℕ} → leader ≡ 0 → common ≡ word w (λ (j : ℕ). and (has stated j) (has free j))
+      → eqb common 0 ≡ sideApart w leader stated free
   unfolding sideApart
   side-free h e = rw e (sym (implies-true _ _ (eq-eqb leader 0 h)))
 
 -- `sideKept` of the variables above i alone.
-unfoldable pub laterKept : ℕ → List ℕ → ℕ → List ℕ → List ℕ → ℕ → Bool
-laterKept n leaders stated rows values i =
-    every n (λ (j : ℕ). implies (ltb i j) (pairKept (getD leaders i 0) (getD leaders j 0) (has stated j) rows i j (getD values i 0) (getD values j 0)))
+unfoldable pub laterKept : ℕ → ℕ → List ℕ → ℕ → List ℕ → List ℕ → ℕ → Bool
+laterKept w n leaders stated rows values i =
+    every n (λ (j : ℕ). implies (ltb i j) (pairKept w (getD leaders i 0) (getD leaders j 0) (has stated j) rows i j (getD values i 0) (getD values j 0)))
 
 -- The free variables that one is stated with: those below n.
-module _ {n : ℕ} (stated : ℕ) {free : ℕ} (leaders : List ℕ) (l : n ≤ width) (e : free ≡ freeWord n leaders) where
+module _ (w : ℕ) {n : ℕ} (stated : ℕ) {free : ℕ} (leaders : List ℕ) (l : n ≤ w) (e : free ≡ freeWord n leaders) where
   free-is : (j : ℕ) → j < n → has free j ≡ eqb (getD leaders j 0) 0
   unfolding freeWord
   free-is j m = has-ruled n _ e j m
 
-  module _ {among : ℕ} (a : among ≡ word width (λ (j : ℕ). and (has stated j) (has free j))) where
+  module _ {among : ℕ} (a : among ≡ word w (λ (j : ℕ). and (has stated j) (has free j))) where
     among-i : (j : ℕ) → j < n → has stated j ≡ true → eqb (getD leaders j 0) 0 ≡ true → has among j ≡ true
-    among-i j m s f = has-ruled width _ a j (omega arith) ∙ and-i _ _ s (free-is j m ∙ f)
+    among-i j m s f = has-ruled w _ a j (omega arith) ∙ and-i _ _ s (free-is j m ∙ f)
 
     among-e : (j : ℕ) → has among j ≡ true → (j < n) × (has stated j ≡ true) × (eqb (getD leaders j 0) 0 ≡ true)
     unfolding freeWord
     among-e j t =
-        let k = has-below width among j t (rw a (word-lt width _)) in
-        let q = sym (has-ruled width _ a j k) ∙ t in
+        let k = has-below w among j t (rw a (word-lt w _)) in
+        let q = sym (has-ruled w _ a j k) ∙ t in
         let m = has-below n free j (and-r _ _ q) (rw e (word-lt n _)) in
         (m, and-l _ _ q, sym (free-is j m) ∙ and-r _ _ q)
 
@@ -203,50 +203,50 @@ module _ {n : ℕ} (stated : ℕ) {free : ℕ} (leaders : List ℕ) (l : n ≤ w
     among-below j t = among-e j t .0
 
     -- The pairs of those above i.
-    module _ (i : ℕ) {below later : ℕ} (b : below ≡ word width (λ (v : ℕ). ltb v (i + 1))) (d : later ≡ word width (λ (j : ℕ). and (has among j) (not (has below j)))) where
+    module _ (i : ℕ) {below later : ℕ} (b : below ≡ word w (λ (v : ℕ). ltb v (i + 1))) (d : later ≡ word w (λ (j : ℕ). and (has among j) (not (has below j)))) where
       later-i : (j : ℕ) → j < n → i < j → has among j ≡ true → has later j ≡ true
       later-i j m k t =
-          has-ruled width _ d j (omega arith)
-          ∙ and-i _ _ t (not-i _ (has-ruled width _ b j (omega arith) ∙ le-ltb j (i + 1) (omega arith)))
+          has-ruled w _ d j (omega arith)
+          ∙ and-i _ _ t (not-i _ (has-ruled w _ b j (omega arith) ∙ le-ltb j (i + 1) (omega arith)))
 
       later-e : (j : ℕ) → has later j ≡ true → (i < j) × (has among j ≡ true)
       later-e j t =
-          let k = has-below width later j t (rw d (word-lt width _)) in
-          let q = sym (has-ruled width _ d j k) ∙ t in
-          let u = sym (has-ruled width _ b j k) ∙ not-e _ (and-r _ _ q) in
+          let k = has-below w later j t (rw d (word-lt w _)) in
+          let q = sym (has-ruled w _ d j k) ∙ t in
+          let u = sym (has-ruled w _ b j k) ∙ not-e _ (and-r _ _ q) in
           (omega (arith, ltb-false j (i + 1) u), and-l _ _ q)
 
       pub later-in : (j : ℕ) → has later j ≡ true → (i < j) × (j < n)
       later-in j t = let q = later-e j t in (q .0, among-below j (q .1))
 
-      pub later-side : (rows values : List ℕ) → amongKept (getD leaders i 0) later rows values i ≡ laterKept n leaders stated rows values i
+      pub later-side : (rows values : List ℕ) → amongKept w (getD leaders i 0) later rows values i ≡ laterKept w n leaders stated rows values i
       unfolding amongKept laterKept pairKept
       later-side rows values =
           bool-ext _ _
           (λ k. every-i n _ λ j m. implies-i _ _ λ above. implies-i _ _ λ t.
           let u = and-r _ _ t in
-          implies-e _ _ (every-e width _ (implies-e _ _ k (and-l _ _ t)) j (omega arith))
+          implies-e _ _ (every-e w _ (implies-e _ _ k (and-l _ _ t)) j (omega arith))
           (later-i j m (ltb-true i j above) (among-i j m (and-r _ _ u) (and-l _ _ u))))
-          (λ k. implies-i _ _ λ f. every-i width _ λ j m. implies-i _ _ λ t.
+          (λ k. implies-i _ _ λ f. every-i w _ λ j m. implies-i _ _ λ t.
           let p = later-e j t in
           let q = among-e j (p .1) in
           implies-e _ _ (implies-e _ _ (every-e n _ k j (q .0)) (lt-ltb i j (p .0))) (and-i _ _ f (and-i _ _ (q .2) (q .1))))
 
   -- and where there are none, no pair of this one is of two free variables.
-  pub side-pairs : (leader : ℕ) → sideApart leader stated free ≡ every n (λ (j : ℕ). implies (and (eqb leader 0) (eqb (getD leaders j 0) 0)) (not (has stated j)))
+  pub side-pairs : (leader : ℕ) → sideApart w leader stated free ≡ every n (λ (j : ℕ). implies (and (eqb leader 0) (eqb (getD leaders j 0) 0)) (not (has stated j)))
   unfolding sideApart
   side-pairs leader =
       bool-ext _ _
       (λ k. every-i n _ λ j m. implies-i _ _ λ t. not-i _ (not-true→false _ λ s.
       let none = eqb-true _ 0 (implies-e _ _ k (and-l _ _ t)) in
       clash (among-i refl j m s (and-r _ _ t)) (ap (λ (x : ℕ). has x j) none ∙ has-zero j)))
-      (λ k. implies-i _ _ λ t. eq-eqb _ 0 (empty width _ (word-lt width _) λ j b. not-true→false _ λ s.
+      (λ k. implies-i _ _ λ t. eq-eqb _ 0 (empty w _ (word-lt w _) λ j b. not-true→false _ λ s.
       let q = among-e refl j s in
       clash (q .1) (not-e _ (implies-e _ _ (every-e n _ k j (q .0)) (and-i _ _ t (q .2))))))
 
 -- Where each stated pair is mirrored, those seen from their lower variable are all of them.
-module _ (n : ℕ) (leaders stated rows values : List ℕ) where
-  pub later-all : Mirrored stated → ((i : ℕ) → i < n → laterKept n leaders (getD stated i 0) rows values i ≡ true) → pairsKept n leaders stated rows values ≡ true
+module _ (w n : ℕ) (leaders stated rows values : List ℕ) where
+  pub later-all : Mirrored stated → ((i : ℕ) → i < n → laterKept w n leaders (getD stated i 0) rows values i ≡ true) → pairsKept w n leaders stated rows values ≡ true
   unfolding pairsKept sideKept laterKept pairKept
   later-all mirrored kept = every-i n _ λ i li. every-i n _ λ j lj. implies-i _ _ λ t.
       let free-i = and-l _ _ t in
@@ -254,10 +254,10 @@ module _ (n : ℕ) (leaders stated rows values : List ℕ) where
       let m = mirrored i j (and-r _ _ (and-r _ _ t)) in
       by-cases (ltb i j)
       (λ l. implies-e _ _ (implies-e _ _ (every-e n _ (kept i li) j lj) l) t)
-      (λ l. sym (allows-alike width rows j i (getD values j 0) (getD values i 0))
+      (λ l. sym (allows-alike w rows j i (getD values j 0) (getD values i 0))
       ∙ implies-e _ _ (implies-e _ _ (every-e n _ (kept j lj) i li) (lt-ltb j i (omega (arith, ltb-false i j l, m .0)))) (and-i _ _ free-j (and-i _ _ free-i (m .1))))
 
-  pub later-of : pairsKept n leaders stated rows values ≡ true → (i : ℕ) → i < n → laterKept n leaders (getD stated i 0) rows values i ≡ true
+  pub later-of : pairsKept w n leaders stated rows values ≡ true → (i : ℕ) → i < n → laterKept w n leaders (getD stated i 0) rows values i ≡ true
   unfolding pairsKept sideKept laterKept
   later-of t i l = every-i n _ λ j m. implies-i _ _ λ _. every-e n _ (every-e n _ t i l) j m
 
@@ -270,16 +270,16 @@ set-table n f g i v l e h =
     (λ t. getD-set-other (tabulate n f) i k v 0 (eqb-false k i t) ∙ getD-tabulate n f k 0 m ∙ h k (eqb-false k i t)))
 
 -- No lowest value yet, and one more.
-pub lowest-none : (domains : List ℕ) → replicate variables 0 ≡ tabulate variables (lowestOf 0 domains)
+pub lowest-none : (w : ℕ) (domains : List ℕ) → replicate variables 0 ≡ tabulate variables (lowestOf w 0 domains)
 unfolding lowestOf
-lowest-none domains =
+lowest-none w domains =
     is-table variables _ (replicate variables 0) 0 (length-replicate {A = ℕ} variables 0) (λ k l. getD-replicate variables k 0 0 l ∙ sym (if-false _ _ _ (le-ltb k 0 (omega arith))))
 
-pub lowest-more : (domains : List ℕ) {values : List ℕ} {i v : ℕ} → i < variables → values ≡ tabulate variables (lowestOf i domains)
-    → v ≡ first width (has (getD domains i 0))
-    → set values i v ≡ tabulate variables (lowestOf (i + 1) domains)
+pub lowest-more : (w : ℕ) (domains : List ℕ) {values : List ℕ} {i v : ℕ} → i < variables → values ≡ tabulate variables (lowestOf w i domains)
+    → v ≡ first w (has (getD domains i 0))
+    → set values i v ≡ tabulate variables (lowestOf w (i + 1) domains)
 unfolding lowestOf
-lowest-more domains {i} {v} l e f =
+lowest-more w domains {i} {v} l e f =
     rw e (set-table variables _ _ i v l (f ∙ sym (if-true _ _ _ (lt-ltb i (i + 1) (omega arith))))
-    (λ k d. ap (λ (t : Bool). if t (first width (has (getD domains k 0))) 0)
+    (λ k d. ap (λ (t : Bool). if t (first w (has (getD domains k 0))) 0)
     (bool-ext _ _ (λ t. lt-ltb k (i + 1) (omega (arith, ltb-true k i t))) (λ t. lt-ltb k i (omega (arith, ltb-true k (i + 1) t))))))

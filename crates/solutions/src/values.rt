@@ -87,7 +87,7 @@ fn row_allows(rows: &Rows, i: usize, j: usize, a: u8, b: u8) -> bool
 // The pairs of a free variable `i` with those of `among`, all of them higher, allow their two values.
 fn among_kept(leader: u8, among: u32, rows: &Rows, values: &[u8], i: usize) -> bool
     requires { ⌜ (i < length (now values)) × ((j : ℕ) → has among j ≡ true → (i < j) × (j < variables) × (j < length (now values))) ⌝ }
-    ensures { λ r. ⌜ r ≡ amongKept leader among (now (rows .entry)) (now (values .entry)) i ⌝ }
+    ensures { λ r. ⌜ r ≡ amongKept width leader among (now (rows .entry)) (now (values .entry)) i ⌝ }
 {
     if leader != 0 {
         return true;
@@ -112,7 +112,7 @@ pub fn pairs_kept<'a>(
     values: &[u8],
 ) -> bool
     requires { ⌜ (n ≤ variables) × (n ≤ length (now values)) × Mirrored (now stated) ⌝ }
-    ensures { λ r. ⌜ r ≡ pairsKept n (now (leaders .entry)) (now (stated .entry)) (now (rows .entry)) (now (values .entry)) ⌝ }
+    ensures { λ r. ⌜ r ≡ pairsKept width n (now (leaders .entry)) (now (stated .entry)) (now (rows .entry)) (now (values .entry)) ⌝ }
 {
     let free = free_variables(n, leaders);
     for i in 0..n {
@@ -135,7 +135,7 @@ pub fn lowest_value(domain: u32) -> u8
 // The value in `domain` of `i` that goes with value `a` of `l`: trailing zeros name the single partner.
 fn partner_of(rows: &Rows, l: usize, i: usize, domain: u32, a: usize) -> u8
     requires { ⌜ (l < variables) × (i < variables) × (l ≡ i → ⊥) × (a < width) ⌝ }
-    ensures { λ r. ⌜ r ≡ partnerOf (now (rows .entry)) l i domain a ⌝ }
+    ensures { λ r. ⌜ r ≡ partnerOf width (now (rows .entry)) l i domain a ⌝ }
 {
     lowest_value(words::both(domain, pairs_read::row(rows, l, i, a)))
 }
@@ -148,8 +148,8 @@ fn value_completed(
     values: &[u8],
     i: usize,
 ) -> u8
-    requires { ⌜ (i < variables) × (i < length (now values)) × ((l : ℕ) → getD (now leaders) i 0 ≡ suc l → LeaderReady i l (now values)) ⌝ }
-    ensures { λ r. ⌜ r ≡ valueCompleted (now (domains .entry)) (now (leaders .entry)) (now (rows .entry)) (now (values .entry)) i ⌝ }
+    requires { ⌜ (i < variables) × (i < length (now values)) × ((l : ℕ) → getD (now leaders) i 0 ≡ suc l → LeaderReady width i l (now values)) ⌝ }
+    ensures { λ r. ⌜ r ≡ valueCompleted width (now (domains .entry)) (now (leaders .entry)) (now (rows .entry)) (now (values .entry)) i ⌝ }
 {
     let leader = leaders[i];
     if leader == 0 {
@@ -167,8 +167,8 @@ pub fn complete_values<'a>(
     rows: &'a Rows,
     values: &mut [u8],
 )
-    requires { ⌜ Led n (now leaders) (now values) ⌝ }
-    ensures { λ _. ⌜ Completed n (now (domains .entry)) (now (leaders .entry)) (now (rows .entry)) (now (values .entry)) (now (values .exit)) ⌝ }
+    requires { ⌜ Led width n (now leaders) (now values) ⌝ }
+    ensures { λ _. ⌜ Completed width n (now (domains .entry)) (now (leaders .entry)) (now (rows .entry)) (now (values .entry)) (now (values .exit)) ⌝ }
 {
     for i in 0..n {
         let value = value_completed(domains, leaders, rows, values, i);

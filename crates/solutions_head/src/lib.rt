@@ -40,7 +40,7 @@ pub fn domains_open<'a>(
 
 // A free variable is stated with none of the free ones.
 fn side_apart(leader: u8, stated: u32, free: u32) -> bool
-    ensures { λ r. ⌜ r ≡ sideApart leader stated free ⌝ }
+    ensures { λ r. ⌜ r ≡ sideApart width leader stated free ⌝ }
 {
     if leader != 0 {
         return true;
@@ -64,7 +64,7 @@ pub fn free_apart<'a>(n: usize, leaders: &'a [u8; VARIABLES], stated: &'a [u32; 
 // The lowest value of each domain.
 fn lowest_values(n: usize, domains: &[u32; VARIABLES]) -> [u8; VARIABLES]
     requires { ⌜ n ≤ variables ⌝ }
-    ensures { λ r. ⌜ r ≡ tabulate variables (lowestOf n (now (domains .entry))) ⌝ }
+    ensures { λ r. ⌜ r ≡ tabulate variables (lowestOf width n (now (domains .entry))) ⌝ }
 {
     let mut values = [0u8; VARIABLES];
     for i in 0..n {
@@ -80,8 +80,8 @@ pub fn lowest_solution<'a>(
     leaders: &'a [u8; VARIABLES],
     rows: &'a Rows,
 ) -> [u8; VARIABLES]
-    requires { ⌜ Led n (now leaders) (tabulate variables (lowestOf n (now domains))) ⌝ }
-    ensures { λ r. ⌜ Completed n (now (domains .entry)) (now (leaders .entry)) (now (rows .entry)) (tabulate variables (lowestOf n (now (domains .entry)))) r ⌝ }
+    requires { ⌜ Led width n (now leaders) (tabulate variables (lowestOf width n (now domains))) ⌝ }
+    ensures { λ r. ⌜ Completed width n (now (domains .entry)) (now (leaders .entry)) (now (rows .entry)) (tabulate variables (lowestOf width n (now (domains .entry)))) r ⌝ }
 {
     let mut values = lowest_values(n, domains);
     complete_values(n, domains, leaders, rows, &mut values);
@@ -91,7 +91,7 @@ pub fn lowest_solution<'a>(
 // A free variable with a full domain.
 fn fresh_value(leader: u8, domain: u32, size: u8) -> bool
     requires { ⌜ size ≤ width ⌝ }
-    ensures { λ r. ⌜ r ≡ freshValue leader domain size ⌝ }
+    ensures { λ r. ⌜ r ≡ freshValue width leader domain size ⌝ }
 {
     if leader != 0 {
         return false;
@@ -102,7 +102,7 @@ fn fresh_value(leader: u8, domain: u32, size: u8) -> bool
 // No follower, and each domain is full.
 pub fn fresh_parts(head: Head) -> bool
     requires { ⌜ (head .n ≤ variables) × ((i : ℕ) → getD (head .sizes) i 0 ≤ width) ⌝ }
-    ensures { λ r. ⌜ r ≡ freshParts (head .n) (head .sizes) (head .domains) (head .leaders) ⌝ }
+    ensures { λ r. ⌜ r ≡ freshParts width (head .n) (head .sizes) (head .domains) (head .leaders) ⌝ }
 {
     let n = head.n;
     let sizes = head.sizes;

@@ -65,7 +65,7 @@ module _ (s : State) (build : List ℕ) where
     unfolding valuesKept valueKept inDomains valuesOf held
     kept-domains = every-cong (s .n) _ _ (λ i l. implies-true _ _ (eq-eqb _ 0 (none i l)))
 
-    kept-pairs : pairsKept (s .n) unled (s .stated) (s .rows) build ≡ pairsAllow (view s) (valuesOf build)
+    kept-pairs : pairsKept width (s .n) unled (s .stated) (s .rows) build ≡ pairsAllow (view s) (valuesOf build)
     unfolding pairsKept sideKept pairKept pairsAllow valuesOf held
     kept-pairs = every-cong (s .n) _ _ (λ i li. every-cong (s .n) _ _ (λ j lj.
         implies-same _ _ _ (and-holds _ _ (eq-eqb _ 0 (none i li)) ∙ and-holds _ _ (eq-eqb _ 0 (none j lj)))))
@@ -76,7 +76,7 @@ module _ (s : State) (build : List ℕ) where
       tested-outside v = ap says (sym (and-fails _ _ (sym kept-domains ∙ v))) ∙ tested-solves h k b
 
       pub tested-pairs : valuesKept (s .n) unled (s .domains) build ≡ true
-          → says (pairsKept (s .n) unled (s .stated) (s .rows) build) ≡ tested s build
+          → says (pairsKept width (s .n) unled (s .stated) (s .rows) build) ≡ tested s build
       unfolding solves
       tested-pairs v = ap says (kept-pairs ∙ sym (and-holds _ _ (sym kept-domains ∙ v))) ∙ tested-solves h k b
 
@@ -99,7 +99,7 @@ module _ (s : State) (build : List ℕ) where
   unfolding valuesKept valueKept choiceInDomains free valuesOf held
   kept-choice = refl
 
-  kept-choice-pairs : pairsKept (s .n) (s .leaders) (s .stated) (s .rows) build ≡ choicePairsAllow (view s) (valuesOf build)
+  kept-choice-pairs : pairsKept width (s .n) (s .leaders) (s .stated) (s .rows) build ≡ choicePairsAllow (view s) (valuesOf build)
   unfolding pairsKept sideKept pairKept choicePairsAllow free valuesOf held
   kept-choice-pairs = refl
 
@@ -109,7 +109,7 @@ module _ (s : State) (build : List ℕ) where
   complete-15 h k v = complete-number 14 (build-own s build _ h k ∙ refused-15 (view s) (valuesOf build) (sym kept-choice ∙ v))
 
   pub complete-16 : soundState s ≡ true → length build ≡ s .n → valuesKept (s .n) (s .leaders) (s .domains) build ≡ true
-      → pairsKept (s .n) (s .leaders) (s .stated) (s .rows) build ≡ false
+      → pairsKept width (s .n) (s .leaders) (s .stated) (s .rows) build ≡ false
       → (16 ≡ completeNumber s build) × (build ≡ completedBuffer s build)
   unfolding completeNumber
   complete-16 h k v p =
@@ -122,7 +122,7 @@ module _ (s : State) (h : HeadShaped (headIn s)) (t : soundState s ≡ true) (bu
   unfolding held
   leader-choice i l e = let S = held-sound _ _ h t in choice l (leader-n (view s) S i l e) (leader-is-free (view s) S i l e)
 
-  pub choice-led : s .n ≤ length build → Led (s .n) (s .leaders) build
+  pub choice-led : s .n ≤ length build → Led width (s .n) (s .leaders) build
   unfolding held
   choice-led m =
       let S = held-sound _ _ h t in
@@ -136,19 +136,19 @@ module _ (s : State) (h : HeadShaped (headIn s)) (t : soundState s ≡ true) (bu
 
   -- The lowest of a word is the lowest below the size, since there is one.
   partner-first : (i l : ℕ) → getD (s .leaders) i 0 ≡ suc l
-      → partnerOf (s .rows) l i (getD (s .domains) i 0) (getD build l 0) ≡ first (getD (s .sizes) i 0) (partner (view s) l i (getD build l 0))
+      → partnerOf width (s .rows) l i (getD (s .domains) i 0) (getD build l 0) ≡ first (getD (s .sizes) i 0) (partner (view s) l i (getD build l 0))
   unfolding held partner partnerOf
   partner-first i l e =
       let most = held-size _ (s .rows) h t i in
       first-widen (getD (s .sizes) i 0) width _ (omega arith) (partner-some (view s) (held-sound _ _ h t) i l (getD build l 0) e (leader-choice i l e))
 
   pub value-is-completed : (i : ℕ) → i < s .n
-      → valueCompleted (s .domains) (s .leaders) (s .rows) build i ≡ completed (view s) (valuesOf build) i
+      → valueCompleted width (s .domains) (s .leaders) (s .rows) build i ≡ completed (view s) (valuesOf build) i
   unfolding held valuesOf
   value-is-completed i m =
       free-or-led (view s) i
-      (λ f. sym (completed-live (s .domains) (s .leaders) (s .rows) build i (free-e (view s) i f)) ∙ sym (completed-keeps (view s) (valuesOf build) i f))
-      (λ l e. sym (completed-follower (s .domains) (s .leaders) (s .rows) build i l (getD build l 0) (λ q. let x : ⊥ = omega arith in x) (omega arith) refl)
+      (λ f. sym (completed-live width (s .domains) (s .leaders) (s .rows) build i (free-e (view s) i f)) ∙ sym (completed-keeps (view s) (valuesOf build) i f))
+      (λ l e. sym (completed-follower width (s .domains) (s .leaders) (s .rows) build i l (getD build l 0) (λ q. let x : ⊥ = omega arith in x) (omega arith) refl)
       ∙ partner-first i l e
       ∙ sym (completed-led (view s) (valuesOf build) i l e))
 
@@ -158,11 +158,11 @@ module _ (s : State) (h : HeadShaped (headIn s)) (t : soundState s ≡ true) (bu
   unfolding valuesKept valueKept free held
   kept-values i l f = implies-e _ _ (every-e (s .n) _ v i l) f
 
-  pub complete-led : Led (s .n) (s .leaders) build
+  pub complete-led : Led width (s .n) (s .leaders) build
   complete-led = choice-led s h t build kept-values (omega arith)
 
-  pub complete-done : (after : List ℕ) → pairsKept (s .n) (s .leaders) (s .stated) (s .rows) build ≡ true
-      → Completed (s .n) (s .domains) (s .leaders) (s .rows) build after
+  pub complete-done : (after : List ℕ) → pairsKept width (s .n) (s .leaders) (s .stated) (s .rows) build ≡ true
+      → Completed width (s .n) (s .domains) (s .leaders) (s .rows) build after
       → (0 ≡ completeNumber s build) × (after ≡ completedBuffer s build)
   unfolding completeNumber allowedChoice
   complete-done after p C =

@@ -75,7 +75,7 @@ module _ (s : State) (h : HeadShaped (headIn s)) (t : soundState s ≡ true) whe
 
   module _ (o : domainsOpen (s .n) (s .leaders) (s .domains) ≡ true) where
     -- The lowest values are a choice in the domains of free variables.
-    lowest-is : (i : ℕ) → i < s .n → free (view s) i ≡ true → getD (tabulate variables (lowestOf (s .n) (s .domains))) i 0 ≡ lowest (view s) i
+    lowest-is : (i : ℕ) → i < s .n → free (view s) i ≡ true → getD (tabulate variables (lowestOf width (s .n) (s .domains))) i 0 ≡ lowest (view s) i
     unfolding lowestOf lowest held
     lowest-is i l f =
         getD-tabulate variables _ i 0 (omega (arith, held-n _ (s .rows) t))
@@ -83,15 +83,15 @@ module _ (s : State) (h : HeadShaped (headIn s)) (t : soundState s ≡ true) whe
         ∙ first-widen (getD (s .sizes) i 0) width _ (let most = held-size _ (s .rows) h t i in omega arith) (not-exhausted (view s) (left o) i l f)
 
     lowest-choice : (i : ℕ) → i < s .n → free (view s) i ≡ true
-        → view s .domain i (getD (tabulate variables (lowestOf (s .n) (s .domains))) i 0) ≡ true
+        → view s .domain i (getD (tabulate variables (lowestOf width (s .n) (s .domains))) i 0) ≡ true
     unfolding held
     lowest-choice i l f = rw (lowest-is i l f) (lowest-domain (view s) (left o) i l f)
 
-    pub lowest-led : Led (s .n) (s .leaders) (tabulate variables (lowestOf (s .n) (s .domains)))
-    lowest-led = choice-led s h t _ lowest-choice (omega (arith, held-n _ (s .rows) t, length-tabulate variables (lowestOf (s .n) (s .domains))))
+    pub lowest-led : Led width (s .n) (s .leaders) (tabulate variables (lowestOf width (s .n) (s .domains)))
+    lowest-led = choice-led s h t _ lowest-choice (omega (arith, held-n _ (s .rows) t, length-tabulate variables (lowestOf width (s .n) (s .domains))))
 
     -- Completed, they are the lowest solution.
-    build-is : (i : ℕ) → i < s .n → completed (view s) (valuesOf (tabulate variables (lowestOf (s .n) (s .domains)))) i ≡ lowestSolution (view s) i
+    build-is : (i : ℕ) → i < s .n → completed (view s) (valuesOf (tabulate variables (lowestOf width (s .n) (s .domains)))) i ≡ lowestSolution (view s) i
     unfolding lowestSolution valuesOf held
     build-is i m =
         free-or-led (view s) i
@@ -102,7 +102,7 @@ module _ (s : State) (h : HeadShaped (headIn s)) (t : soundState s ≡ true) whe
         ∙ sym (completed-led (view s) (lowest (view s)) i l e))
 
     pub told-built : (build : List ℕ) → length build ≡ variables → freeApart (s .n) (s .leaders) (s .stated) ≡ true
-        → Completed (s .n) (s .domains) (s .leaders) (s .rows) (tabulate variables (lowestOf (s .n) (s .domains))) build
+        → Completed width (s .n) (s .domains) (s .leaders) (s .rows) (tabulate variables (lowestOf width (s .n) (s .domains))) build
         → rules BUILT build ≡ verdictOf s
     unfolding lowestOf held
     told-built build e d C =

@@ -41,7 +41,7 @@ full-domain domain size d w within =
 
 module _ (s : State) (h : HeadShaped (headIn s)) (t : soundState s ≡ true) where
   -- A sound state is fresh exactly when its arrays are.
-  pub fresh-told : fresh (view s) ≡ freshParts (s .n) (s .sizes) (s .domains) (s .leaders)
+  pub fresh-told : fresh (view s) ≡ freshParts width (s .n) (s .sizes) (s .domains) (s .leaders)
   unfolding fresh held free freshParts freshValue
   fresh-told =
       every-cong (s .n) _ _ (λ i _. ap (and (eqb (getD (s .leaders) i 0) 0))

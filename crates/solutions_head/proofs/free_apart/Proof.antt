@@ -32,7 +32,7 @@ loop-again c =
     let entry = turn .before in (
       omega arith,
       test-joins _ _ (turn .loop .inv .1)
-          (c .side-apart .ensures ∙ side-pairs _ _ (omega arith) (entry .free-variables .ensures) _),
+          (c .side-apart .ensures ∙ side-pairs 32 _ _ (omega arith) (entry .free-variables .ensures) _),
     )
 
 returns : tie.Need-returns Inv-loop μ-loop

@@ -11,7 +11,7 @@ use Rattle.solutions_head.proofs.fresh_parts.Statement.{statement}
 use Rattle.solutions_head.proofs.fresh_parts.Tie as tie
 
 abbrev Inv-loop : tie.InvT-loop
-Inv-loop n sizes domains leaders all₀ i₀ all i = (i ≤ n) × (all ≡ every i (λ (k : ℕ). freshValue (getD leaders k 0) (getD domains k 0) (getD sizes k 0)))
+Inv-loop n sizes domains leaders all₀ i₀ all i = (i ≤ n) × (all ≡ every i (λ (k : ℕ). freshValue 32 (getD leaders k 0) (getD domains k 0) (getD sizes k 0)))
 
 abbrev μ-loop : tie.MeasureT-loop
 μ-loop n sizes domains leaders all₀ i₀ all i = n - i

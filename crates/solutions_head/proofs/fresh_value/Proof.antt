@@ -9,11 +9,11 @@ use Rattle.solutions_head.proofs.fresh_value.Statement.{statement}
 use Rattle.solutions_head.proofs.fresh_value.Tie as tie
 
 returns : tie.Need-returns
-returns c = fresh-led _ _ (c .if1 .taken)
+returns c = fresh-led 32 _ _ (c .if1 .taken)
 
 returns-2 : tie.Need-returns-2
 returns-2 c =
-    fresh-live _ _ (c .before .before .if1 .left)
+    fresh-live 32 _ _ (c .before .before .if1 .left)
     (c .full .ensures ∙ ap (λ (k : ℕ). word width (λ (v : ℕ). ltb v k)) (c .before .wide .ensures))
 
 pub fresh-value-spec : {M : Type 1} → statement M

@@ -53,7 +53,7 @@ module _ (c : tie.Else3) where
 abbrev third : tie.After-pairs-kept → tie.Else3
 third c = c .before .before .before .before .before
 
-allowed : (c : tie.Else4) → let e = third (c .before) in pairsKept (at e .n) (at e .leaders) (at e .stated) (at e .rows) (build e) ≡ true
+allowed : (c : tie.Else4) → let e = third (c .before) in pairsKept 32 (at e .n) (at e .leaders) (at e .stated) (at e .rows) (build e) ≡ true
 allowed c = sym (c .before .pairs-kept .ensures) ∙ not-false _ (c .if4 .left)
 
 returns : tie.Need-returns

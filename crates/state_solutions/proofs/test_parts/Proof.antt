@@ -48,7 +48,7 @@ module _ (c : tie.Else3) where
       (is-sound (first c)) (c .before .before .before .before .if2 .left) (sym (c .before .values-below .ensures) ∙ not-false _ (c .if3 .left))
 
   pairs : valuesKept (at .n) (replicate variables 0) (at .domains) build ≡ true
-      → says (pairsKept (at .n) (replicate variables 0) (at .stated) (at .rows) build) ≡ tested at build
+      → says (pairsKept 32 (at .n) (replicate variables 0) (at .stated) (at .rows) build) ≡ tested at build
   pairs =
       tested-pairs _ _ _ (all-free at (is-sound (first c)))
       (is-sound (first c)) (c .before .before .before .before .if2 .left) (sym (c .before .values-below .ensures) ∙ not-false _ (c .if3 .left))

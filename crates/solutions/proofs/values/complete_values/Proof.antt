@@ -9,7 +9,7 @@ use Rattle.solutions.proofs.values.complete_values.Statement.{statement
 use Rattle.solutions.proofs.values.complete_values.Tie as tie
 
 abbrev Inv-loop : tie.InvT-loop
-Inv-loop n domains leaders rows values₀ i₀ values i = (i ≤ n) × Completed i domains leaders rows values₀ values
+Inv-loop n domains leaders rows values₀ i₀ values i = (i ≤ n) × Completed 32 i domains leaders rows values₀ values
 
 abbrev μ-loop : tie.MeasureT-loop
 μ-loop n domains leaders rows values₀ i₀ values i = n - i

@@ -15,7 +15,7 @@ use Rattle.solutions.proofs.values.pairs_kept.Tie as tie
 
 abbrev Inv-loop : tie.InvT-loop
 Inv-loop n leaders stated rows values free i₀ i = (i ≤ n)
-    × ((k : ℕ) → k < i → laterKept n leaders (getD stated k 0) rows values k ≡ true)
+    × ((k : ℕ) → k < i → laterKept 32 n leaders (getD stated k 0) rows values k ≡ true)
 
 abbrev μ-loop : tie.MeasureT-loop
 μ-loop n leaders stated rows values free i₀ i = n - i
@@ -30,14 +30,14 @@ among-kept-requires c κs =
     let f = both .before .before .before .before in (
       search needs,
       λ j t.
-          let k = later-in _ _ (omega arith) (f .free-variables .ensures) (both .both .ensures) _ (full .full .ensures) (c .before .without .ensures) j t in
+          let k = later-in 32 _ _ (omega arith) (f .free-variables .ensures) (both .both .ensures) _ (full .full .ensures) (c .before .without .ensures) j t in
           search needs,
     )
 
 -- The test of a turn is that of the pairs of `i` with higher variables.
 side : (c : tie.After-among-kept Inv-loop μ-loop) → let l = c .before .before .before .before .before .before .before in
     let a = l .before .before .before .args in
-    c .among-kept .result ≡ laterKept (a .n) (a .leaders .now) (getD (a .stated .now) (l .loop .i) 0) (a .rows .now) (a .values .now) (l .loop .i)
+    c .among-kept .result ≡ laterKept 32 (a .n) (a .leaders .now) (getD (a .stated .now) (l .loop .i) 0) (a .rows .now) (a .values .now) (l .loop .i)
 side c =
     let without = c .before .before in
     let full = without .before in
@@ -45,7 +45,7 @@ side c =
     let f = both .before .before .before .before in
     let a = f .before .before .args in
     c .among-kept .ensures
-    ∙ later-side _ _ (omega arith) (f .free-variables .ensures) (both .both .ensures) _ (full .full .ensures) (without .without .ensures) (a .rows .now)
+    ∙ later-side 32 _ _ (omega arith) (f .free-variables .ensures) (both .both .ensures) _ (full .full .ensures) (without .without .ensures) (a .rows .now)
     (a .values .now)
 
 returns : tie.Need-returns Inv-loop μ-loop
@@ -53,7 +53,7 @@ returns c =
     let l = c .before .before .before .before .before .before .before in
     let a = l .before .before .before .before .args in
     sym (not-true→false _ (λ t.
-    clash (later-of (a .n) (a .leaders .now) (a .stated .now) (a .rows .now) (a .values .now) t _ (l .loop-test .taken))
+    clash (later-of 32 (a .n) (a .leaders .now) (a .stated .now) (a .rows .now) (a .values .now) t _ (l .loop-test .taken))
     (sym (side (c .before)) ∙ not-true _ (c .if1 .taken))))
 
 loop-again : tie.Need-loop-again Inv-loop μ-loop
@@ -65,7 +65,7 @@ returns-2 : tie.Need-returns-2 Inv-loop μ-loop
 returns-2 c =
     let s = c .before .before .before .before in
     let a = s .args in
-    sym (later-all (a .n) (a .leaders .now) (a .stated .now) (a .rows .now) (a .values .now) (s .pre .2) (λ k l. c .before .loop .inv .1 k (omega arith)))
+    sym (later-all 32 (a .n) (a .leaders .now) (a .stated .now) (a .rows .now) (a .values .now) (s .pre .2) (λ k l. c .before .loop .inv .1 k (omega arith)))
 
 pub pairs-kept-spec : {M : Type 1} → statement M
 pairs-kept-spec =

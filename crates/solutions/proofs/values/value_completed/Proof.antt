@@ -10,13 +10,13 @@ use Rattle.solutions.proofs.values.value_completed.Tie as tie
 
 -- The leader, counted from 0, is a variable that has a value.
 led : (c : tie.After-wide)
-    → LeaderReady (c .before .before .before .before .args .i) (c .wide .result - 1) (c .before .before .before .before .args .values .now)
+    → LeaderReady 32 (c .before .before .before .before .args .i) (c .wide .result - 1) (c .before .before .before .before .args .values .now)
 led c = c .before .before .before .before .pre .2 (c .wide .result - 1) (omega (arith, c .wide .ensures, c .before .if1 .left))
 
 returns : tie.Need-returns
 returns c =
     let s = c .before .before .before .before .args in
-    completed-live (s .domains .now) (s .leaders .now) (s .rows .now) (s .values .now) (s .i) (c .before .if1 .taken)
+    completed-live 32 (s .domains .now) (s .leaders .now) (s .rows .now) (s .values .now) (s .i) (c .before .if1 .taken)
 
 shared-slice-read-wide : tie.Need-shared-slice-read-wide
 shared-slice-read-wide c = led (c .before .before) .leader-read
@@ -30,7 +30,7 @@ returns-2 : tie.Need-returns-2
 returns-2 c =
     let s = c .before .before .before .before .before .before .before .before .args in
     c .partner-of .ensures
-    ∙ completed-follower (s .domains .now) (s .leaders .now) (s .rows .now) (s .values .now) (s .i) _ _
+    ∙ completed-follower 32 (s .domains .now) (s .leaders .now) (s .rows .now) (s .values .now) (s .i) _ _
     (c .before .before .before .before .before .if1 .left) (omega (arith, c .before .before .before .before .wide .ensures)) (c .before .wide2 .ensures)
 
 pub value-completed-spec : {M : Type 1} → statement M
