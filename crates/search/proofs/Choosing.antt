@@ -12,7 +12,7 @@ use Rattle.bounded.specs.Bool.{and, not}
 use Rattle.bounded.specs.Fold.{first}
 use Rattle.bounded.proofs.Bool.{by-cases, clash, bool-ext, not-true→false, and-i, and-l, and-r, and-true, and-false, and-fails, implies-true, implies-false, not-i, not-e, if-true, if-false}
 use Rattle.bounded.proofs.Fold.{is-or-not, first-below}
-use Rattle.words.specs.Word.{width, has, word}
+use Rattle.words.specs.Word.{has, word}
 use Rattle.words.proofs.Laws.{word-lt, has-word, has-ruled, has-past, has-below, has-all, has-zero}
 use Rattle.network.specs.Network.{Network, free}
 use Rattle.network.specs.Turns.{FirstFrom, Narrows}
@@ -87,7 +87,7 @@ module _ (N : Network) where
 
 -- ---- choosing a variable
 
-module _ {N : Network} {stated rows : List ℕ} {k left : ℕ} (L : Left N stated rows k left) where
+module _ {w : ℕ} {N : Network} {stated rows : List ℕ} {k left : ℕ} (L : Left w N stated rows k left) where
   not-left : (i : ℕ) → has left i ≡ false → toChoose N k i ≡ false
   not-left i h = sym (L .left-are i) ∙ h
 
@@ -101,12 +101,12 @@ module _ {N : Network} {stated rows : List ℕ} {k left : ℕ} (L : Left N state
       }
 
   -- The next one is m.
-  module _ (fits : left < 2 ^ width) (more : left ≡ 0 → ⊥) {m : ℕ} (low : m ≡ first width (has left))
-      {left′ : ℕ} (le : left′ ≡ word width (λ (u : ℕ). and (has left u) (not (eqb u (first width (has left)))))) where
+  module _ (fits : left < 2 ^ w) (more : left ≡ 0 → ⊥) {m : ℕ} (low : m ≡ first w (has left))
+      {left′ : ℕ} (le : left′ ≡ word w (λ (u : ℕ). and (has left u) (not (eqb u (first w (has left)))))) where
     next : (k ≤ m) × (m < N .n) × (free N m ≡ true)
-    next = to-choose-e N k m (sym (L .left-are m) ∙ lowest-in width left m fits more low .1)
+    next = to-choose-e N k m (sym (L .left-are m) ∙ lowest-in w left m fits more low .1)
 
-    chosen-left : Left N stated rows (m + 1) left′
+    chosen-left : Left w N stated rows (m + 1) left′
     chosen-left =
         record {
           from-n = omega (arith, next .1);
@@ -117,7 +117,7 @@ module _ {N : Network} {stated rows : List ℕ} {k left : ℕ} (L : Left N state
       where
         down : (i : ℕ) → has left′ i ≡ true → toChoose N (m + 1) i ≡ true
         down i t =
-            let q = above-lowest width left left′ m fits more low le i t in
+            let q = above-lowest w left left′ m fits more low le i t in
             let e = to-choose-e N k i (sym (L .left-are i) ∙ q .0) in
             to-choose-i N (m + 1) i (omega (arith, q .1)) (e .1) (e .2)
 
@@ -125,46 +125,46 @@ module _ {N : Network} {stated rows : List ℕ} {k left : ℕ} (L : Left N state
         up i t =
             let e = to-choose-e N (m + 1) i t in
             let h = L .left-are i ∙ to-choose-i N k i (omega (arith, e .0, next .0)) (e .1) (e .2) in
-            rest-is width fits more low le i (has-below width left i h fits)
+            rest-is w fits more low le i (has-below w left i h fits)
             ∙ and-i _ _ h (not-i _ (ne-eqb i m (λ q. let x : ⊥ = omega (arith, e .0) in x)))
 
     -- What is chosen from m on is chosen from k on.
     pub chosen-next : (domains : List ℕ) {b : Bool} {before after : List ℕ}
-        → (Left N stated rows (m + 1) left′ → free N m ≡ true → Chooses N (untried domains m (getD domains m 0)) m b before after)
+        → (Left w N stated rows (m + 1) left′ → free N m ≡ true → Chooses N (untried domains m (getD domains m 0)) m b before after)
         → Chooses N (listed domains) k b before after
     chosen-next domains {b} {before} {after} c =
         let C : Chooses N (listed domains) m b before after = rw (all-untried domains m) at (c chosen-left (next .2)) in
         record {
           first-from = first-past N _ b _ (m - k) k m (omega (arith, next .0))
-              (λ i a l. led N k i a (omega (arith, next .1)) (not-left i (first-below width (has left) i (omega arith)))) (C .first-from);
+              (λ i a l. led N k i a (omega (arith, next .1)) (not-left i (first-below w (has left) i (omega arith)))) (C .first-from);
           others = λ i h. C .others i (fewer N k m i (next .0) h);
         }
 
 -- ---- trying its values
 
 -- The lowest value of `rest`, v, is taken by k, which is free: the domains are narrowed, and the other variables that are left are chosen within them.
-pub record Taken (N : Network) (stated rows : List ℕ) (k left : ℕ) (domains : List ℕ) (rest v : ℕ) (changed : Bool) (later : List ℕ)
+pub record Taken (w : ℕ) (N : Network) (stated rows : List ℕ) (k left : ℕ) (domains : List ℕ) (rest v : ℕ) (changed : Bool) (later : List ℕ)
     (found : Bool) (before after : List ℕ) : Type 0 where
-  pub left-after : Left N stated rows (k + 1) left
+  pub left-after : Left w N stated rows (k + 1) left
   pub k-free : free N k ≡ true
-  pub rest-fits : rest < 2 ^ width
-  pub left-fits : left < 2 ^ width
+  pub rest-fits : rest < 2 ^ w
+  pub left-fits : left < 2 ^ w
   pub some : rest ≡ 0 → ⊥
-  pub lowest : v ≡ first width (has rest)
-  pub narrowed : Narrowed rows (word width (λ (u : ℕ). and (has (getD stated k 0) u) (has left u))) k v changed domains later
+  pub lowest : v ≡ first w (has rest)
+  pub narrowed : Narrowed w rows (word w (λ (u : ℕ). and (has (getD stated k 0) u) (has left u))) k v changed domains later
   pub chosen : Chooses N (listed later) (k + 1) found before after
 
 -- No value is left.
-pub tried-none : {N : Network} {stated rows : List ℕ} {k left : ℕ} (domains : List ℕ) {rest : ℕ} {values : List ℕ}
-    → Left N stated rows (k + 1) left → free N k ≡ true → rest ≡ 0 → Chooses N (untried domains k rest) k false values values
+pub tried-none : {w : ℕ} {N : Network} {stated rows : List ℕ} {k left : ℕ} (domains : List ℕ) {rest : ℕ} {values : List ℕ}
+    → Left w N stated rows (k + 1) left → free N k ≡ true → rest ≡ 0 → Chooses N (untried domains k rest) k false values values
 tried-none {N} {k} domains {rest} L f e =
     record {
       first-from = first-none N k (omega (arith, L .from-n)) f _ _ (λ v. untried-here domains k rest v ∙ rw e (has-zero v)) refl;
       others = λ i _. refl;
     }
 
-module _ {N : Network} {stated rows : List ℕ} {k left : ℕ} {domains : List ℕ} {rest v : ℕ} {changed : Bool} {later : List ℕ} {found : Bool} {before after : List ℕ}
-    (T : Taken N stated rows k left domains rest v changed later found before after) where
+module _ {w : ℕ} {N : Network} {stated rows : List ℕ} {k left : ℕ} {domains : List ℕ} {rest v : ℕ} {changed : Bool} {later : List ℕ} {found : Bool} {before after : List ℕ}
+    (T : Taken w N stated rows k left domains rest v changed later found before after) where
   k-n : k < N .n
   k-n = omega (arith, T .left-after .from-n)
 
@@ -181,7 +181,7 @@ module _ {N : Network} {stated rows : List ℕ} {k left : ℕ} {domains : List �
             ap (λ (x : ℕ). has x u) (T .narrowed .narrowed j)
             ∙ by-cases (N .stated k j)
             (λ s. ap (λ (x : ℕ). has x u) (if-true _ _ _ (b ∙ s))
-            ∙ has-all width _ u (λ l. ap (and _) (past-second width rows k j v u l) ∙ and-false _)
+            ∙ has-all w _ u (λ l. ap (and _) (past-second w rows k j v u l) ∙ and-false _)
             ∙ ap₂ and same (sym (T .left-after .allows-are k j v u) ∙ sym (implies-true _ _ s)))
             (λ s. ap (λ (x : ℕ). has x u) (if-false _ _ _ (b ∙ s))
             ∙ same
@@ -189,11 +189,11 @@ module _ {N : Network} {stated rows : List ℕ} {k left : ℕ} {domains : List �
       }
     where
       among-is : (j : ℕ) → k < j → j < N .n → free N j ≡ true
-          → has (word width (λ (u : ℕ). and (has (getD stated k 0) u) (has left u))) j ≡ N .stated k j
+          → has (word w (λ (u : ℕ). and (has (getD stated k 0) u) (has left u))) j ≡ N .stated k j
       among-is j l m t =
           let L = T .left-after in
           let h : has left j ≡ true = L .left-are j ∙ to-choose-i N (k + 1) j (omega arith) m t in
-          has-word width _ j (has-below width left j h (T .left-fits)) ∙ (ap (and _) h ∙ and-true _) ∙ sym (L .stated-are k j)
+          has-word w _ j (has-below w left j h (T .left-fits)) ∙ (ap (and _) h ∙ and-true _) ∙ sym (L .stated-are k j)
 
   -- They can be chosen.
   pub taken-hit : found ≡ true → k < length after → Chooses N (untried domains k rest) k true before (set after k v)
@@ -201,8 +201,8 @@ module _ {N : Network} {stated rows : List ℕ} {k left : ℕ} {domains : List �
       let kept : (i : ℕ) → (i ≡ k → ⊥) → getD (set after k v) i 0 ≡ getD after i 0 = λ i d. getD-set-other after k i v 0 d in
       record {
         first-from = first-hit N k k-n (T .k-free) v narrows
-            (untried-here domains k rest v ∙ lowest-in width rest v (T .rest-fits) (T .some) (T .lowest) .1)
-            (λ u m. untried-here domains k rest u ∙ first-below width (has rest) u (omega (arith, T .lowest)))
+            (untried-here domains k rest v ∙ lowest-in w rest v (T .rest-fits) (T .some) (T .lowest) .1)
+            (λ u m. untried-here domains k rest u ∙ first-below w (has rest) u (omega (arith, T .lowest)))
             (T .chosen .first-from) q (getD-set-same after k v 0 l) (λ i m. kept i (λ z. let x : ⊥ = omega arith in x)) refl;
         others = λ i h. kept i (λ e. clash (to-choose-i N k k (omega arith) k-n (T .k-free)) (rw e at h)) ∙ others-after i h;
       }
@@ -219,14 +219,14 @@ module _ {N : Network} {stated rows : List ℕ} {k left : ℕ} {domains : List �
       }
 
   -- They cannot, and the next value is tried.
-  pub taken-miss : (rest′ : ℕ) → rest′ ≡ word width (λ (u : ℕ). and (has rest u) (not (eqb u (first width (has rest)))))
+  pub taken-miss : (rest′ : ℕ) → rest′ ≡ word w (λ (u : ℕ). and (has rest u) (not (eqb u (first w (has rest)))))
       → (b : Bool) (last : List ℕ) → found ≡ false → Chooses N (untried domains k rest′) k b after last → Chooses N (untried domains k rest) k b before last
   taken-miss rest′ re b last q R =
       record {
         first-from = first-miss N k k-n (T .k-free) v narrows (untried domains k rest′)
             (λ u. untried-here domains k rest′ u
             ∙ ap (λ (x : ℕ). has x u) re
-            ∙ has-all width _ u (λ l. and-fails _ _ (has-past width rest u (T .rest-fits) l))
+            ∙ has-all w _ u (λ l. and-fails _ _ (has-past w rest u (T .rest-fits) l))
             ∙ ap₂ (λ (x : Bool) (y : ℕ). and x (not (eqb u y))) (sym (untried-here domains k rest u)) (sym (T .lowest)))
             (λ i u d. untried-there domains k rest′ i u d ∙ sym (untried-there domains k rest i u d))
             (T .chosen .first-from) q (R .first-from);

@@ -46,8 +46,8 @@ module _ {h : Head} (rows : List ℕ) (S : HeadShaped h) (t : soundIn h rows ≡
   product-settled e = settled-none (held h rows) (product-none (held h rows) (held-sound h rows S t) e)
 
   module _ {left : ℕ} (e : left ≡ freeWord (h .n) (h .leaders)) {found : Bool} {values : List ℕ}
-      (C : (N : Network) (k : ℕ) → Left N (h .stated) rows k left → Chooses N (listed (h .domains)) k found (replicate variables 0) values) where
-    start : Left (held h rows) (h .stated) rows 0 left
+      (C : (N : Network) (k : ℕ) → Left width N (h .stated) rows k left → Chooses N (listed (h .domains)) k found (replicate variables 0) values) where
+    start : Left width (held h rows) (h .stated) rows 0 left
     unfolding held freeWord toChoose free
     start =
         record {

@@ -18,7 +18,7 @@ ghost use Rattle.search.specs.Turns.{cutBy, Narrowed, ChosenFrom, TriedF
 // The values in the domain of `j` that go with value `v` of the lower `k`.
 fn cut(domain: u32, rows: &Rows, k: usize, j: usize, v: usize) -> u32
     requires { ⌜ (k < j) × (j < variables) × (v < width) ⌝ }
-    ensures { λ r. ⌜ r ≡ cutBy (now (rows .entry)) k v j domain ⌝ }
+    ensures { λ r. ⌜ r ≡ cutBy width (now (rows .entry)) k v j domain ⌝ }
 {
     both(domain, stored_row(rows, k, j, v))
 }
@@ -26,7 +26,7 @@ fn cut(domain: u32, rows: &Rows, k: usize, j: usize, v: usize) -> u32
 // Narrows the domains of the variables in `among`, all above `k`, once `k` has taken the value `v`. It says whether any of them lost a value.
 fn narrow(domains: &mut [u32; VARIABLES], rows: &Rows, among: u32, k: usize, v: usize) -> bool
     requires { ⌜ (v < width) × ((j : ℕ) → has among j ≡ true → (k < j) × (j < variables)) × (length (now domains) ≡ variables) ⌝ }
-    ensures { λ r. ⌜ Narrowed (now (rows .entry)) among k v r (now (domains .entry)) (now (domains .exit)) ⌝ }
+    ensures { λ r. ⌜ Narrowed width (now (rows .entry)) among k v r (now (domains .entry)) (now (domains .exit)) ⌝ }
 {
     let mut changed = false;
     let mut rest = among;
@@ -50,7 +50,7 @@ pub(crate) fn choose(
     values: &mut [u8; VARIABLES],
 ) -> bool
     requires { ⌜ ((j : ℕ) → has left j ≡ true → j < variables) × (length (now domains) ≡ variables) × (length (now values) ≡ variables) ⌝ }
-    ensures { λ r. ⌜ ChosenFrom (now (stated .entry)) (now (rows .entry)) (now (domains .entry)) left r (now (values .entry)) (now (values .exit)) ⌝ }
+    ensures { λ r. ⌜ ChosenFrom width (now (stated .entry)) (now (rows .entry)) (now (domains .entry)) left r (now (values .entry)) (now (values .exit)) ⌝ }
 {
     if left == 0 {
         return true;
@@ -78,7 +78,7 @@ fn attempt(
     values: &mut [u8; VARIABLES],
 ) -> bool
     requires { ⌜ (k < variables) × ((j : ℕ) → has left j ≡ true → (k < j) × (j < variables)) × (length (now domains) ≡ variables) × (length (now values) ≡ variables) ⌝ }
-    ensures { λ r. ⌜ TriedFrom (now (stated .entry)) (now (rows .entry)) (now (domains .entry)) k rest left r (now (values .entry)) (now (values .exit)) ⌝ }
+    ensures { λ r. ⌜ TriedFrom width (now (stated .entry)) (now (rows .entry)) (now (domains .entry)) k rest left r (now (values .entry)) (now (values .exit)) ⌝ }
 {
     if rest == 0 {
         return false;

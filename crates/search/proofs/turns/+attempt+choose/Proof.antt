@@ -106,8 +106,8 @@ module _ (t : ℕ) where
       → let n = c .before .before .before in
       let l = n .before .before .before .before .before in
       let s = l .before .before in
-      Left N (s .args .stated .now) (s .args .rows .now) (s .args .k + 1) (s .args .left) → free N (s .args .k) ≡ true
-      → Taken N (s .args .stated .now) (s .args .rows .now) (s .args .k) (s .args .left) (s .args .domains .now) (s .args .rest)
+      Left 32 N (s .args .stated .now) (s .args .rows .now) (s .args .k + 1) (s .args .left) → free N (s .args .k) ≡ true
+      → Taken 32 N (s .args .stated .now) (s .args .rows .now) (s .args .k) (s .args .left) (s .args .domains .now) (s .args .rest)
       (l .next-value .result) (n .narrow .result) (n .narrow .last .0) (c .choose .result) (s .args .values .now) (c .choose .last .1 .1 .1 .1 .0)
   taken c N L f =
       let n = c .before .before .before in

@@ -11,7 +11,7 @@ use Rattle.search.proofs.turns.narrow.Statement.{statement}
 use Rattle.search.proofs.turns.narrow.Tie as tie
 
 abbrev Inv-loop : tie.InvT-loop
-Inv-loop domains₀ rows among k v changed₀ rest₀ domains changed rest = Narrowing rows domains₀ among k v domains changed rest
+Inv-loop domains₀ rows among k v changed₀ rest₀ domains changed rest = Narrowing 32 rows domains₀ among k v domains changed rest
 
 abbrev μ-loop : tie.MeasureT-loop
 μ-loop domains₀ rows among k v changed₀ rest₀ domains changed rest = count width (has rest)
