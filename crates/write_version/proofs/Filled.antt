@@ -38,21 +38,21 @@ lacks-none w size f p x h fe xe =
     let b : and (has f a) (not (has p a)) ≡ true = sym (lacks a l) ∙ u in
     clash (every-e size _ t a (ltb-true a size (sym (full a l) ∙ and-l _ _ b))) (not-e _ (and-r _ _ b))))))
 
-module _ (rows : List ℕ) (i j : ℕ) where
+module _ (w : ℕ) (rows : List ℕ) (i j : ℕ) where
   -- Seen from j, the partners of all its values.
-  partnered : (all p a : ℕ) → all ≡ word width (λ (u : ℕ). ltb u width) → p ≡ partnersOf width rows j i all → a < width
-      → has p a ≡ some width (allowsOf width rows i j a)
+  partnered : (all p a : ℕ) → all ≡ word w (λ (u : ℕ). ltb u w) → p ≡ partnersOf w rows j i all → a < w
+      → has p a ≡ some w (allowsOf w rows i j a)
   unfolding partnersOf
   partnered all p a ae pe l =
-      has-ruled width _ pe a l
-      ∙ some-cong width _ _ (λ b m.
-      and-holds (has all b) _ (has-ruled width _ ae b m ∙ lt-ltb b width m) ∙ allows-alike width rows j i b a)
+      has-ruled w _ pe a l
+      ∙ some-cong w _ _ (λ b m.
+      and-holds (has all b) _ (has-ruled w _ ae b m ∙ lt-ltb b w m) ∙ allows-alike w rows j i b a)
 
-  pub rows-filled : {size f all p x : ℕ} → size ≤ width → f ≡ word width (λ (u : ℕ). ltb u size)
-      → all ≡ word width (λ (u : ℕ). ltb u width) → p ≡ partnersOf width rows j i all → x ≡ word width (λ (u : ℕ). and (has f u) (not (has p u)))
-      → eqb x 0 ≡ every size (λ (a : ℕ). some width (allowsOf width rows i j a))
+  pub rows-filled : {size f all p x : ℕ} → size ≤ w → f ≡ word w (λ (u : ℕ). ltb u size)
+      → all ≡ word w (λ (u : ℕ). ltb u w) → p ≡ partnersOf w rows j i all → x ≡ word w (λ (u : ℕ). and (has f u) (not (has p u)))
+      → eqb x 0 ≡ every size (λ (a : ℕ). some w (allowsOf w rows i j a))
   rows-filled {size} {f} {all} {p} {x} k fe ae pe xe =
-      lacks-none width size f p x k fe xe ∙ every-cong size _ _ (λ a l. partnered all p a ae pe (omega arith))
+      lacks-none w size f p x k fe xe ∙ every-cong size _ _ (λ a l. partnered all p a ae pe (omega arith))
 
 -- A test that holds of nothing from n on.
 some-widen : (n m : ℕ) (p : ℕ → Bool) → n ≤ m → ((k : ℕ) → p k ≡ true → k < n) → some n p ≡ some m p
@@ -62,7 +62,7 @@ some-widen n m p h below =
     (λ t. some-e m p t (λ k l q. some-i n p k (below k q) q))
 
 module _ {h : Head} (rows : List ℕ) (shaped : HeadShaped h) (t : soundIn h rows ≡ true) where
-  filled-held : noBlankRow (held h rows) ≡ allFilled rows (h .n) (h .sizes) (h .stated)
+  filled-held : noBlankRow (held h rows) ≡ allFilled width rows (h .n) (h .sizes) (h .stated)
   unfolding noBlankRow rowsFilled allFilled earlierFilled pairFilled held
   filled-held =
       every-cong (h .n) _ _ (λ j _. every-cong j _ _ (λ i _. ap (implies (has (getD (h .stated) i 0) j)) (every-cong (getD (h .sizes) i 0) _ _ (λ a _.
@@ -70,7 +70,7 @@ module _ {h : Head} (rows : List ℕ) (shaped : HeadShaped h) (t : soundIn h row
       (λ b u. held-sound h rows shaped t .allows-in i j a b u .1)))))
 
   -- In a layout that bans blank rows that decides; the others take all rows.
-  pub banned-pass : (k : Lookup) {r : Bool} → filledIn k ≡ true → r ≡ allFilled rows (h .n) (h .sizes) (h .stated) → r ≡ rowsPass k (held h rows)
+  pub banned-pass : (k : Lookup) {r : Bool} → filledIn k ≡ true → r ≡ allFilled width rows (h .n) (h .sizes) (h .stated) → r ≡ rowsPass k (held h rows)
   unfolding rowsPass
   banned-pass k e f = f ∙ sym (implies-true _ _ e ∙ filled-held)
 

@@ -1,17 +1,17 @@
--- That no row is blank, each part as the code looks for it.
+-- That no row is blank, each part as the code looks for it, for any number w of values.
 use mathlib.Core.Bool.{Bool}
 use mathlib.Core.List.{List}
 use Prim.Native.Nat.{ℕ}
 use lib.ListN.{getD}
 use Rattle.bounded.specs.Bool.{implies}
 use Rattle.bounded.specs.Fold.{every, some}
-use Rattle.words.specs.Word.{width, has}
+use Rattle.words.specs.Word.{has}
 use Rattle.pairs.specs.Pairs.{allowsOf}
 
-module _ (rows : List ℕ) where
+module _ (w : ℕ) (rows : List ℕ) where
   -- The table of i and j, where they are stated together, has none. `size` and `stated` are those of i.
   unfoldable pub pairFilled : ℕ → ℕ → ℕ → ℕ → Bool
-  pairFilled size stated i j = implies (has stated j) (every size (λ (a : ℕ). some width (allowsOf width rows i j a)))
+  pairFilled size stated i j = implies (has stated j) (every size (λ (a : ℕ). some w (allowsOf w rows i j a)))
 
   -- The tables of j and an earlier variable.
   unfoldable pub earlierFilled : List ℕ → List ℕ → ℕ → Bool

@@ -20,7 +20,7 @@ use words::full;
 // for all of them.
 fn pair_filled(size: u8, stated: u32, i: usize, j: usize, rows: &Rows) -> bool
     requires { ⌜ (size ≤ width) × (i < j) × (j < variables) ⌝ }
-    ensures { λ r. ⌜ r ≡ pairFilled (now (rows .entry)) size stated i j ⌝ }
+    ensures { λ r. ⌜ r ≡ pairFilled width (now (rows .entry)) size stated i j ⌝ }
 {
     if !words::member(stated, j) {
         return true;
@@ -37,7 +37,7 @@ fn earlier_filled<'a>(
     rows: &Rows,
 ) -> bool
     requires { ⌜ (j < variables) × ((i : ℕ) → getD (now sizes) i 0 ≤ width) ⌝ }
-    ensures { λ r. ⌜ r ≡ earlierFilled (now (rows .entry)) (now (sizes .entry)) (now (stated .entry)) j ⌝ }
+    ensures { λ r. ⌜ r ≡ earlierFilled width (now (rows .entry)) (now (sizes .entry)) (now (stated .entry)) j ⌝ }
 {
     let mut all = true;
     for i in 0..j {
@@ -53,7 +53,7 @@ fn all_filled<'a>(
     rows: &Rows,
 ) -> bool
     requires { ⌜ (n ≤ variables) × ((i : ℕ) → getD (now sizes) i 0 ≤ width) ⌝ }
-    ensures { λ r. ⌜ r ≡ allFilled (now (rows .entry)) n (now (sizes .entry)) (now (stated .entry)) ⌝ }
+    ensures { λ r. ⌜ r ≡ allFilled width (now (rows .entry)) n (now (sizes .entry)) (now (stated .entry)) ⌝ }
 {
     let mut all = true;
     for j in 0..n {

@@ -10,7 +10,7 @@ use Rattle.write_version.proofs.blank.all_filled.Statement.{statement}
 use Rattle.write_version.proofs.blank.all_filled.Tie as tie
 
 abbrev Inv-loop : tie.InvT-loop
-Inv-loop n sizes stated rows all₀ j₀ all j = (j ≤ n) × (all ≡ every j (earlierFilled rows sizes stated))
+Inv-loop n sizes stated rows all₀ j₀ all j = (j ≤ n) × (all ≡ every j (earlierFilled 32 rows sizes stated))
 
 abbrev μ-loop : tie.MeasureT-loop
 μ-loop n sizes stated rows all₀ j₀ all j = n - j

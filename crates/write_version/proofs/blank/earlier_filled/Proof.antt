@@ -11,7 +11,7 @@ use Rattle.write_version.proofs.blank.earlier_filled.Statement.{stateme
 use Rattle.write_version.proofs.blank.earlier_filled.Tie as tie
 
 abbrev Inv-loop : tie.InvT-loop
-Inv-loop sizes stated j rows all₀ i₀ all i = (i ≤ j) × (all ≡ every i (λ (k : ℕ). pairFilled rows (getD sizes k 0) (getD stated k 0) k j))
+Inv-loop sizes stated j rows all₀ i₀ all i = (i ≤ j) × (all ≡ every i (λ (k : ℕ). pairFilled 32 rows (getD sizes k 0) (getD stated k 0) k j))
 
 abbrev μ-loop : tie.MeasureT-loop
 μ-loop sizes stated j rows all₀ i₀ all i = j - i

@@ -18,7 +18,7 @@ returns-2 c =
     let w = c .before .before in
     let p = w .before in
     let e = p .before .before in
-    rows-filled _ _ _ (e .before .before .pre .0) (rw (w .wide .ensures) at (c .before .full2 .ensures)) (p .before .full .ensures) (p .partners .ensures)
+    rows-filled 32 _ _ _ (e .before .before .pre .0) (rw (w .wide .ensures) at (c .before .full2 .ensures)) (p .before .full .ensures) (p .partners .ensures)
     (c .without .ensures)
     ∙ sym (implies-true _ _ (sym (e .before .member .ensures) ∙ not-false _ (e .if1 .left)))
 
