@@ -155,7 +155,7 @@ module _ (h : Head) (rows : List ℕ) where
 -- "all entries past n are zero": no variable is stated with one at n or above.
 module _ (n : ℕ) (stated : List ℕ) (few : n ≤ variables) (below : (i j : ℕ) → has (getD stated i 0) j ≡ true → j < n) where
   -- So the members above i are those between i and n.
-  later-below : (i : ℕ) → count (n - (i + 1)) (λ (v : ℕ). has (getD stated i 0) (i + 1 + v)) ≡ later (getD stated i 0) i
+  later-below : (i : ℕ) → count (n - (i + 1)) (λ (v : ℕ). has (getD stated i 0) (i + 1 + v)) ≡ later width (getD stated i 0) i
   unfolding later
   later-below i =
       sym (count-widen (n - (i + 1)) width _ (omega arith) (λ v l. not-true→false _ (λ t. let x : ⊥ = omega (arith, below i (i + 1 + v) t) in x)))
@@ -165,44 +165,44 @@ module _ (h : Head) (rows : List ℕ) (few : h .n ≤ variables) (below : (i j :
   unfolding tableOf held if bit
   count-table i j = by-cases (has (getD (h .stated) i 0) j) (λ t. rw t) (λ t. rw t)
 
-  count-later : (i : ℕ) → length (collect (h .n - suc i) (suc i) (tableOf (held h rows) i)) ≡ later (getD (h .stated) i 0) i
+  count-later : (i : ℕ) → length (collect (h .n - suc i) (suc i) (tableOf (held h rows) i)) ≡ later width (getD (h .stated) i 0) i
   unfolding count
   count-later i =
       rw (← add-one i)
       (length-collect (tableOf (held h rows) i) (h .n - (i + 1)) (i + 1)
       ∙ sum-cong (h .n - (i + 1)) _ _ (λ v _. count-table i (i + 1 + v)) ∙ later-below (h .n) (h .stated) few below i)
 
-  held-count : length (sheetOf (held h rows) .tables) ≡ tableCount (h .n) (h .stated)
+  held-count : length (sheetOf (held h rows) .tables) ≡ tableCount width (h .n) (h .stated)
   unfolding sheetOf held tableCount
   held-count =
       length-collect _ (h .n) 0
-      ∙ sum-cong (h .n) _ _ (λ i _. count-later (0 + i) ∙ ap (λ (k : ℕ). later (getD (h .stated) k 0) k) (zero-add i))
+      ∙ sum-cong (h .n) _ _ (λ i _. count-later (0 + i) ∙ ap (λ (k : ℕ). later width (getD (h .stated) k 0) k) (zero-add i))
 
   module _ (L : Layout) where
-    held-body : printBody L (sheetOf (held h rows)) ≡ bodyText (L .rowBytes) (heldRow h rows) (h .n) (h .sizes) (h .stated)
+    held-body : printBody L (sheetOf (held h rows)) ≡ bodyText width (L .rowBytes) (heldRow h rows) (h .n) (h .sizes) (h .stated)
     unfolding printBody bodyText
     held-body = rw (held-count, held-tables h rows L, held-count-n h rows, held-sizes h rows)
 
-    held-text : print L (sheetOf (held h rows)) ≡ sheetText (L .rowBytes) (heldRow h rows) (L .version) (h .n) (h .sizes) (h .stated)
+    held-text : print L (sheetOf (held h rows)) ≡ sheetText width (L .rowBytes) (heldRow h rows) (L .version) (h .n) (h .sizes) (h .stated)
     unfolding print sheetText
     held-text = ap (λ (b : List ℕ). L .version ∷ (bytesOf 2 (length b) ++ b)) held-body
 
 -- ---- the parts of a sheet
 
 module _ (k : ℕ) (row : ℕ → ℕ → ℕ → ℕ) (n : ℕ) (sizes stated : List ℕ) where
-  pub body-parts : length (bodyText k row n sizes stated) ≡ 2 + length (sizesText n sizes) + length (tablesText k row n sizes stated)
+  pub body-parts : length (bodyText width k row n sizes stated) ≡ 2 + length (sizesText n sizes) + length (tablesText k row n sizes stated)
   unfolding bodyText
-  body-parts = omega (arith, length-append (sizesText n sizes) (tableCount n stated ∷ tablesText k row n sizes stated))
+  body-parts = omega (arith, length-append (sizesText n sizes) (tableCount width n stated ∷ tablesText k row n sizes stated))
 
-  pub sheet-parts : (version : ℕ) → length (sheetText k row version n sizes stated) ≡ 3 + length (bodyText k row n sizes stated)
+  pub sheet-parts : (version : ℕ) → length (sheetText width k row version n sizes stated) ≡ 3 + length (bodyText width k row n sizes stated)
   unfolding sheetText bytesOf
   sheet-parts version = omega arith
 
   pub wrote-sheet : {a b c d e : List ℕ} {x y z r version follow tables : ℕ}
-      → follow ≡ length (bodyText k row n sizes stated) → tables ≡ tableCount n stated
+      → follow ≡ length (bodyText width k row n sizes stated) → tables ≡ tableCount width n stated
       → Wrote a b (version ∷ (bytesOf 2 follow ++ (n ∷ []))) 0 x → Wrote b c (sizesText n sizes) x y
       → Wrote c d (tables ∷ []) y z → Wrote d e (tablesText k row n sizes stated) z r
-      → Wrote a e (sheetText k row version n sizes stated) 0 r
+      → Wrote a e (sheetText width k row version n sizes stated) 0 r
   unfolding sheetText bodyText bytesOf
   wrote-sheet p q h i j l = wrote-then (rw p at h) (wrote-then i (wrote-then (rw q at j) l))
 
@@ -221,7 +221,7 @@ module _ (k : ℕ) (row : ℕ → ℕ → ℕ → ℕ) where
 
   module _ (n : ℕ) (sizes stated : List ℕ) (few : n ≤ variables) (below : (i j : ℕ) → has (getD stated i 0) j ≡ true → j < n) where
     length-later : (i : ℕ)
-        → length (laterText k row n (getD sizes i 0) (getD stated i 0) i) ≡ (2 + k * getD sizes i 0) * later (getD stated i 0) i
+        → length (laterText k row n (getD sizes i 0) (getD stated i 0) i) ≡ (2 + k * getD sizes i 0) * later width (getD stated i 0) i
     unfolding laterText count
     length-later i =
         length-joined (tableText k row (getD sizes i 0) (getD stated i 0) i) (i + 1) n
@@ -229,7 +229,7 @@ module _ (k : ℕ) (row : ℕ → ℕ → ℕ → ℕ) where
         ∙ sum-mul (n - (i + 1)) (2 + k * getD sizes i 0) (λ (v : ℕ). bit (has (getD stated i 0) (i + 1 + v)))
         ∙ ap (λ (c : ℕ). (2 + k * getD sizes i 0) * c) (later-below n stated few below i)
 
-    length-sheet : (version : ℕ) → length (sheetText k row version n sizes stated) ≡ sheetLength k n sizes stated
+    length-sheet : (version : ℕ) → length (sheetText width k row version n sizes stated) ≡ sheetLength width k n sizes stated
     unfolding sheetLength tablesText tablesLength
     length-sheet version =
         let tables = length-from-zero (λ (i : ℕ). laterText k row n (getD sizes i 0) (getD stated i 0) i) n ∙ sum-cong n _ _ (λ i _. length-later i) in
@@ -237,7 +237,7 @@ module _ (k : ℕ) (row : ℕ → ℕ → ℕ → ℕ) where
 
 -- The bytes of a network that a head and rows hold are as many as the sizes and the stated pairs say, whatever the rows are.
 pub length-held : (L : Layout) (h : Head) (rows : List ℕ) → h .n ≤ variables → ((i j : ℕ) → has (getD (h .stated) i 0) j ≡ true → j < h .n)
-    → length (print L (sheetOf (held h rows))) ≡ sheetLength (L .rowBytes) (h .n) (h .sizes) (h .stated)
+    → length (print L (sheetOf (held h rows))) ≡ sheetLength width (L .rowBytes) (h .n) (h .sizes) (h .stated)
 length-held L h rows few below =
     ap length (held-text h rows few below L) ∙ length-sheet (L .rowBytes) (heldRow h rows) (h .n) (h .sizes) (h .stated) few below (L .version)
 
@@ -245,7 +245,7 @@ length-held L h rows few below =
 
 module _ {h : Head} (rows : List ℕ) (shaped : HeadShaped h) (t : soundIn h rows ≡ true) where
   -- A row has no bit at or above the size of the second variable, so the array has it as the table does.
-  row-same : heldRow h rows ≡ rowOf rows
+  row-same : heldRow h rows ≡ rowOf width rows
   unfolding heldRow rowOf held
   row-same =
       fun-ext (λ i. fun-ext (λ j. fun-ext (λ a.
@@ -288,21 +288,21 @@ module _ {h : Head} (rows : List ℕ) (shaped : HeadShaped h) (t : soundIn h row
     sound-most = written-most (held h rows) (held-sound h rows shaped t) version fits pass (held-n h rows t)
 
     -- and none has more than 120 tables.
-    pub sound-count : tableCount (h .n) (h .stated) ≤ 120
+    pub sound-count : tableCount width (h .n) (h .stated) ≤ 120
     sound-count =
         let (_, _, W) = sound-layout in
         rw (held-count h rows (held-n h rows t) stated-below) at (few-tables _ _ (W .most-variables) (W .table-count))
 
     -- What the code writes is the sheet of the network.
     pub sound-text : (k : ℕ) → k ≡ widthIn (layoutOf version)
-        → bytesHeld version h rows ≡ sheetText k (rowOf rows) version (h .n) (h .sizes) (h .stated)
+        → bytesHeld version h rows ≡ sheetText width k (rowOf width rows) version (h .n) (h .sizes) (h .stated)
     unfolding widthIn
     sound-text k same =
         let (L, e, p) = bytes-printed in
         p ∙ held-text h rows (held-n h rows t) stated-below L
-        ∙ ap (λ (row : ℕ → ℕ → ℕ → ℕ). sheetText (L .rowBytes) row (L .version) (h .n) (h .sizes) (h .stated)) row-same
-        ∙ ap (λ (v : ℕ). sheetText (L .rowBytes) (rowOf rows) v (h .n) (h .sizes) (h .stated)) (sym (found-version version L e))
-        ∙ ap (λ (b : ℕ). sheetText b (rowOf rows) version (h .n) (h .sizes) (h .stated)) (sym (same ∙ ap widthIn e))
+        ∙ ap (λ (row : ℕ → ℕ → ℕ → ℕ). sheetText width (L .rowBytes) row (L .version) (h .n) (h .sizes) (h .stated)) row-same
+        ∙ ap (λ (v : ℕ). sheetText width (L .rowBytes) (rowOf width rows) v (h .n) (h .sizes) (h .stated)) (sym (found-version version L e))
+        ∙ ap (λ (b : ℕ). sheetText width b (rowOf width rows) version (h .n) (h .sizes) (h .stated)) (sym (same ∙ ap widthIn e))
 
 -- ---- the members above i, by a shift
 
@@ -310,11 +310,11 @@ has-shifted : (x k v : ℕ) → has (x / 2 ^ k) v ≡ has x (k + v)
 unfolding has
 has-shifted x k v = ap (λ (q : ℕ). eqb (q % 2) 1) (shr-shr x k v)
 
-pub later-shifted : (x i : ℕ) → count width (has (x / 2 ^ (i + 1))) ≡ later x i
+pub later-shifted : (x i : ℕ) → count width (has (x / 2 ^ (i + 1))) ≡ later width x i
 unfolding later
 later-shifted x i = count-cong width _ _ (λ v _. has-shifted x (i + 1) v)
 
-pub later-most : (x i : ℕ) → later x i ≤ width
+pub later-most : (x i : ℕ) → later width x i ≤ width
 unfolding later
 later-most x i = count-le width _
 
@@ -324,21 +324,21 @@ sum-more : (i : ℕ) (f : ℕ → ℕ) → sum (i + 1) f ≡ f i + sum i f
 unfolding sum
 sum-more i f = ap (λ (k : ℕ). sum k f) (add-one i)
 
-pub count-none : (stated : List ℕ) → tableCount 0 stated ≡ 0
+pub count-none : (stated : List ℕ) → tableCount width 0 stated ≡ 0
 unfolding tableCount sum
 count-none stated = refl
 
-pub count-more : (i : ℕ) (stated : List ℕ) → tableCount (i + 1) stated ≡ later (getD stated i 0) i + tableCount i stated
+pub count-more : (i : ℕ) (stated : List ℕ) → tableCount width (i + 1) stated ≡ later width (getD stated i 0) i + tableCount width i stated
 unfolding tableCount
 count-more i stated = sum-more i _
 
 module _ (k : ℕ) (sizes stated : List ℕ) where
-  pub bytes-none : tablesLength k 0 sizes stated ≡ 0
+  pub bytes-none : tablesLength width k 0 sizes stated ≡ 0
   unfolding tablesLength sum
   bytes-none = refl
 
   pub bytes-more : (i : ℕ)
-      → tablesLength k (i + 1) sizes stated ≡ (2 + k * getD sizes i 0) * later (getD stated i 0) i + tablesLength k i sizes stated
+      → tablesLength width k (i + 1) sizes stated ≡ (2 + k * getD sizes i 0) * later width (getD stated i 0) i + tablesLength width k i sizes stated
   unfolding tablesLength
   bytes-more i = sum-more i _
 

@@ -36,7 +36,7 @@ fn write_sizes(n: usize, sizes: &[u8; VARIABLES], buffer: &mut [u8], at: usize) 
 // How many members of `x` are above `i`.
 fn later(x: u32, i: usize) -> usize
     requires { ⌜ i < variables ⌝ }
-    ensures { λ r. ⌜ (r ≡ later x i) × (r ≤ width) ⌝ }
+    ensures { λ r. ⌜ (r ≡ later width x i) × (r ≤ width) ⌝ }
 {
     words::count(x >> (i + 1))
 }
@@ -63,7 +63,7 @@ pub fn extent_of<'a>(
     stated: &'a [u32; VARIABLES],
 ) -> Extent
     requires { ⌜ (bytes ≤ 4) × (n ≤ variables) × ((i j : ℕ) → has (getD (now stated) i 0) j ≡ true → j < n) ⌝ }
-    ensures { λ r. ⌜ LengthIs bytes n (now (sizes .entry)) (now (stated .entry)) (r .length) × (r .tables ≡ tableCount n (now (stated .entry))) ⌝ }
+    ensures { λ r. ⌜ LengthIs bytes n (now (sizes .entry)) (now (stated .entry)) (r .length) × (r .tables ≡ tableCount width n (now (stated .entry))) ⌝ }
 {
     let mut length = 5 + n;
     let mut tables = 0;
@@ -95,7 +95,7 @@ pub fn write_into(
 ) -> usize
     requires { ⌜ (soundIn head (now rows) ≡ true) × (fitsVersion (layoutOf version) (held head (now rows)) ≡ true)
         × (rowsPass (layoutOf version) (held head (now rows)) ≡ true) ⌝ }
-    requires { ⌜ (extent .length ≡ length (bytesHeld version head (now rows))) × (extent .tables ≡ tableCount (head .n) (head .stated)) ⌝ }
+    requires { ⌜ (extent .length ≡ length (bytesHeld version head (now rows))) × (extent .tables ≡ tableCount width (head .n) (head .stated)) ⌝ }
     requires { ⌜ extent .length ≤ length (now buffer) ⌝ }
     ensures { λ r. ⌜ r ≡ length (bytesHeld version head (now (rows .entry))) ⌝ }
     ensures { λ r. ⌜ now (buffer .exit) ≡ bytesHeld version head (now (rows .entry))

@@ -13,7 +13,7 @@ use Rattle.bounded.specs.Fold.{first}
 use Rattle.bounded.proofs.Bool.{by-cases, bool-ext, clash, not-true→false, and-i, and-l, and-r, and-comm, and-holds, not-i, not-e}
 use Rattle.bounded.proofs.Fold.{first-below}
 use Rattle.buffers.specs.Wrote.{Wrote}
-use Rattle.words.specs.Word.{width, has, word}
+use Rattle.words.specs.Word.{has, word}
 use Rattle.words.proofs.Laws.{has-ruled, has-zero, word-lt}
 use Rattle.pairs.proofs.Runs.{lowest-in, rest-is, rest-lt}
 use Rattle.write_tables.specs.Texts.{joined}
@@ -27,13 +27,13 @@ joined-skip f (suc d) k l h e =
     (joined-more k (l + d) f (omega arith) ∙ rw (e (l + d) (omega arith) (omega arith)) (append-nil _ ∙ joined-skip f d k l h (λ j m n. e j m (omega arith))))
 
 -- The texts of the members below `from` are written, and the rest is those at and above it.
-pub record LaterSoFar (f : ℕ → List ℕ) (stated i n : ℕ) (before buffer : List ℕ) (at next rest : ℕ) : Type 0 where
+pub record LaterSoFar (w : ℕ) (f : ℕ → List ℕ) (stated i n : ℕ) (before buffer : List ℕ) (at next rest : ℕ) : Type 0 where
   pub from : ℕ
   pub above : i + 1 ≤ from
   pub within : from ≤ n
   pub wrote : Wrote before buffer (joined (i + 1) from f) at next
-  pub rest-fits : rest < 2 ^ width
-  pub rest-has : (j : ℕ) → j < width → has rest j ≡ and (leb from j) (has stated j)
+  pub rest-fits : rest < 2 ^ w
+  pub rest-has : (j : ℕ) → j < w → has rest j ≡ and (leb from j) (has stated j)
 
 above-not : (i j : ℕ) → not (ltb j (i + 1)) ≡ leb (i + 1) j
 above-not i j =
@@ -41,22 +41,22 @@ above-not i j =
     (λ t. le-leb (i + 1) j (ltb-false _ _ (not-e _ t)))
     (λ t. not-i _ (le-ltb j (i + 1) (leb-true _ _ t)))
 
-module _ (f : ℕ → List ℕ) {stated i n : ℕ} {before : List ℕ} {at : ℕ} where
-  pub later-none : {full rest : ℕ} → i < n → at ≤ length before → full ≡ word width (λ (u : ℕ). ltb u (i + 1))
-      → rest ≡ word width (λ (u : ℕ). and (has stated u) (not (has full u))) → LaterSoFar f stated i n before before at at rest
+module _ (w : ℕ) (f : ℕ → List ℕ) {stated i n : ℕ} {before : List ℕ} {at : ℕ} where
+  pub later-none : {full rest : ℕ} → i < n → at ≤ length before → full ≡ word w (λ (u : ℕ). ltb u (i + 1))
+      → rest ≡ word w (λ (u : ℕ). and (has stated u) (not (has full u))) → LaterSoFar w f stated i n before before at at rest
   later-none {full} {rest} l r e d =
       record {
         from = i + 1;
         above = omega arith;
         within = omega arith;
         wrote = wrote-start (i + 1) f r;
-        rest-fits = rw d (word-lt width _);
-        rest-has = λ j m. has-ruled width _ d j m ∙ rw (has-ruled width _ e j m) (and-comm _ _ ∙ ap (λ (b : Bool). and b (has stated j)) (above-not i j));
+        rest-fits = rw d (word-lt w _);
+        rest-has = λ j m. has-ruled w _ d j m ∙ rw (has-ruled w _ e j m) (and-comm _ _ ∙ ap (λ (b : Bool). and b (has stated j)) (above-not i j));
       }
 
   module _
-      (few : n ≤ width) (silent : (j : ℕ) → has stated j ≡ false → f j ≡ [])
-      {buffer : List ℕ} {next rest : ℕ} (so-far : LaterSoFar f stated i n before buffer at next rest)
+      (few : n ≤ w) (silent : (j : ℕ) → has stated j ≡ false → f j ≡ [])
+      {buffer : List ℕ} {next rest : ℕ} (so-far : LaterSoFar w f stated i n before buffer at next rest)
     where
       -- From `from` up to where the rest begins nothing is stated.
       quiet : (d : ℕ) → so-far .from + d ≤ n → ((j : ℕ) → so-far .from ≤ j → j < so-far .from + d → has rest j ≡ false)
@@ -70,41 +70,41 @@ module _ (f : ℕ → List ℕ) {stated i n : ℕ} {before : List ℕ} {at : ℕ
           let e : so-far .from + (n - so-far .from) ≡ n = omega (arith, so-far .within) in
           rw (sym (rw e at (quiet (n - so-far .from) (omega arith) (λ j m u. rw z (has-zero j))))) at (so-far .wrote)
 
-      module _ (below : (j : ℕ) → has stated j ≡ true → j < n) (some : rest ≡ 0 → ⊥) {j : ℕ} (low : j ≡ first width (has rest)) where
+      module _ (below : (j : ℕ) → has stated j ≡ true → j < n) (some : rest ≡ 0 → ⊥) {j : ℕ} (low : j ≡ first w (has rest)) where
         -- The next one is stated, and all before it are written.
         pub later-next : (i < j) × (j < n) × Wrote before buffer (joined (i + 1) j f) at next
         later-next =
-            let m = lowest-in width rest j (so-far .rest-fits) some low in
+            let m = lowest-in w rest j (so-far .rest-fits) some low in
             let b = sym (so-far .rest-has j (m .0)) ∙ m .1 in
             let l = leb-true (so-far .from) j (and-l _ _ b) in
             let h = below j (and-r _ _ b) in
             let e : so-far .from + (j - so-far .from) ≡ j = omega arith in (
               omega (arith, so-far .above),
               h,
-              rw (sym (rw e at (quiet (j - so-far .from) (omega arith) (λ k u v. first-below width (has rest) k (rw low at (let w : k < j = omega arith in w))))))
+              rw (sym (rw e at (quiet (j - so-far .from) (omega arith) (λ k u v. first-below w (has rest) k (rw low at (let m : k < j = omega arith in m))))))
                   at (so-far .wrote),
             )
 
         pub later-more : {buffer′ : List ℕ} {r rest′ : ℕ} → Wrote buffer buffer′ (f j) next r
-            → rest′ ≡ word width (λ (u : ℕ). and (has rest u) (not (eqb u (first width (has rest)))))
-            → LaterSoFar f stated i n before buffer′ at r rest′
-        later-more {rest′} w re =
+            → rest′ ≡ word w (λ (u : ℕ). and (has rest u) (not (eqb u (first w (has rest)))))
+            → LaterSoFar w f stated i n before buffer′ at r rest′
+        later-more {rest′} wrote-it re =
             let m = later-next in
             record {
               from = j + 1;
               above = omega (arith, m .0);
               within = omega (arith, m .1);
-              wrote = wrote-next f (omega (arith, m .0)) (m .2) w;
-              rest-fits = rest-lt width (so-far .rest-fits) some low re;
-              rest-has = λ u l. rest-is width (so-far .rest-fits) some low re u l ∙ after u l;
+              wrote = wrote-next f (omega (arith, m .0)) (m .2) wrote-it;
+              rest-fits = rest-lt w (so-far .rest-fits) some low re;
+              rest-has = λ u l. rest-is w (so-far .rest-fits) some low re u l ∙ after u l;
             }
           where
             from-le : so-far .from ≤ j
             from-le =
-                let m = lowest-in width rest j (so-far .rest-fits) some low in
+                let m = lowest-in w rest j (so-far .rest-fits) some low in
                 leb-true (so-far .from) j (and-l _ _ (sym (so-far .rest-has j (m .0)) ∙ m .1))
 
-            after : (u : ℕ) → u < width → and (has rest u) (not (eqb u j)) ≡ and (leb (j + 1) u) (has stated u)
+            after : (u : ℕ) → u < w → and (has rest u) (not (eqb u j)) ≡ and (leb (j + 1) u) (has stated u)
             after u l =
                 bool-ext _ _
                 (λ t. and-i _ _
@@ -118,5 +118,5 @@ module _ (f : ℕ → List ℕ) {stated i n : ℕ} {before : List ℕ} {at : ℕ
                 higher : (u : ℕ) → has rest u ≡ true → eqb u j ≡ false → j + 1 ≤ u
                 higher u t d =
                     by-cases (ltb u j)
-                    (λ s. clash t (first-below width (has rest) u (rw low at (ltb-true u j s))))
+                    (λ s. clash t (first-below w (has rest) u (rw low at (ltb-true u j s))))
                     (λ s. let g = ltb-false u j s in by-cases (ltb j u) (λ p. omega (arith, ltb-true j u p)) (λ p. clash (eq-eqb u j (omega (arith, g, ltb-false j u p))) d))

@@ -56,8 +56,8 @@ fn put_rows(
     at: usize,
 ) -> usize
     requires { ⌜ (bytes ≤ 4) × (size ≤ width) × (i < j) × (j < variables) ⌝ }
-    requires { ⌜ at + length (rowsText bytes (rowOf (now rows)) size i j) ≤ length (now buffer) ⌝ }
-    ensures { λ r. ⌜ Wrote (now (buffer .entry)) (now (buffer .exit)) (rowsText bytes (rowOf (now (rows .entry))) size i j) at r ⌝ }
+    requires { ⌜ at + length (rowsText bytes (rowOf width (now rows)) size i j) ≤ length (now buffer) ⌝ }
+    ensures { λ r. ⌜ Wrote (now (buffer .entry)) (now (buffer .exit)) (rowsText bytes (rowOf width (now (rows .entry))) size i j) at r ⌝ }
 {
     let mut next = at;
     for a in 0..size {
@@ -79,8 +79,8 @@ fn write_table(
     at: usize,
 ) -> usize
     requires { ⌜ (bytes ≤ 4) × (size ≤ width) × (i < j) × (j < variables) ⌝ }
-    requires { ⌜ at + length (tableText bytes (rowOf (now rows)) size stated i j) ≤ length (now buffer) ⌝ }
-    ensures { λ r. ⌜ Wrote (now (buffer .entry)) (now (buffer .exit)) (tableText bytes (rowOf (now (rows .entry))) size stated i j) at r ⌝ }
+    requires { ⌜ at + length (tableText bytes (rowOf width (now rows)) size stated i j) ≤ length (now buffer) ⌝ }
+    ensures { λ r. ⌜ Wrote (now (buffer .entry)) (now (buffer .exit)) (tableText bytes (rowOf width (now (rows .entry))) size stated i j) at r ⌝ }
 {
     if !words::member(stated, j) {
         return at;
@@ -108,8 +108,8 @@ fn write_later(
     at: usize,
 ) -> usize
     requires { ⌜ (bytes ≤ 4) × (size ≤ width) × (i < n) × (n ≤ variables) × ((j : ℕ) → has stated j ≡ true → j < n) ⌝ }
-    requires { ⌜ at + length (laterText bytes (rowOf (now rows)) n size stated i) ≤ length (now buffer) ⌝ }
-    ensures { λ r. ⌜ Wrote (now (buffer .entry)) (now (buffer .exit)) (laterText bytes (rowOf (now (rows .entry))) n size stated i) at r ⌝ }
+    requires { ⌜ at + length (laterText bytes (rowOf width (now rows)) n size stated i) ≤ length (now buffer) ⌝ }
+    ensures { λ r. ⌜ Wrote (now (buffer .entry)) (now (buffer .exit)) (laterText bytes (rowOf width (now (rows .entry))) n size stated i) at r ⌝ }
 {
     let mut next = at;
     let mut rest = words::without(stated, words::full(i + 1));
@@ -133,9 +133,9 @@ pub fn write_tables<'a>(
 ) -> usize
     requires { ⌜ (bytes ≤ 4) × (n ≤ variables) × ((i : ℕ) → getD (now sizes) i 0 ≤ width)
         × ((i j : ℕ) → has (getD (now stated) i 0) j ≡ true → j < n) ⌝ }
-    requires { ⌜ at + length (tablesText bytes (rowOf (now rows)) n (now sizes) (now stated)) ≤ length (now buffer) ⌝ }
+    requires { ⌜ at + length (tablesText bytes (rowOf width (now rows)) n (now sizes) (now stated)) ≤ length (now buffer) ⌝ }
     ensures { λ r. ⌜ Wrote (now (buffer .entry)) (now (buffer .exit))
-        (tablesText bytes (rowOf (now (rows .entry))) n (now (sizes .entry)) (now (stated .entry))) at r ⌝ }
+        (tablesText bytes (rowOf width (now (rows .entry))) n (now (sizes .entry)) (now (stated .entry))) at r ⌝ }
 {
     let mut next = at;
     for i in 0..n {

@@ -13,7 +13,7 @@ use Rattle.write_tables.proofs.put_rows.Tie as tie
 
 abbrev Inv-loop : tie.InvT-loop
 Inv-loop bytes size i j rows buffer₀ at next₀ a₀ buffer next a =
-    (a ≤ size) × Wrote buffer₀ buffer (joined 0 a (λ (k : ℕ). bytesOf bytes (rowOf rows i j k))) at next
+    (a ≤ size) × Wrote buffer₀ buffer (joined 0 a (λ (k : ℕ). bytesOf bytes (rowOf 32 rows i j k))) at next
 
 abbrev μ-loop : tie.MeasureT-loop
 μ-loop bytes size i j rows buffer₀ at next₀ a₀ buffer next a = size - a

@@ -16,7 +16,7 @@ use Rattle.write_tables.proofs.write_table.Tie as tie
 -- Past the test the pair is stated: its text is the two numbers and the rows,
 stated-text : (c : tie.Else1)
     → let s = c .before .before .before .args in
-    let row = rowOf (s .rows .now) in
+    let row = rowOf 32 (s .rows .now) in
     tableText (s .bytes) row (s .size) (s .stated) (s .i) (s .j) ≡ suc (s .i) ∷ suc (s .j) ∷ rowsText (s .bytes) row (s .size) (s .i) (s .j)
 unfolding tableText
 stated-text c = if-true _ _ _ (sym (c .before .member .ensures) ∙ not-false _ (c .if1 .left))
@@ -24,7 +24,7 @@ stated-text c = if-true _ _ _ (sym (c .before .member .ensures) ∙ not-false _ 
 -- and there is room for it and the rows.
 room-here : (c : tie.Else1)
     → let s = c .before .before .before .args in
-    s .at + (2 + length (rowsText (s .bytes) (rowOf (s .rows .now)) (s .size) (s .i) (s .j))) ≤ length (s .buffer .now)
+    s .at + (2 + length (rowsText (s .bytes) (rowOf 32 (s .rows .now)) (s .size) (s .i) (s .j))) ≤ length (s .buffer .now)
 room-here c = let r = rw (stated-text c) at (c .before .before .before .pre .1) in omega arith
 
 returns : tie.Need-returns
@@ -47,7 +47,7 @@ put-rows-requires c κs =
     let e = else1 (t .before .before .before) in
     let a = e .before .before .before .args in
     let r = room-here e in
-    let l = same-length (t .if2 .taken) (rowOf (a .rows .now)) (a .size) (a .i) (a .j) in
+    let l = same-length (t .if2 .taken) (rowOf 32 (a .rows .now)) (a .size) (a .i) (a .j) in
     search needs
 
 returns-2 : tie.Need-returns-2
@@ -65,7 +65,7 @@ put-rows-requires-2 c κs =
     let e = else1 (t .before .before .before .before) in
     let a = e .before .before .before .args in
     let r = room-here e in
-    let l = same-length (t .if3 .taken) (rowOf (a .rows .now)) (a .size) (a .i) (a .j) in
+    let l = same-length (t .if3 .taken) (rowOf 32 (a .rows .now)) (a .size) (a .i) (a .j) in
     search needs
 
 returns-3 : tie.Need-returns-3

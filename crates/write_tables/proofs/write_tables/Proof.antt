@@ -12,7 +12,7 @@ use Rattle.write_tables.proofs.write_tables.Tie as tie
 
 abbrev Inv-loop : tie.InvT-loop
 Inv-loop bytes n sizes stated rows buffer₀ at next₀ i₀ buffer next i =
-    (i ≤ n) × Wrote buffer₀ buffer (joined 0 i (λ (k : ℕ). laterText bytes (rowOf rows) n (getD sizes k 0) (getD stated k 0) k)) at next
+    (i ≤ n) × Wrote buffer₀ buffer (joined 0 i (λ (k : ℕ). laterText bytes (rowOf 32 rows) n (getD sizes k 0) (getD stated k 0) k)) at next
 
 abbrev μ-loop : tie.MeasureT-loop
 μ-loop bytes n sizes stated rows buffer₀ at next₀ i₀ buffer next i = n - i

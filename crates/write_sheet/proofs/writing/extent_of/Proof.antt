@@ -11,7 +11,7 @@ use Rattle.write_sheet.proofs.writing.extent_of.Tie as tie
 
 abbrev Inv-loop : tie.InvT-loop
 Inv-loop bytes n sizes stated length₀ tables₀ i₀ length tables i =
-    (i ≤ n) × (length ≡ 5 + n + tablesLength bytes i sizes stated) × (length ≤ 21 + 32768 * i) × (tables ≡ tableCount i stated) × (tables ≤ 32 * i)
+    (i ≤ n) × (length ≡ 5 + n + tablesLength 32 bytes i sizes stated) × (length ≤ 21 + 32768 * i) × (tables ≡ tableCount 32 i stated) × (tables ≤ 32 * i)
 
 abbrev μ-loop : tie.MeasureT-loop
 μ-loop bytes n sizes stated length₀ tables₀ i₀ length tables i = n - i

@@ -24,7 +24,7 @@ start c = c .before .before
 text : (c : tie.After-fixed-by)
     → let a = start c .args in
     let h = a .t1 in
-    bytesHeld (a .version) h (a .rows .now) ≡ sheetText (c .fixed-by .result .bytes) (rowOf (a .rows .now)) (a .version) (h .n) (h .sizes) (h .stated)
+    bytesHeld (a .version) h (a .rows .now) ≡ sheetText 32 (c .fixed-by .result .bytes) (rowOf 32 (a .rows .now)) (a .version) (h .n) (h .sizes) (h .stated)
 text c =
     let s = start c in
     sound-text _ (shaped s) (s .pre .0 .0) (s .args .version) (s .pre .0 .1) (s .pre .0 .2) _ (c .fixed-by .ensures .bytes-are)
@@ -34,8 +34,8 @@ bytes : (c : tie.After-fixed-by)
     → let a = start c .args in
     let h = a .t1 in
     let k = c .fixed-by .result .bytes in
-    let row = rowOf (a .rows .now) in
-    let body = length (bodyText k row (h .n) (h .sizes) (h .stated)) in
+    let row = rowOf 32 (a .rows .now) in
+    let body = length (bodyText 32 k row (h .n) (h .sizes) (h .stated)) in
     (h .n ≤ variables)
     × (a .extent .length ≡ 3 + body)
     × (body ≡ 2 + length (sizesText (h .n) (h .sizes)) + length (tablesText k row (h .n) (h .sizes) (h .stated)))
