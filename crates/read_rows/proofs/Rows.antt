@@ -16,7 +16,7 @@ use Rattle.bounded.specs.Fold.{every, some}
 use Rattle.bounded.specs.Table.{tabulate}
 use Rattle.bounded.proofs.Bool.{machine-and, clash, and-i, and-l, and-r, or-comm, implies-i, implies-e, not-true→false}
 use Rattle.bounded.proofs.Fold.{every-i, every-e, some-i, some-e, test-joins}
-use Rattle.words.specs.Word.{width, has, word}
+use Rattle.words.specs.Word.{has, word}
 use Rattle.words.proofs.Laws.{has-word, has-below, within, empty, word-cong, word-lt}
 use Rattle.pairs.specs.Frames.{RowPut}
 use Rattle.pairs.proofs.Frames.{stored-none, stored-more}
@@ -132,18 +132,18 @@ module _ {k : ℕ} {test : ℕ → Test} {bytes : List ℕ} {from count : ℕ} (
 
 -- ---- stored and joined
 
-pub joined-none : {k : ℕ} {bytes : List ℕ} {from i j : ℕ} {rows : List ℕ} → RowsJoined k bytes from i j 0 rows rows 0 true
+pub joined-none : {w k : ℕ} {bytes : List ℕ} {from i j : ℕ} {rows : List ℕ} → RowsJoined w k bytes from i j 0 rows rows 0 true
 unfolding some every
-joined-none = record { stored = stored-none width; union-is = sym (empty width _ (word-lt width _) (λ v l. has-word width _ v l)); filled-is = refl }
+joined-none {w} = record { stored = stored-none w; union-is = sym (empty w _ (word-lt w _) (λ v l. has-word w _ v l)); filled-is = refl }
 
-pub joined-more : {k : ℕ} {bytes : List ℕ} {from i j : ℕ} {before rows after : List ℕ} {a union row union′ : ℕ} {filled : Bool}
-    → RowsJoined k bytes from i j a before rows union filled → row ≡ numberAt k bytes (from + k * a) → RowPut width rows after i j a row
-    → union′ ≡ word width (λ (v : ℕ). or (has union v) (has row v)) → RowsJoined k bytes from i j (a + 1) before after union′ (filled && ltb 0 row)
+pub joined-more : {w k : ℕ} {bytes : List ℕ} {from i j : ℕ} {before rows after : List ℕ} {a union row union′ : ℕ} {filled : Bool}
+    → RowsJoined w k bytes from i j a before rows union filled → row ≡ numberAt k bytes (from + k * a) → RowPut w rows after i j a row
+    → union′ ≡ word w (λ (v : ℕ). or (has union v) (has row v)) → RowsJoined w k bytes from i j (a + 1) before after union′ (filled && ltb 0 row)
 unfolding rowIn some
-joined-more {i} {j} {before} {rows} {after} {a} {union} {row} joined here put e =
+joined-more {w} {i} {j} {before} {rows} {after} {a} {union} {row} joined here put e =
     record {
-      stored = rw (add-one a) (stored-more width before rows after i j _ a row (joined .stored) put (λ b l. rw here));
-      union-is = rw (add-one a) (e ∙ word-cong width _ _ (λ v l. or-comm (has union v) (has row v) ∙ rw (here, joined .union-is) (ap (or _) (has-word width _ v l))));
+      stored = rw (add-one a) (stored-more w before rows after i j _ a row (joined .stored) put (λ b l. rw here));
+      union-is = rw (add-one a) (e ∙ word-cong w _ _ (λ v l. or-comm (has union v) (has row v) ∙ rw (here, joined .union-is) (ap (or _) (has-word w _ v l))));
       filled-is = test-joins _ a (joined .filled-is) (ap (ltb 0) here);
     }
 
@@ -153,38 +153,42 @@ joined-more {i} {j} {before} {rows} {after} {a} {union} {row} joined here put e 
 pub rows-few : {k count : ℕ} → k ≤ 4 → count ≤ 32 → k * count ≤ 128
 rows-few l m = mul-le-mul l m
 
+-- A row of four bytes or fewer has at most 32 bits.
+pub rows-fit : {k : ℕ} → k ≤ 4 → 256 ^ k ≤ 2 ^ 32
+rows-fit few = omega (arith, pow-le-pow-right {n = 256} (omega arith) few)
+
 -- Rows that are cut off are not fine.
-pub rows-cut : {k : ℕ} {test : ℕ → Test} {bytes : List ℕ} {from i j count : ℕ} {before after : List ℕ} → length bytes < from + k * count
-    → RowsTaken k test bytes from i j count before after false
+pub rows-cut : {w k : ℕ} {test : ℕ → Test} {bytes : List ℕ} {from i j count : ℕ} {before after : List ℕ} → length bytes < from + k * count
+    → RowsTaken w k test bytes from i j count before after false
 rows-cut h = record { told = (λ t. clash t refl, λ _ rows. omega (arith, rows .there)); stored = λ t. clash t refl }
 
 module _
-    {k : ℕ} {bytes : List ℕ} {from i j count : ℕ} {before after : List ℕ} {union : ℕ} {filled : Bool}
-    (joined : RowsJoined k bytes from i j count before after union filled) (octets : Octets bytes) (few : k ≤ 4) (there : from + k * count ≤ length bytes)
+    {w k : ℕ} {bytes : List ℕ} {from i j count : ℕ} {before after : List ℕ} {union : ℕ} {filled : Bool}
+    (joined : RowsJoined w k bytes from i j count before after union filled) (octets : Octets bytes) (fits : 256 ^ k ≤ 2 ^ w) (there : from + k * count ≤ length bytes)
   where
-    row-below : (a : ℕ) → rowIn k bytes from a < 2 ^ width
+    row-below : (a : ℕ) → rowIn k bytes from a < 2 ^ w
     unfolding rowIn
-    row-below a = omega (arith, number-below bytes octets k (from + k * a), pow-le-pow-right {n = 256} (omega arith) few)
+    row-below a = omega (arith, number-below bytes octets k (from + k * a))
 
     -- What a row has, the union has.
-    row-in-union : (a v : ℕ) → a < count → v < width → has (rowIn k bytes from a) v ≡ true → has union v ≡ true
-    row-in-union a v l m h = rw (joined .union-is) (has-word width _ v m ∙ some-i count _ a l h)
+    row-in-union : (a v : ℕ) → a < count → v < w → has (rowIn k bytes from a) v ≡ true → has union v ≡ true
+    row-in-union a v l m h = rw (joined .union-is) (has-word w _ v m ∙ some-i count _ a l h)
 
     -- A union within the size is that every row is.
-    rows-within : (size : ℕ) → every width (λ (v : ℕ). implies (has union v) (ltb v size)) ≡ true → (a : ℕ) → a < count → rowIn k bytes from a < 2 ^ size
+    rows-within : (size : ℕ) → every w (λ (v : ℕ). implies (has union v) (ltb v size)) ≡ true → (a : ℕ) → a < count → rowIn k bytes from a < 2 ^ size
     rows-within size t a l =
-        within width (rowIn k bytes from a) size (row-below a)
+        within w (rowIn k bytes from a) size (row-below a)
         (λ v m n. not-true→false _ (λ h.
-        let x : ⊥ = omega (arith, ltb-true v size (implies-e _ _ (every-e width _ t v n) (row-in-union a v l n h))) in x))
+        let x : ⊥ = omega (arith, ltb-true v size (implies-e _ _ (every-e w _ t v n) (row-in-union a v l n h))) in x))
 
-    union-within : (size : ℕ) → ((a : ℕ) → a < count → rowIn k bytes from a < 2 ^ size) → every width (λ (v : ℕ). implies (has union v) (ltb v size)) ≡ true
+    union-within : (size : ℕ) → ((a : ℕ) → a < count → rowIn k bytes from a < 2 ^ size) → every w (λ (v : ℕ). implies (has union v) (ltb v size)) ≡ true
     union-within size h =
-        every-i width _ (λ v l. implies-i _ _ (λ m.
-        some-e count _ (sym (has-word width _ v l) ∙ rw (joined .union-is) at m) (λ a below q. lt-ltb v size (has-below size _ v q (h a below)))))
+        every-i w _ (λ v l. implies-i _ _ (λ m.
+        some-e count _ (sym (has-word w _ v l) ∙ rw (joined .union-is) at m) (λ a below q. lt-ltb v size (has-below size _ v q (h a below)))))
 
-    module _ (size : ℕ) {inside : Bool} (is : inside ≡ every width (λ (v : ℕ). implies (has union v) (ltb v size))) where
+    module _ (size : ℕ) {inside : Bool} (is : inside ≡ every w (λ (v : ℕ). implies (has union v) (ltb v size))) where
       -- Where rows may be all-zero the union decides.
-      pub union-decides : RowsTaken k (rowTest false size) bytes from i j count before after inside
+      pub union-decides : RowsTaken w k (rowTest false size) bytes from i j count before after inside
       union-decides =
           record {
             told = (
@@ -195,7 +199,7 @@ module _
           }
 
       -- Where they must be filled, that and whether none is all-zero.
-      pub both-decide : RowsTaken k (rowTest true size) bytes from i j count before after (inside && filled)
+      pub both-decide : RowsTaken w k (rowTest true size) bytes from i j count before after (inside && filled)
       both-decide =
           record {
             told = (

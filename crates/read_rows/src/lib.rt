@@ -28,7 +28,7 @@ fn store_rows(
     rows: &mut Rows,
 ) -> Joined
     requires { ⌜ (from + k * count ≤ length (now bytes)) × RowBytes k × (i < j) × (j < variables) × (count ≤ width) × (length (now rows) ≡ 3840) ⌝ }
-    ensures { λ r. ⌜ RowsJoined k (now (bytes .entry)) from i j count (now (rows .entry)) (now (rows .exit)) (r .union) (r .filled) ⌝ }
+    ensures { λ r. ⌜ RowsJoined width k (now (bytes .entry)) from i j count (now (rows .entry)) (now (rows .exit)) (r .union) (r .filled) ⌝ }
 {
     let mut union: u32 = 0;
     let mut filled = true;
@@ -52,7 +52,7 @@ fn join_rows(
     rows: &mut Rows,
 ) -> Joined
     requires { ⌜ (from + k * count ≤ length (now bytes)) × RowBytes k × (i < j) × (j < variables) × (count ≤ width) × (length (now rows) ≡ 3840) ⌝ }
-    ensures { λ r. ⌜ RowsJoined k (now (bytes .entry)) from i j count (now (rows .entry)) (now (rows .exit)) (r .union) (r .filled) ⌝ }
+    ensures { λ r. ⌜ RowsJoined width k (now (bytes .entry)) from i j count (now (rows .entry)) (now (rows .exit)) (r .union) (r .filled) ⌝ }
 {
     if k == 2 {
         return store_rows(bytes, from, 2, i, j, count, rows);
@@ -74,7 +74,7 @@ pub fn take_rows(
     rows: &mut Rows,
 ) -> bool
     requires { ⌜ (from ≤ length (now bytes)) × RowBytes k × (i < j) × (j < variables) × (count ≤ width) × (size ≤ width) × (length (now rows) ≡ 3840) ⌝ }
-    ensures { λ r. ⌜ RowsTaken k (rowTest filled size) (now (bytes .entry)) from i j count (now (rows .entry)) (now (rows .exit)) r ⌝ }
+    ensures { λ r. ⌜ RowsTaken width k (rowTest filled size) (now (bytes .entry)) from i j count (now (rows .entry)) (now (rows .exit)) r ⌝ }
 {
     let end = from + k * count;
     if bytes.len() < end {

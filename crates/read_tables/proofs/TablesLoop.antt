@@ -123,7 +123,7 @@ module _ {n : ℕ} {sizes : List ℕ} (sized : Sized n sizes) (few : n ≤ varia
       module _
           {rows rows′ : List ℕ} {fits : Bool}
           (body :
-          RowsTaken k (rowTest filled (getD sizes (pair % 256 - 1) 0)) bytes next (pair / 256 - 1) (pair % 256 - 1) (getD sizes (pair / 256 - 1) 0)
+          RowsTaken width k (rowTest filled (getD sizes (pair % 256 - 1) 0)) bytes next (pair / 256 - 1) (pair % 256 - 1) (getD sizes (pair / 256 - 1) 0)
           rows rows′ fits)
         where
           -- A row is refused: no table is parsed.

@@ -11,7 +11,7 @@ use Rattle.read_rows.proofs.store_rows.Reads as reads
 use Rattle.read_rows.proofs.store_rows.Lts as lts
 
 abbrev Inv-loop : tie.InvT-loop
-Inv-loop bytes from k i j count rows₀ union₀ filled₀ a₀ rows union filled a = (a ≤ count) × RowsJoined k bytes from i j a rows₀ rows union filled
+Inv-loop bytes from k i j count rows₀ union₀ filled₀ a₀ rows union filled a = (a ≤ count) × RowsJoined 32 k bytes from i j a rows₀ rows union filled
 
 abbrev μ-loop : tie.MeasureT-loop
 μ-loop bytes from k i j count rows₀ union₀ filled₀ a₀ rows union filled a = count - a

@@ -2,7 +2,7 @@
 use mathlib.Core.Path.{_≡_, refl}
 use native.Mathlib.Omega.{arith}
 use borrow.Author.Needs.{needs}
-use Rattle.read_rows.proofs.Rows.{rows-few, rows-cut, union-decides, both-decide}
+use Rattle.read_rows.proofs.Rows.{rows-few, rows-fit, rows-cut, union-decides, both-decide}
 use Rattle.read_rows.proofs.take_rows.Statement.{statement}
 use Rattle.read_rows.proofs.take_rows.Tie as tie
 
@@ -20,7 +20,7 @@ returns-2 c =
     let join = c .before .before in
     let start = join .before .before .before .before .before in
     rw (join .before .before .if2 .taken)
-    (both-decide (join .join-rows .ensures) (λ a. omega (arith, join .before .before .before .before .shared-slice-known .given a)) (start .pre .1 .1) (omega arith) _
+    (both-decide (join .join-rows .ensures) (λ a. omega (arith, join .before .before .before .before .shared-slice-known .given a)) (rows-fit (start .pre .1 .1)) (omega arith) _
     (c .before .within .ensures))
 
 returns-3 : tie.Need-returns-3
@@ -28,7 +28,7 @@ returns-3 c =
     let join = c .before in
     let start = join .before .before .before .before .before in
     rw (join .before .before .if2 .left)
-    (union-decides (join .join-rows2 .ensures) (λ a. omega (arith, join .before .before .before .before .shared-slice-known .given a)) (start .pre .1 .1) (omega arith) _
+    (union-decides (join .join-rows2 .ensures) (λ a. omega (arith, join .before .before .before .before .shared-slice-known .given a)) (rows-fit (start .pre .1 .1)) (omega arith) _
     (c .within2 .ensures))
 
 pub take-rows-spec : {M : Type 1} → statement M
