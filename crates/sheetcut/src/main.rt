@@ -1,19 +1,4 @@
-// The program sheetcut: a sheet on standard input, its text on standard output.
-use libc::STDERR_FILENO;
-use libc::STDIN_FILENO;
-use libc::STDOUT_FILENO;
-use text_report::INPUT;
-use text_report::report_input;
-
+// The program sheetcut. The crates sheetcut_refused, _largest, _longer and _empty have this same text, and each is run on another input.
 fn main() {
-    let mut input = [0u8; INPUT];
-    let count = io::read_full(STDIN_FILENO, &mut input);
-    let text = report_input(input, count);
-    let bytes = text.bytes;
-    if !io::write_all(STDOUT_FILENO, &bytes[..text.length]) {
-        io::write_all(
-            STDERR_FILENO,
-            b"sheetcut: the text could not be written whole\n",
-        );
-    }
+    sheetcut_body::run();
 }

@@ -3,8 +3,8 @@ use mathlib.Core.Path.{sym, ap, _∙_}
 use lib.ListN.{length}
 use borrow.Author.Needs.{needs}
 use Rattle.text_report.proofs.Fits.{printed-within, printed-text}
-use Rattle.sheetcut.proofs.main.Statement.{statement}
-use Rattle.sheetcut.proofs.main.Tie as tie
+use Rattle.sheetcut_body.proofs.run.Statement.{statement}
+use Rattle.sheetcut_body.proofs.run.Tie as tie
 
 array-share-prefix-bytes : tie.Need-array-share-prefix-bytes
 array-share-prefix-bytes c = printed-within (c .before .report-input .ensures .1)
@@ -12,8 +12,8 @@ array-share-prefix-bytes c = printed-within (c .before .report-input .ensures .1
 slice-aggregate-write-all : tie.Need-slice-aggregate-write-all
 slice-aggregate-write-all c = let p = c .before .before .report-input .ensures .1 in p .ends ∙ ap length (sym (printed-text p))
 
-pub main-spec : {M : Type 1} → statement M
-main-spec =
+pub run-spec : {M : Type 1} → statement M
+run-spec =
     tie.close
     (tie.spec
     (λ c. search needs)
