@@ -319,8 +319,8 @@ static inline struct sheet_verdict_answer sheet_search(const struct sheet_state 
 }
 
 /* What sheet_read, sheet_reduce and sheet_verdict answer one after the other; the reduced state is stored in `state`.
- * Numbers 1 to 8, 19, 20 and 26, as sheet_read. A refusal answers its place, 0 steps, SHEET_NO_VERDICT and no build, and stores the
- * zero state. */
+ * Numbers 1 to 8, 19, 20 and 26, as sheet_read. A refusal answers its number and place, 0 steps, SHEET_NO_VERDICT and no build, and
+ * stores the zero state. */
 static inline struct sheet_cut_answer sheet_cut(const uint8_t *bytes, size_t length, struct sheet_state *state) {
     return sheet_cut_parts(bytes, length, &state->n, state->sizes, state->lists, state->leaders, state->stated, state->rows);
 }
@@ -330,7 +330,7 @@ static inline struct sheet_cut_answer sheet_cut(const uint8_t *bytes, size_t len
  * 1,000 is at least draw x 87,600": 1,200 mAh not at 8 and 16 s, 1,900 mAh not at 8 s, all others do. Adds this as a table, reduces
  * fully, in place, and answers the verdict of the state then.
  * Numbers 9, 25, tested in this order; 25 goes by the sizes of the two options, whatever their lists hold. A refusal leaves the state
- * as it was and answers SHEET_NO_VERDICT and no build.
+ * as it was and answers its number, SHEET_NO_VERDICT and no build.
  * Of the builds of the state exactly those stay whose cell and interval go together; no build that it shows breaks page nine. */
 static inline struct sheet_verdict_answer meter_fit(struct sheet_state *state) {
     return meter_fit_parts(state->n, state->sizes, state->lists, state->leaders, state->stated, state->rows);

@@ -326,8 +326,8 @@ pub fn search(state: &State) -> Verdict {
 
 /// What [`read`], [`reduce`] and [`verdict`] answer one after the other; the reduced state is stored.
 ///
-/// Numbers 1 to 8, 19, 20 and 26, as [`read`]. A refusal answers its place, 0 steps, [`NO_VERDICT`] and no build, and stores
-/// [`State::ZERO`].
+/// Numbers 1 to 8, 19, 20 and 26, as [`read`]. A refusal answers its number and place, 0 steps, [`NO_VERDICT`] and no build, and
+/// stores [`State::ZERO`].
 #[inline]
 pub fn cut(bytes: &[u8], state: &mut State) -> Cut {
     let s = state;
@@ -349,7 +349,7 @@ pub fn cut(bytes: &[u8], state: &mut State) -> Cut {
 /// 64 s. Adds which of them go together as a table, reduces fully, and answers the verdict of the state then.
 ///
 /// Numbers 9, 25, tested in this order; 25 goes by the sizes of the two options. A refusal leaves the state as it was and answers
-/// [`NO_VERDICT`] and no build. Of the builds of the state exactly those stay whose cell and interval go together.
+/// its number, [`NO_VERDICT`] and no build. Of the builds of the state exactly those stay whose cell and interval go together.
 #[inline]
 pub fn meter_fit(state: &mut State) -> Verdict {
     let s = state;

@@ -31,12 +31,13 @@ use Rattle.state.specs.declared.state.State.{State}
 use Rattle.answers.specs.Answers.{rules}
 use Rattle.state.specs.View.{pack}
 use Rattle.state.specs.Answers.{ReadTold}
-use Rattle.state.specs.Cut.{cutAs, cutSheet}
+use Rattle.state.specs.Cut.{cutAccepted, cutSheet}
 use Rattle.state.specs.Read.{readSheet}
 use Rattle.state.specs.Solutions.{verdictOf}
 use Rattle.state.specs.Steps.{reduced, reducedAs}
 use Rattle.state.proofs.View.{packed-view, packed-state}
 use Rattle.state.proofs.Solutions.{verdict-of}
+use Rattle.state.proofs.Cut.{cut-taken}
 use Rattle.state.proofs.Steps.{reduced-done}
 use Rattle.state_read.proofs.RoundTrip.{Accepted, read-got, read-sound, got-accepted}
 use Rattle.buffers.specs.Digits.{decimalWithin, decimal, hexDigit, hexText}
@@ -182,9 +183,10 @@ case-A =
 
 -- The whole cut of case A,
 pub case-A-cut : cutSheet bytesA ≡ cutA
-unfolding cutSheet cutAs reducedA cutA
+unfolding cutSheet cutAccepted reducedA cutA
 case-A-cut =
-    ap (cutAs (readSheet bytesA)) (case-A .1)
+    cut-taken (readSheet bytesA) (case-A .0)
+    ∙ ap (cutAccepted (readSheet bytesA)) (case-A .1)
     ∙ (λ z. record {
       number = case-A .0 z;
       place = ap (λ (r : ReadTold). r .place) (read-got bytesA sheetA 22 parsed-A) z;

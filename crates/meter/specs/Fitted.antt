@@ -31,7 +31,7 @@ flatMeter n sizes = and (leb 2 n) (and (eqb (getD sizes 0 0) 4) (eqb (getD sizes
 unfoldable pub fitRefusal : State → ℕ
 fitRefusal s = if (soundState s) (if (flatMeter (s .n) (s .sizes)) 0 25) 9
 
--- "Both hand back the state given." Nothing else is shown.
+-- "Both hand back the state given." Nothing more is shown: no verdict, which is refused with the call's own number.
 unfoldable pub turnedAway : ℕ → State → MeterTold
 turnedAway number s = record { number = number; state = s; verdict = no-verdict number (replicate 16 0) }
 

@@ -30,7 +30,7 @@ pub fn is_flat_meter(n: usize, sizes: [u8; 16]) -> bool
     sizes[1] == 4
 }
 
-// A refusal: the state given, and nothing else.
+// A refusal: the state given. What refuses the call refuses the verdict too.
 fn turned_away(cause: Cause, state: State) -> MeterAnswer
     ensures { λ r. ⌜ meterTold r ≡ turnedAway (numberOf cause) state ⌝ }
 {

@@ -30,7 +30,7 @@ pub struct Fit {
     pub solution: [u8; VARIABLES],
 }
 
-// A refusal: the head as it was, and nothing else.
+// A refusal: the head as it was. What refuses the call refuses the verdict too.
 fn turned_away(cause: Cause, head: Head) -> Fit
     ensures { λ r. ⌜ ((rows : List ℕ) → fitTold r rows ≡ turnedAway (numberOf cause) (stateOf head rows)) ⌝ }
 {

@@ -37,7 +37,7 @@ pub fn write(state: State, version: usize, buffer: &mut [u8]) -> WriteAnswer
     write_parts(head_in(state), &state.rows, version, buffer)
 }
 
-// Reading, the full reduction and the verdict in one call: what the three give one after the other.
+// Reading, the full reduction and the verdict in one call: what the three give one after the other. What refuses the sheet refuses the verdict too.
 pub fn cut(bytes: &[u8]) -> CutAnswer
     ensures { λ r. ⌜ cutTold r ≡ cutSheet (now (bytes .entry)) ⌝ }
 {

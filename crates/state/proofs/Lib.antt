@@ -6,4 +6,5 @@ pub mod Rules
 pub mod Tables
 pub mod Lists
 pub mod Solutions
+pub mod Cut
 pub mod Worked

@@ -1,12 +1,11 @@
 -- Reading, the full reduction and the verdict in one call: each case of the definition.
-use mathlib.Core.Bool.{true, false}
+use mathlib.Core.Bool.{true}
 use mathlib.Core.List.{List}
 use mathlib.Core.Path.{_≡_, refl, sym, ap, _∙_}
 use Prim.Native.Nat.{ℕ, _≤_, _<_}
 use native.Mathlib.Omega.{arith}
 use lib.ListN.{replicate}
 use Rattle.cause.specs.declared.Cause.{Cause}
-use Rattle.cause.specs.declared.Cause.the-variants as cause
 use Rattle.cause.specs.Number.{numberOf}
 use Rattle.cause.proofs.Laws.{number-positive}
 use Rattle.network.specs.Reduction.{reduce}
@@ -25,26 +24,15 @@ use Rattle.state.specs.View.{stateOf, view, soundState, zeroState}
 use Rattle.answers.specs.Answers.{readNumber, readPlace, VerdictTold, verdictTold, no-verdict}
 use Rattle.state.specs.Answers.{ReadTold, Told}
 use Rattle.state.specs.Read.{readSheet}
-use Rattle.state.specs.Calls.{refused}
 use Rattle.state.specs.Steps.{reducedAs, reduced}
 use Rattle.state.specs.Solutions.{verdictOf}
-use Rattle.state.specs.Cut.{CutTold, cutAs, cutSheet}
+use Rattle.state.specs.Cut.{CutTold, cutAccepted, cutRefused, cutAs, cutSheet}
 use Rattle.state_read.specs.Parts.{readPartsTold}
 use Rattle.state_cut.specs.Parts.{cutPartsTold}
-use Rattle.state.proofs.View.{zero-unsound}
 use Rattle.state.proofs.Calls.{StateKept}
-use Rattle.state.proofs.Steps.{reduced-done, reduced-refused, reduced-keeps, reduced-most}
-use Rattle.state.proofs.Solutions.{verdict-refused}
+use Rattle.state.proofs.Steps.{reduced-done, reduced-keeps, reduced-most}
+use Rattle.state.proofs.Cut.{cut-taken, cut-away}
 use Rattle.state_read.proofs.RoundTrip.{AsRead, got-or-bad, read-refused, read-got, read-sound}
-
--- A state that is not sound: the reduction hands it back and there is no verdict.
-cut-unsound : (r : ReadTold) → soundState (r .state) ≡ false
-    → cutAs r (reduced (r .state))
-    ≡ record { number = r .number; place = r .place; state = r .state; steps = 0; verdict = no-verdict 9 (replicate 16 0) }
-unfolding cutAs refused
-cut-unsound r t =
-    ap (cutAs r) (reduced-refused (r .state) t)
-    ∙ (λ z. record { number = r .number; place = r .place; state = r .state; steps = 0; verdict = verdict-refused (r .state) t z })
 
 -- Parts that tell what reading says, and their rows.
 module _ (bytes : List ℕ) (a : ReadParts) (rows : List ℕ) (e : readPartsTold a rows ≡ readSheet bytes) where
@@ -59,30 +47,23 @@ module _ (bytes : List ℕ) (a : ReadParts) (rows : List ℕ) (e : readPartsTold
   unfolding readPartsTold
   told-state = ap (λ (r : ReadTold). r .state) e
 
-  -- A refused sheet gives the zero state, which is not sound.
-  refused-unsound : {c : Cause} {at : ℕ} → a .outcome ≡ readOutcome.Refused c at → soundState stateRead ≡ false
-  unfolding readNumber
-  refused-unsound {c} h =
-      ap soundState told-state
-      ∙ (got-or-bad bytes (parse bytes) refl
-      (λ s next g. absurd (let z : numberOf c ≡ 0 = sym (ap readNumber h) ∙ told-number ∙ ap (λ (r : ReadTold). r .number) (read-got bytes s next g) in
-      let x : ⊥ = omega (arith, number-positive c) in x))
-      (λ d at g. ap (λ (r : ReadTold). soundState (r .state)) (read-refused bytes d at g) ∙ zero-unsound))
-
+  -- What refuses the sheet refuses its verdict.
   pub cut-refused : {c : Cause} {at : ℕ} → a .outcome ≡ readOutcome.Refused c at
       → cutPartsTold
       (record {
-        outcome = a .outcome;
+        outcome = readOutcome.Refused c at;
         head = a .head;
         steps = 0;
-        verdict = verdict.Refused cause.Unsound;
+        verdict = verdict.Refused c;
         solution = replicate variables 0;
       })
       rows
       ≡ cutSheet bytes
-  unfolding cutPartsTold cutSheet readPartsTold verdictTold
-  cut-refused h =
-      sym (cut-unsound (readPartsTold a rows) (refused-unsound h)) ∙ ap (λ (r : ReadTold). cutAs r (reduced (r .state))) e
+  unfolding cutPartsTold cutSheet cutRefused readPartsTold readNumber readPlace verdictTold
+  cut-refused {c} {at} h =
+      let told : _≡_ {A = ReadTold} (record { number = numberOf c; place = at; state = stateRead }) (readSheet bytes) =
+      sym (λ z. record { number = ap readNumber h z; place = ap readPlace h z; state = stateRead }) ∙ e in
+      sym (cut-away (record { number = numberOf c; place = at; state = stateRead }) (λ z. omega (arith, number-positive c))) ∙ ap cutAs told
 
   -- An accepted sheet gives a sound state,
   pub cut-read : Octets bytes → a .outcome ≡ readOutcome.Accepted → AsRead stateRead
@@ -101,15 +82,16 @@ module _ (bytes : List ℕ) (a : ReadParts) (rows : List ℕ) (e : readPartsTold
     cut-sound = kept .kept-sound (r .is-sound)
 
     -- and its verdict is that of the reduced state.
-    pub cut-accepted : {v : VerdictTold} → v ≡ verdictOf (b .state)
+    pub cut-accepted : a .outcome ≡ readOutcome.Accepted → {v : VerdictTold} → v ≡ verdictOf (b .state)
         → _≡_ {A = CutTold}
         (record { number = readNumber (a .outcome); place = readPlace (a .outcome); state = b .state; steps = b .steps; verdict = v })
         (cutSheet bytes)
-    unfolding cutAs cutSheet readPartsTold
-    cut-accepted g =
+    unfolding cutAccepted cutSheet readPartsTold readNumber
+    cut-accepted h g =
         (λ z. record { number = readNumber (a .outcome); place = readPlace (a .outcome); state = b .state; steps = b .steps; verdict = g z })
-        ∙ ap (cutAs (readPartsTold a rows)) told-reduced
-        ∙ ap (λ (x : ReadTold). cutAs x (reduced (x .state))) e
+        ∙ ap (cutAccepted (readPartsTold a rows)) told-reduced
+        ∙ sym (cut-taken (readPartsTold a rows) (ap readNumber h))
+        ∙ ap cutAs e
 
 -- How large the numbers of an answer are: a place is within the largest sheet, and there are at most 16 variables and so fewer steps.
 pub record Small (c : CutTold) : Type 0 where
@@ -117,26 +99,33 @@ pub record Small (c : CutTold) : Type 0 where
   pub n-small : c .state .n ≤ variables
   pub steps-small : c .steps < variables
 
+-- "any other part of a refused answer is zero", but for the number that its verdict has from reading.
+pub cut-zero : (bytes : List ℕ) (c : Cause) (at : ℕ) → parse bytes ≡ bad c at
+    → cutSheet bytes ≡ record { number = numberOf c; place = at; state = zeroState; steps = 0; verdict = no-verdict (numberOf c) (replicate 16 0) }
+unfolding cutSheet cutRefused
+cut-zero bytes c at e =
+    ap cutAs (read-refused bytes c at e)
+    ∙ cut-away (record { number = numberOf c; place = at; state = zeroState }) (λ z. omega (arith, number-positive c))
+
 module _ (bytes : List ℕ) (octets : Octets bytes) where
   small-accepted : (s : Sheet) (next : ℕ) → parse bytes ≡ got s next → Small (cutSheet bytes)
-  unfolding cutAs cutSheet
+  unfolding cutAccepted cutSheet
   small-accepted s next e =
       let g = read-got bytes s next e in
-      let r = read-sound bytes octets (ap (λ (x : ReadTold). x .number) g) in
+      let number : readSheet bytes .number ≡ 0 = ap (λ (x : ReadTold). x .number) g in
+      let r = read-sound bytes octets number in
       let t = readSheet bytes .state in
       let p : readSheet bytes .place ≡ 0 = ap (λ (x : ReadTold). x .place) g in
       let few = held-n _ (t .rows) (r .is-sound) in
       let kept = reduced-keeps t (r .read-shaped) .kept-n in
       let most = reduced-most t (r .read-shaped) (r .is-sound) in
-      record { place-small = omega arith; n-small = omega arith; steps-small = omega arith }
+      rw (cut-taken (readSheet bytes) number) (record { place-small = omega arith; n-small = omega arith; steps-small = omega arith })
 
   small-refused : (c : Cause) (at : ℕ) → parse bytes ≡ bad c at → Small (cutSheet bytes)
-  unfolding cutSheet zeroState zeroHead longest
+  unfolding zeroState zeroHead longest
   small-refused c at e =
-      let g = read-refused bytes c at e in
       let l = refused-place bytes e in
-      rw (g, cut-unsound (record { number = numberOf c; place = at; state = zeroState }) zero-unsound)
-      (record { place-small = l; n-small = omega arith; steps-small = omega arith })
+      rw (cut-zero bytes c at e) (record { place-small = l; n-small = omega arith; steps-small = omega arith })
 
   pub cut-small : Small (cutSheet bytes)
   cut-small = got-or-bad bytes (parse bytes) refl small-accepted small-refused

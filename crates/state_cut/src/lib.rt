@@ -1,7 +1,6 @@
 // Reading, the full reduction and the verdict in one.
 use answers::ReadOutcome;
 use answers::Verdict;
-use cause::Cause;
 use head::Head;
 use head::Rows;
 use head::VARIABLES;
@@ -22,7 +21,8 @@ pub struct CutParts {
     pub solution: [u8; VARIABLES],
 }
 
-// What the three calls give one after the other. A state just read is sound and a reduction keeps it so: nothing is tested twice.
+// What the three calls give one after the other. A state just read is sound and a reduction keeps it so: nothing is tested twice. What refuses the
+// sheet refuses the verdict too.
 pub fn cut_parts(bytes: &[u8], rows: &mut Rows) -> CutParts
     requires { ⌜ now rows ≡ zeroRows ⌝ }
     ensures { λ r. ⌜ cutPartsTold r (now (rows .exit)) ≡ cutSheet (now (bytes .entry)) ⌝ }
@@ -30,15 +30,15 @@ pub fn cut_parts(bytes: &[u8], rows: &mut Rows) -> CutParts
     let read = read_parts(bytes, rows);
     let outcome = read.outcome;
     let head = read.head;
-    let ReadOutcome::Accepted = outcome else {
+    if let ReadOutcome::Refused(cause, _) = outcome {
         return CutParts {
             outcome,
             head,
             steps: 0,
-            verdict: Verdict::Refused(Cause::Unsound),
+            verdict: Verdict::Refused(cause),
             solution: [0; VARIABLES],
         };
-    };
+    }
     let cut = reduce_sound(head, rows);
     let head = cut.head;
     let decided = verdict_of(head, rows);

@@ -18,11 +18,11 @@ fn is_cut(read: State, cut: Cutting) -> bool {
     is_same & (judged.verdict == cut.verdict) & fields::same_bytes(shown, solution)
 }
 
-// A refusal leaves zeros: the state, the steps and the build.
+// A refusal shows nothing: the zero state, no step and no build; and no verdict, which has the number of the refusal.
 fn is_nothing(cut: Cutting) -> bool {
     let solution = cut.solution;
-    let is_zero = fields::is_zero_from(solution, 0);
-    is_zero & (cut.steps == 0) & states::same(cut.state, states::zero())
+    let is_zero = fields::is_zero_from(solution, 0) & (cut.steps == 0);
+    is_zero & (cut.verdict == cut.number) & states::same(cut.state, states::zero())
 }
 
 // The one call answers what was read before.

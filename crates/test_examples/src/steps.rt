@@ -36,7 +36,7 @@ pub(crate) fn follow(run: Run, given: &[u8], answer: &[u8]) -> Run {
     )
 }
 
-// Page nine: a number, then 1 for NONE, 2 for BUILT or 3 for OPEN, and the build. A refusal hands back the state given.
+// Page nine: a number, then 1 for NONE, 2 for BUILT or 3 for OPEN, and the build. A refusal hands back the state given, and its verdict has its number.
 pub(crate) fn fit(run: Run, answer: &[u8]) -> Run {
     let fitted = meter::fit(run.state);
     let outcome = fitted.outcome;
@@ -45,7 +45,8 @@ pub(crate) fn fit(run: Run, answer: &[u8]) -> Run {
     let number = answers::outcome_number(outcome);
     let is_judged = is_shown(answers::verdict_kind(verdict), solution, rest_of(answer));
     let is_left = (number == 0) | same(fitted.state, run.state);
-    let is_right = (number == byte(answer, 0)) & is_judged & is_left;
+    let is_refused = answers::verdict_number(verdict) == number;
+    let is_right = (number == byte(answer, 0)) & is_judged & is_refused & is_left;
     lists::start(
         fitted.state,
         tally::expect(run.tally, tally::EXAMPLES, is_right),

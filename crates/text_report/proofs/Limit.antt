@@ -13,7 +13,6 @@ use Rattle.format.specs.Layout.{longest}
 use Rattle.format.specs.Parse.{Parse, parse}
 use Rattle.format.proofs.Parse.{parse-too-long}
 use Rattle.state.specs.Read.{readAs, readSheet}
-use Rattle.state.specs.Steps.{reduced}
 use Rattle.state.specs.Cut.{cutAs, cutSheet}
 use Rattle.text_report.specs.Text.{limit, textAs, textOf}
 
@@ -23,7 +22,7 @@ limit-is = refl
 
 same-text : (a b : List ℕ) → parse a ≡ parse b → textOf a ≡ textOf b
 unfolding textOf cutSheet readSheet
-same-text a b = ap (λ (p : Parse Sheet). textAs (cutAs (readAs p) (reduced (readAs p .state))))
+same-text a b = ap (λ (p : Parse Sheet). textAs (cutAs (readAs p)))
 
 -- The text of an input is that of its first bytes, up to the limit.
 pub text-of-first : (bytes : List ℕ) → textOf (take limit bytes) ≡ textOf bytes

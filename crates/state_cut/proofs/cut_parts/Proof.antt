@@ -19,8 +19,8 @@ read-as c =
 
 returns : tie.Need-returns
 returns c =
-    let r = c .before .before .before .read-parts in
-    cut-refused _ (r .result) _ (r .ensures) (c .enum-told2 .given .1)
+    let r = c .before .before .before .before .read-parts in
+    cut-refused _ (r .result) _ (r .ensures) (c .before .outcome .given .1)
 
 reduce-sound-requires : tie.Need-reduce-sound-requires
 reduce-sound-requires c κs = let r = read-as (c .before) in (r .read-shaped .rows-shaped, r .is-sound)
@@ -38,7 +38,7 @@ returns-2 c =
     let d = c .before .before .before .before in
     let t = d .before .before in
     let a = read t .read-parts in
-    cut-accepted _ (a .result) _ (a .ensures) (read-as t) (reduction-told (d .reduce-sound .ensures)) (c .before .verdict-of .ensures)
+    cut-accepted _ (a .result) _ (a .ensures) (read-as t) (reduction-told (d .reduce-sound .ensures)) (t .enum-told .given .1) (c .before .verdict-of .ensures)
 
 pub cut-parts-spec : {M : Type 1} → statement M
 cut-parts-spec =
@@ -46,8 +46,8 @@ cut-parts-spec =
     (tie.spec
     (λ c κs. search needs)
     (λ c. search needs)
-    (λ c. search needs)
     returns
+    (λ c. search needs)
     reduce-sound-requires
     verdict-of-requires
     returns-2)
