@@ -390,8 +390,8 @@ static void check_allows(void) {
 
 /* A refused call on a state stores neither in it nor in a buffer: on pages that may only be read it ends as ever. */
 struct locked {
-    struct sheet_state fresh, stepped, zero;
-    uint8_t bytes[LENGTH_A];
+    struct sheet_state fresh, stepped, blank, zero;
+    uint8_t bytes[LENGTH_A], values[3];
 };
 
 static void check_read_only(void) {
@@ -399,7 +399,8 @@ static void check_read_only(void) {
     CHECK(page != MAP_FAILED);
     if (page == MAP_FAILED) return;
     struct locked *held = (struct locked *)page;
-    held->fresh = fresh, held->stepped = stepped, held->zero = zero;
+    held->fresh = held->blank = fresh, held->stepped = stepped, held->zero = zero;
+    held->blank.rows[sheet_row_place(0, 1, 0)] = 0, held->values[0] = 2;
     CHECK(mprotect(page, sizeof(struct locked), PROT_READ) == 0);
     CHECK(sheet_eliminate(&held->zero, 1, 2).number == SHEET_CAUSE_NOT_SOUND);
     CHECK(sheet_eliminate(&held->fresh, 0, 2).number == SHEET_CAUSE_OPTION_NUMBER);
@@ -415,9 +416,12 @@ static void check_read_only(void) {
     CHECK(meter_fit(&held->fresh).number == SHEET_CAUSE_NOT_FLAT_METER);
     CHECK(sheet_complete(&held->zero, held->bytes, 3) == SHEET_CAUSE_NOT_SOUND);
     CHECK(sheet_complete(&held->fresh, held->bytes, 4) == SHEET_CAUSE_BUILD_LENGTH);
+    CHECK(sheet_complete(&held->fresh, held->values, 3) == SHEET_CAUSE_VALUE);
     CHECK(sheet_complete(&held->fresh, held->bytes, 3) == SHEET_CAUSE_VALUES_FORBIDDEN);
     CHECK(sheet_write(&held->zero, 1, held->bytes, LENGTH_A).number == SHEET_CAUSE_NOT_SOUND);
     CHECK(sheet_write(&held->stepped, 1, held->bytes, LENGTH_A).number == SHEET_CAUSE_NOT_AS_READ);
+    CHECK(sheet_write(&held->fresh, 4, held->bytes, LENGTH_A).number == SHEET_CAUSE_NOT_IN_VERSION);
+    CHECK(sheet_write(&held->blank, 3, held->bytes, LENGTH_A).number == SHEET_CAUSE_BLANK_ROW);
     CHECK(sheet_write(&held->fresh, 1, held->bytes, LENGTH_A - 1).number == SHEET_CAUSE_BUFFER_LENGTH);
     munmap(page, sizeof(struct locked));
 }

@@ -7,12 +7,14 @@
  *
  * Promises. A call takes any bytes and any state, does what its comment says, and ends. That is proved of the library's
  * source, call by call, as an equation with the definitions that docs/PROMISES.md names. The compiler, and what a caller owes
- * (under "Memory"), are outside the proof.
+ * (under "Memory"), are outside the proof. Tried and not proved (`bench/run test`): what is marked so below, what stands under
+ * "Stack", "Threads" and "Platform", and the inline functions of this header.
  *
  * Refusals. `number` is 0 where a call is not refused, else the number of the cause, one of `enum sheet_cause`. Where several
- * causes hold, the one tested first is answered. A refused call on a state stores nothing in it, nor in a buffer that it is
- * lent: both may be read-only, and others may read them meanwhile. All other parts of its answer are zero, but for a place.
- * sheet_read and sheet_cut always store a state: the zero state where the sheet is refused.
+ * causes hold, the one tested first is answered. A refused call on a state leaves it, and a buffer that it is lent, equal to
+ * what they were, and all other parts of its answer are zero, but for a place: that is proved. It also stores nothing there, so
+ * that both may be read-only, and others may read them meanwhile: that is tried, on pages that may only be read, and not
+ * proved. sheet_read and sheet_cut always store a state: the zero state where the sheet is refused.
  *
  * Memory. Bytes and buffers cross as a pointer and a length: so many bytes may be read there (of a buffer, also written) until
  * the call returns. With length 0 the pointer may be anything, NULL too: nothing is read or written through it. Any other

@@ -1,4 +1,4 @@
-// The calls that change a state where it is. A refused one stores nothing.
+// The calls that change a state where it is. A refused one leaves it equal, which is proved, and stores nothing in it, which `bench/header.c` tries.
 use capi_lent::SheetStepped;
 use capi_lent::head_of;
 use capi_lent::left;

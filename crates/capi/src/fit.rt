@@ -1,8 +1,8 @@
-// Page nine of the flat meter on a state where it is. A refused call stores nothing.
+// Page nine of the flat meter on a state where it is. A refused call leaves it equal, as those of `change` do.
 use capi_answers::SheetVerdict;
 use capi_answers::verdict_told;
 use capi_lent::head_of;
-use capi_lent::left;
+use capi_lent::put_made;
 use head::Rows;
 use head::VARIABLES;
 use meter_parts::fit_parts;
@@ -28,8 +28,9 @@ pub extern "C" fn meter_fit_parts(
         ⌝ }
 {
     let fit = fit_parts(head_of(n, sizes, lists, leaders, stated), rows);
-    let worked = fit.worked;
-    left(worked, lists, leaders, stated);
+    let outcome = fit.outcome;
+    let head = fit.head;
+    put_made(outcome, head, lists, leaders, stated);
     let verdict = fit.verdict;
     let solution = fit.solution;
     verdict_told(verdict, solution)

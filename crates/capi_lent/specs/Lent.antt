@@ -2,6 +2,7 @@
 use mathlib.Core.List.{List}
 use mathlib.Core.Path.{_≡_}
 use Prim.Native.Nat.{ℕ}
+use Rattle.answers.specs.declared.Outcome.{Outcome}
 use Rattle.answers.specs.Answers.{outcomeNumber}
 use Rattle.head.specs.declared.Head.{Head}
 use Rattle.state.specs.declared.state.State.{State}
@@ -21,9 +22,12 @@ stateWith n sizes lists leaders stated rows = stateOf (headWith n sizes lists le
 unfoldable pub leftAs : State → SheetStepped → Told
 leftAs s r = record { number = r .number; state = s; steps = r .steps }
 
--- What is stored of a head: all that a step or a reduction changes where it is not refused, and else nothing.
+-- What is stored of a head: all that a call changes of it where the call is not refused, and else nothing.
+pub record Made (o : Outcome) (h : Head) (number : ℕ) (lists leaders stated lists′ leaders′ stated′ : List ℕ) : Type 0 where
+  pub number-is : number ≡ outcomeNumber o
+  pub stored : number ≡ 0 → (lists′ ≡ h .domains) × (leaders′ ≡ h .leaders) × (stated′ ≡ h .stated)
+  pub not-stored : (number ≡ 0 → ⊥) → (lists′ ≡ lists) × (leaders′ ≡ leaders) × (stated′ ≡ stated)
+
 pub record Left (w : Worked) (r : SheetStepped) (lists leaders stated lists′ leaders′ stated′ : List ℕ) : Type 0 where
-  pub number-is : r .number ≡ outcomeNumber (w .outcome)
+  pub made : Made (w .outcome) (w .head) (r .number) lists leaders stated lists′ leaders′ stated′
   pub steps-are : r .steps ≡ w .steps
-  pub stored : r .number ≡ 0 → (lists′ ≡ w .head .domains) × (leaders′ ≡ w .head .leaders) × (stated′ ≡ w .head .stated)
-  pub not-stored : (r .number ≡ 0 → ⊥) → (lists′ ≡ lists) × (leaders′ ≡ leaders) × (stated′ ≡ stated)

@@ -1,4 +1,5 @@
 // The arrays of a state that C and Rust lend one by one: its head read off them, and what a call stores in them.
+use answers::Outcome;
 use answers::outcome_number;
 use head::Head;
 use head::Rows;
@@ -6,7 +7,7 @@ use head::VARIABLES;
 use state::Worked;
 ghost use mathlib.Core.Path.{_≡_};
 ghost use Rattle.head.specs.Held.{zeroRows};
-ghost use Rattle.capi_lent.specs.Lent.{headWith, Left};
+ghost use Rattle.capi_lent.specs.Lent.{headWith, Made, Left};
 
 // A step, a reduction or a table added: the number that refuses, and how many steps were taken.
 #[repr(C)]
@@ -61,7 +62,25 @@ fn put_changed(
     *stated = new_stated;
 }
 
-// Stores what a call that is not refused has made of a head, and tells its number and count.
+// Stores what a call has made of a head where it is not refused, and tells the number.
+pub fn put_made(
+    outcome: Outcome,
+    head: Head,
+    lists: &mut [u32; VARIABLES],
+    leaders: &mut [u8; VARIABLES],
+    stated: &mut [u32; VARIABLES],
+) -> u8
+    ensures { λ r. ⌜ Made outcome head r (now (lists .entry)) (now (leaders .entry)) (now (stated .entry)) (now (lists .exit)) (now (leaders .exit)) (now (stated .exit)) ⌝ }
+{
+    let number = outcome_number(outcome);
+    if number != 0 {
+        return number;
+    }
+    put_changed(head, lists, leaders, stated);
+    number
+}
+
+// The same of a step, a reduction or a table added, with its count.
 pub fn left(
     worked: Worked,
     lists: &mut [u32; VARIABLES],
@@ -71,14 +90,11 @@ pub fn left(
     ensures { λ r. ⌜ Left worked r (now (lists .entry)) (now (leaders .entry)) (now (stated .entry)) (now (lists .exit)) (now (leaders .exit)) (now (stated .exit)) ⌝ }
 {
     let outcome = worked.outcome;
-    let number = outcome_number(outcome);
-    let steps = worked.steps;
-    if number != 0 {
-        return SheetStepped { number, steps };
-    }
     let head = worked.head;
-    put_changed(head, lists, leaders, stated);
-    SheetStepped { number, steps }
+    SheetStepped {
+        number: put_made(outcome, head, lists, leaders, stated),
+        steps: worked.steps,
+    }
 }
 
 // Stores a whole head.

@@ -9,7 +9,7 @@ use Rattle.meter_parts.specs.declared.Fit.{Fit}
 unfoldable pub fitTold : Fit → List ℕ → MeterTold
 fitTold r rows =
     record {
-      number = outcomeNumber (r .worked .outcome);
-      state = stateOf (r .worked .head) rows;
+      number = outcomeNumber (r .outcome);
+      state = stateOf (r .head) rows;
       verdict = verdictTold (r .verdict) (r .solution);
     }

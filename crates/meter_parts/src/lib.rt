@@ -1,4 +1,4 @@
-// Page nine of the flat meter on a head by value and lent rows. A refused call stores nothing.
+// Page nine of the flat meter on a head by value and lent rows.
 use answers::Outcome;
 use answers::Verdict;
 use cause::Cause;
@@ -9,7 +9,6 @@ use head::whole;
 use meter::is_flat_meter;
 use meter::page_nine;
 use soundness::sound_parts;
-use state::Worked;
 use state::add_parts;
 use state_verdict::verdict_of;
 use step_reduce::reduce_sound;
@@ -25,7 +24,8 @@ ghost use Rattle.meter_parts.specs.Parts.{fitTold};
 
 // What page nine makes of a head, and the verdict.
 pub struct Fit {
-    pub worked: Worked,
+    pub outcome: Outcome,
+    pub head: Head,
     pub verdict: Verdict,
     pub solution: [u8; VARIABLES],
 }
@@ -35,11 +35,8 @@ fn turned_away(cause: Cause, head: Head) -> Fit
     ensures { λ r. ⌜ ((rows : List ℕ) → fitTold r rows ≡ turnedAway (numberOf cause) (stateOf head rows)) ⌝ }
 {
     Fit {
-        worked: Worked {
-            outcome: Outcome::Refused(cause),
-            steps: 0,
-            head,
-        },
+        outcome: Outcome::Refused(cause),
+        head,
         verdict: Verdict::Refused(cause),
         solution: [0; VARIABLES],
     }
@@ -63,11 +60,8 @@ fn fit_flat(head: Head, rows: &mut Rows) -> Fit
     let verdict = shown.verdict;
     let solution = shown.solution;
     Fit {
-        worked: Worked {
-            outcome: Outcome::Done,
-            steps: cut.steps,
-            head: left,
-        },
+        outcome: Outcome::Done,
+        head: left,
         verdict,
         solution,
     }

@@ -21,7 +21,7 @@ returns c =
     let h = f .before .before in
     let told = rw (h .head-of .ensures) at (f .fit-parts .ensures) in (
       c .verdict-told .ensures ∙ ap (λ (t : MeterTold). verdictOut (t .verdict)) told,
-      fit-stored _ (f .fit-parts .result) (rw (h .head-of .ensures) at (shaped h)) told (l .left .ensures),
+      fit-stored _ (f .fit-parts .result) (rw (h .head-of .ensures) at (shaped h)) told (l .put-made .ensures),
     )
 
 pub meter-fit-parts-spec : {M : Type 1} → statement M
