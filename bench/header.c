@@ -38,7 +38,8 @@ static void allow(struct sheet_state *state, int i, int a, int j, int b) {
     state->rows[sheet_row_place((size_t)i, (size_t)j, (size_t)a)] |= (uint32_t)1 << b;
 }
 
-/* "(1,2) 0001 0004; (2,3) 0002 0001 0001": 3 goes with 2 at first, and with 1 once 2 follows 1. No list loses a value. */
+/* "(1,2) 0001 0004; (2,3) 0002 0001 0001": 3 goes with 2 at first, and with 1 once 2 follows 1. Then the list of 2 loses value 1,
+ * which is the partner of no value of 1. */
 static void make_states(void) {
     const uint8_t sizes[] = {2, 3, 2};
     const uint32_t lists[] = {0x0003, 0x0007, 0x0003};
@@ -54,6 +55,7 @@ static void make_states(void) {
     allow(&stepped, 1, 0, 3, 1);
     allow(&stepped, 1, 1, 3, 0);
     stepped.leaders[1] = 1;
+    stepped.lists[1] = 0x0005;
     reduced = stepped;
     reduced.leaders[2] = 1;
     flat.n = 16;
@@ -157,16 +159,17 @@ static void refused_table(const struct sheet_state *given, size_t first, size_t 
     CHECK(answer.number == number && answer.steps == 0 && same(&state, given));
 }
 
-/* On case A reduced, where 2 and 3 follow 1: its list loses the values whose partners a table forbids. As read, the pair is cut, or
- * becomes stated, whichever option is named first. */
+/* On case A reduced, where 2 and 3 follow 1: its list loses the values whose partners a table forbids, and theirs those partners. As
+ * read, the pair is cut, or becomes stated, whichever option is named first, and no list changes. */
 static void check_tables(void) {
     static const uint32_t later[] = {0x0004, 0x0006}, none[] = {0x0006, 0x0003}, wide[] = {0x0008, 0x0000}, all[] = {0x0003, 0x0003};
     struct sheet_state s = reduced, expected = reduced;
     struct sheet_step_answer answer = sheet_add_table(&s, 3, 2, later, 2);
-    expected.lists[0] = 0x0002;
+    expected.lists[0] = 0x0002, expected.lists[1] = 0x0004, expected.lists[2] = 0x0001;
     CHECK(answer.number == 0 && answer.steps == 0 && same(&s, &expected));
     CHECK(sheet_verdict(&s).kind == SHEET_BUILT && sheet_verdict(&s).build[1] == 2);
-    s = reduced, expected.lists[0] = 0x0000;
+    s = reduced;
+    for (size_t i = 0; i < 3; i++) expected.lists[i] = 0x0000;
     CHECK(sheet_add_table(&s, 1, 2, none, 2).number == 0 && same(&s, &expected) && sheet_verdict(&s).kind == SHEET_NONE);
     /* (2,3) 0002 0001 0001 and (3,2) 0004 0006 have no values in common but 2 of option 2 with 0 of option 3 */
     s = fresh, expected = fresh;
@@ -217,7 +220,7 @@ static void check_meter(void) {
     for (int a = 0; a < 4; a++) allow(&s, 1, a, 2, a);
     answer = meter_fit(&s);
     CHECK(answer.kind == SHEET_BUILT && answer.build[0] == 1 && answer.build[1] == 1 && all_zero(answer.build + 2, 14));
-    CHECK(s.lists[0] == 0x000e && s.leaders[1] == 1);
+    CHECK(s.lists[0] == 0x000e && s.lists[1] == 0x000e && s.leaders[1] == 1);
     s = flat_meter(2), s.lists[0] = 0x0001;
     answer = meter_fit(&s);
     CHECK(answer.kind == SHEET_BUILT && answer.build[0] == 0 && answer.build[1] == 2);
@@ -249,6 +252,15 @@ static void check_sound_and_verdict(void) {
     CHECK(answer.number == 0 && answer.kind == SHEET_NONE && all_zero(answer.build, 16));
     answer = sheet_verdict(&zero);
     CHECK(answer.number == SHEET_CAUSE_NOT_SOUND && answer.kind == SHEET_NO_VERDICT && all_zero(answer.build, 16));
+    struct sheet_state long_list = reduced; /* with value 1 of the follower 2, which is the partner of no value of 1 */
+    long_list.lists[1] = 0x0007;
+    CHECK(!sheet_is_sound(&long_list) && sheet_verdict(&long_list).number == SHEET_CAUSE_NOT_SOUND);
+    refused_step(&long_list, 1, 2, SHEET_CAUSE_NOT_SOUND);
+    struct sheet_state no_list = reduced; /* an empty list of a leader goes with empty lists of its followers */
+    no_list.lists[0] = 0;
+    CHECK(!sheet_is_sound(&no_list));
+    no_list.lists[1] = 0, no_list.lists[2] = 0;
+    CHECK(sheet_is_sound(&no_list) && sheet_verdict(&no_list).kind == SHEET_NONE);
 }
 
 /* Options of so many values each, with the tables that `allow` then states. */

@@ -39,9 +39,9 @@
 #include <stddef.h>
 #include <stdint.h>
 
-/* The version of these declarations: MAJOR rises where a caller has to be changed or compiled anew, MINOR where something is
- * added. The version in byte 0 of a sheet is another number. */
-#define SHEET_VERSION_MAJOR 4
+/* The version of these declarations: MAJOR rises where a caller has to be changed or compiled anew, or a state that he has kept may
+ * now be refused, MINOR where something is added. The version in byte 0 of a sheet is another number. */
+#define SHEET_VERSION_MAJOR 5
 #define SHEET_VERSION_MINOR 0
 
 #define SHEET_LARGEST_BYTES 15621 /* "The largest version 2 sheet has 15,621 bytes, which is the limit in number 1" */
@@ -50,7 +50,7 @@
 #define SHEET_PAIR_ROWS 32       /* rows that a state has room for in each pair */
 #define SHEET_ROWS 3840          /* 120 pairs of SHEET_PAIR_ROWS rows */
 #define SHEET_TEXT_BYTES 512     /* room for every text that sheetcut prints */
-#define SHEET_STACK_BYTES 24576  /* the object code takes at most 16,776 (sheet_text); the rest is for memcpy and memset, and margin */
+#define SHEET_STACK_BYTES 24576  /* the object code takes at most 16,872 (sheet_text); the rest is for memcpy and memset, and margin */
 
 #ifdef __cplusplus
 extern "C" {
@@ -127,7 +127,7 @@ static inline const char *sheet_cause_text(unsigned number) {
 struct sheet_state {
     size_t n;                               /* how many options, 1 to 16 */
     uint8_t sizes[SHEET_MOST_OPTIONS];      /* how many values each has, 1 to 32 */
-    uint32_t lists[SHEET_MOST_OPTIONS];     /* bit v: value v is still open */
+    uint32_t lists[SHEET_MOST_OPTIONS];     /* bit v: value v is still open; of a follower: it is the partner of one of its leader's */
     uint8_t leaders[SHEET_MOST_OPTIONS];    /* 0 for a live option, else the number of its leader */
     uint32_t stated[SHEET_MOST_OPTIONS];    /* bit j of stated[i]: options i and j have a table */
     uint32_t rows[SHEET_ROWS];              /* each pair of options once, from its lower one: see sheet_row_place */
@@ -256,12 +256,17 @@ static inline struct sheet_write_answer sheet_write(const struct sheet_state *st
                              length);
 }
 
-/* Whether a state is sound. No numbers. */
+/* Whether a state is sound: by document 01's rules, and by document 02's, "A value stays in a follower's list exactly when it is the
+ * partner of a value in the leader's list". So whoever shortens the list of a leader himself leaves its followers the partners of
+ * what is left. A state that was kept from a library before 5.0 may lack the rule, and is then refused with 9: read its sheet again,
+ * and make the same calls. No numbers. */
 static inline bool sheet_is_sound(const struct sheet_state *state) {
     return sheet_is_sound_parts(state->n, state->sizes, state->lists, state->leaders, state->stated, state->rows);
 }
 
-/* One follow step, `follower` to follow `leader`, in place; answers 1 step.
+/* One follow step, `follower` to follow `leader`, in place: rules 1, 2 and 3, and it "also trims the lists of all followers of the
+ * leader concerned, new ones included. A value stays in a follower's list exactly when it is the partner of a value in the leader's
+ * list". Lists of other followers do not change. Answers 1 step.
  * Numbers 9 to 13, tested upward. A refusal leaves the state as it was and answers 0 steps.
  * The builds of the state stay the same: none is lost and none gained. */
 static inline struct sheet_step_answer sheet_eliminate(struct sheet_state *state, size_t leader, size_t follower) {
@@ -269,7 +274,7 @@ static inline struct sheet_step_answer sheet_eliminate(struct sheet_state *state
 }
 
 /* The full reduction, in place: "takes the lowest i that has a legal j, with the lowest such j, and repeats until no step is
- * legal". Answers how many steps it took, at most n - 1.
+ * legal"; each step as above. Answers how many steps it took, at most n - 1.
  * Number 9. A refusal leaves the state as it was and answers 0 steps.
  * The builds of the state stay the same. */
 static inline struct sheet_step_answer sheet_reduce(struct sheet_state *state) {
@@ -280,8 +285,8 @@ static inline struct sheet_step_answer sheet_reduce(struct sheet_state *state) {
  * first; bit v of a row says that value v of the second is allowed. The first may have the higher number.
  * "Each option is traced to its live leader; a live option is its own. If the leaders differ, their pair becomes stated. It then
  * allows two values exactly when both are in the leaders' lists, the new table allows their partners, and the pair, if stated
- * before, allowed them. .. If they are one, its list loses the values whose partners the new table forbids." Nothing else changes;
- * answers 0 steps.
+ * before, allowed them. .. If they are one, its list loses the values whose partners the new table forbids", and the lists of all its
+ * followers are trimmed as in a follow step. If the leaders differ, no list changes; if they are one, no pair does. Answers 0 steps.
  * Numbers 9, 10, 21, 22, tested in this order; 22 goes by the sizes of the two options named. A refusal leaves the state as it was.
  * Of the builds of the state exactly those stay that keep to the table. */
 static inline struct sheet_step_answer sheet_add_table(struct sheet_state *state, size_t first, size_t second,

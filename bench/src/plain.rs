@@ -270,7 +270,8 @@ fn rows_within(s: &State) -> bool {
     true
 }
 
-/// Each follower is stated with a live leader alone, and each value in the leader's list has exactly one partner.
+/// Each follower is stated with a live leader alone, each value in the leader's list has exactly one partner, and the follower's list holds no other
+/// value.
 fn followers_sound(s: &State) -> bool {
     for i in 0..s.n {
         let leader = s.leaders[i] as usize;
@@ -281,11 +282,16 @@ fn followers_sound(s: &State) -> bool {
         if l >= s.n || s.leaders[l] != 0 || s.stated[i] != 1 << l {
             return false;
         }
+        let mut reached = 0;
         for a in members(s.lists[l]) {
             let partners = row(s, l, i, a) & s.lists[i];
             if partners == 0 || partners & (partners - 1) != 0 {
                 return false;
             }
+            reached |= partners;
+        }
+        if reached != s.lists[i] {
+            return false;
         }
     }
     true
@@ -337,7 +343,18 @@ fn put(s: &mut State, i: usize, j: usize, a: usize, set: u32) {
     }
 }
 
-/// A legal step: the composed pair is made value by value of the third option, lowest first.
+/// The list of each follower of `p` keeps the partners of the values in the list of `p` alone.
+#[inline(always)]
+fn trim_followers(s: &mut State, p: usize) {
+    for x in members(s.stated[p]) {
+        let x = x & 15;
+        if s.leaders[x] as usize == p + 1 {
+            s.lists[x] &= partners(s, p, x, s.lists[p]);
+        }
+    }
+}
+
+/// A legal step: the composed pair is made value by value of the third option, lowest first; then followers are trimmed.
 fn step(s: &mut State, i: usize, j: usize) {
     let (i, j) = (i & 15, j & 15);
     s.lists[i] &= partners(s, j, i, s.lists[j]);
@@ -365,6 +382,7 @@ fn step(s: &mut State, i: usize, j: usize) {
         }
     }
     s.leaders[j] = i as u8 + 1;
+    trim_followers(s, i);
 }
 
 /// One follow step in place, options counted from 1.
@@ -569,6 +587,7 @@ pub fn add_table(s: &mut State, first: usize, second: usize, table: &[u32]) -> S
         whole[..table.len()].copy_from_slice(table);
         if p == q {
             s.lists[p] = kept(s, p, x, y, &whole);
+            trim_followers(s, p);
         } else if p < q {
             cut_pair(s, p, x, q, y, &whole);
         } else {

@@ -13,6 +13,7 @@
 //! let verdict = sheet::verdict(&state);
 //! assert_eq!(verdict.kind, sheet::BUILT);
 //! assert_eq!(verdict.build[..3], [0, 0, 1]);
+//! assert_eq!(state.lists[1], 0x0005); // option 2 follows, and value 1 is the partner of no value of its leader
 //! assert_eq!(sheet::add_table(&mut state, 3, 2, &[0x0004, 0x0006]).number, 0);
 //! assert_eq!(sheet::verdict(&state).build[..3], [1, 2, 0]);
 //!
@@ -196,14 +197,19 @@ pub fn write(state: &State, version: usize, buffer: &mut [u8]) -> Written {
     }
 }
 
-/// Whether a state is sound. No numbers.
+/// Whether a state is sound: by document 01's rules, and by document 02's, "A value stays in a follower's list exactly when it is the
+/// partner of a value in the leader's list". So whoever shortens the list of a leader himself leaves its followers the partners of what
+/// is left. A state that was kept from a library before 5.0 may lack the rule, and is then refused with 9: read its sheet again, and
+/// make the same calls. No numbers.
 #[inline]
 pub fn is_sound(state: &State) -> bool {
     let s = state;
     unsafe { sheet_is_sound_parts(s.n, &s.sizes, &s.lists, &s.leaders, &s.stated, &s.rows) }
 }
 
-/// One follow step, `follower` to follow `leader`, options counted from 1; answers 1 step.
+/// One follow step, `follower` to follow `leader`, options counted from 1: rules 1, 2 and 3, and it "also trims the lists of all
+/// followers of the leader concerned, new ones included. A value stays in a follower's list exactly when it is the partner of a value
+/// in the leader's list". Lists of other followers do not change. Answers 1 step.
 ///
 /// Numbers 9 to 13, tested upward. A refusal leaves the state as it was and answers 0 steps. The builds of the state stay the
 /// same: none is lost and none gained.
@@ -235,7 +241,9 @@ pub fn reduce(state: &mut State) -> Stepped {
 }
 
 /// Adds a table for the options `first` and `second`, live or not: a row for each value of the first, value 0 first; bit v of a row
-/// says that value v of the second is allowed. The first may have the higher number. Answers 0 steps.
+/// says that value v of the second is allowed. The first may have the higher number. Where the two have one leader, or one leads the
+/// other, the leader's list loses values, and the lists of all its followers are trimmed as in a follow step; otherwise no list changes.
+/// Answers 0 steps.
 ///
 /// Numbers 9, 10, 21, 22, tested in this order; 22 goes by the sizes of the two options named. A refusal leaves the state as it was.
 /// Of the builds of the state exactly those stay that keep to the table.

@@ -33,7 +33,7 @@ pub struct State {
     pub n: usize,
     /// How many values each has, 1 to 32.
     pub sizes: [u8; MOST_OPTIONS],
-    /// Bit `v`: value `v` is still open.
+    /// Bit `v`: value `v` is still open; of a follower, it is the partner of a value in its leader's list.
     pub lists: [u32; MOST_OPTIONS],
     /// 0 for a live option, else the number of its leader, counted from 1.
     pub leaders: [u8; MOST_OPTIONS],

@@ -17,7 +17,7 @@ use Rattle.words.specs.Word.{width, has, word}
 use Rattle.network.specs.Network.{Network, free, partner, functional}
 use Rattle.network.specs.Sound.{Sound}
 use Rattle.network.specs.Promise.{Keeps}
-use Rattle.network.specs.Step.{outside, refusal, legal, trimmed, third, joined, composed, eliminate}
+use Rattle.network.specs.Step.{outside, refusal, legal, trimmed, third, joined, composed, eliminate, relisted, followersTrimmed, followed}
 use Rattle.network.specs.Reduction.{freeCount, leading, reducible, nextLeader, lowestFollower, nextFollower, advance, oneMore, runWithin, reduceWithin, reduce}
 use Rattle.network.specs.Sheet.{Sheet, isFor, tabled, rowFor, networkOf}
 use Rattle.network.specs.Completion.{BUILT, follow, completed, lowest, exhausted, decided, verdict, lowestSolution, shown}
@@ -127,7 +127,7 @@ record Computed : Type 0 where
   build : tabulate 16 (shown last) ≡ 0 ∷ 0 ∷ 1 ∷ replicate 13 0
 
 computed : Computed
-unfolding and or implies not bit if every some sum count first has word free partner functional outside refusal legal trimmed third joined composed eliminate freeCount leading reducible nextLeader lowestFollower nextFollower advance oneMore runWithin reduceWithin reduce isFor tabled rowFor networkOf sheetA sheetLast same last tabulate stateLast follow completed lowest exhausted decided verdict lowestSolution shown
+unfolding and or implies not bit if every some sum count first has word free partner functional outside refusal legal trimmed third joined composed eliminate relisted followersTrimmed followed freeCount leading reducible nextLeader lowestFollower nextFollower advance oneMore runWithin reduceWithin reduce isFor tabled rowFor networkOf sheetA sheetLast same last tabulate stateLast follow completed lowest exhausted decided verdict lowestSolution shown
 computed = record { pairs = refl; sizes = refl; domains = refl; leaders = refl; stated = refl; steps = refl; ruled = refl; build = refl }
 
 same-pair : (i j a b : ℕ) → last .allows i j a b ≡ networkOf sheetLast .allows i j a b

@@ -10,7 +10,7 @@ use Rattle.bounded.specs.Fold.{every, some, sum, count, first}
 use Rattle.bounded.specs.Table.{tabulate}
 use Rattle.words.specs.Word.{has}
 use Rattle.network.specs.Network.{Network, free, partner, functional}
-use Rattle.network.specs.Step.{outside, refusal, legal, trimmed, third, joined, composed, eliminate}
+use Rattle.network.specs.Step.{outside, refusal, legal, trimmed, third, joined, composed, eliminate, relisted, followersTrimmed, followed}
 use Rattle.network.specs.Reduction.{leading, nextLeader, lowestFollower, oneMore, runWithin, reduceWithin, reduce}
 use Rattle.network.specs.Completion.{Verdict, BUILT, OPEN, follow, completed, choiceInDomains, choicePairsAllow, allowedChoice, lowest, exhausted, decided, verdict, lowestSolution, shown}
 use Rattle.network.specs.Count.{put, sumTuples, countTuples, choiceSize, choiceCount}
@@ -63,11 +63,11 @@ record Leaves (M : Network) (leaders : List ℕ) (ending : Verdict) (build : Lis
   shows : tabulate 16 (shown M) ≡ build
 
 reduced-leaves : Leaves (after (networkOf sheetOrders) reducing) (0 ∷ 1 ∷ 0 ∷ 0 ∷ replicate 12 0) OPEN (replicate 16 0)
-unfolding and or implies not bit if every some sum count first has free partner functional outside refusal legal trimmed third joined composed eliminate leading nextLeader lowestFollower oneMore runWithin reduceWithin reduce refuses made answer after isFor tabled rowFor networkOf sheetOrders tabulate exhausted decided verdict shown reducing
+unfolding and or implies not bit if every some sum count first has free partner functional outside refusal legal trimmed third joined composed eliminate relisted followersTrimmed followed leading nextLeader lowestFollower oneMore runWithin reduceWithin reduce refuses made answer after isFor tabled rowFor networkOf sheetOrders tabulate exhausted decided verdict shown reducing
 reduced-leaves = record { led = refl; ruled = refl; shows = refl }
 
 stepped-leaves : Leaves (after (networkOf sheetOrders) stepping) (0 ∷ 1 ∷ 1 ∷ 1 ∷ replicate 12 0) BUILT (0 ∷ 1 ∷ 0 ∷ 0 ∷ replicate 12 0)
-unfolding and or implies not bit if every some sum count first has free partner functional outside refusal legal trimmed third joined composed eliminate refuses made answer after isFor tabled rowFor networkOf sheetOrders tabulate follow completed lowest exhausted decided verdict lowestSolution shown stepping
+unfolding and or implies not bit if every some sum count first has free partner functional outside refusal legal trimmed third joined composed eliminate relisted followersTrimmed followed refuses made answer after isFor tabled rowFor networkOf sheetOrders tabulate follow completed lowest exhausted decided verdict lowestSolution shown stepping
 stepped-leaves = record { led = refl; ruled = refl; shows = refl }
 
 two : choiceCount (after (networkOf sheetOrders) []) ≡ 2

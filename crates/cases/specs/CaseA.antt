@@ -18,13 +18,13 @@ bytesA = 1 ∷ 0 ∷ 19 ∷ 3 ∷ 2 ∷ 3 ∷ 2 ∷ 2 ∷ 1 ∷ 2 ∷ 0 ∷ 1 �
 unfoldable pub bytesLast : List ℕ
 bytesLast = 1 ∷ 0 ∷ 17 ∷ 3 ∷ 2 ∷ 3 ∷ 2 ∷ 2 ∷ 1 ∷ 2 ∷ 0 ∷ 1 ∷ 0 ∷ 4 ∷ 1 ∷ 3 ∷ 0 ∷ 2 ∷ 0 ∷ 1 ∷ []
 
--- After 2 steps variables 2 and 3 follow 1, each domain is still full, and 1 is stated with both.
+-- After 2 steps variables 2 and 3 follow 1, 2 has lost value 1, which is no partner of a value of 1, and 1 is stated with both.
 unfoldable pub stateLast : State
 stateLast =
     record {
       n = 3;
       sizes = 2 ∷ 3 ∷ 2 ∷ replicate 13 0;
-      domains = 3 ∷ 7 ∷ 3 ∷ replicate 13 0;
+      domains = 3 ∷ 5 ∷ 3 ∷ replicate 13 0;
       leaders = 0 ∷ 1 ∷ 1 ∷ replicate 13 0;
       stated = 6 ∷ 1 ∷ 1 ∷ replicate 13 0;
       rows = readSheet bytesLast .state .rows;

@@ -108,6 +108,7 @@ module _ (m : ℕ) where
         follower-stated = λ i l e. absurd (let x : ⊥ = omega arith in x);
         follower-only = λ i l k e. absurd (let x : ⊥ = omega arith in x);
         follower-one = λ i l a e. absurd (let x : ⊥ = omega arith in x);
+        follower-trimmed = λ i l b e. absurd (let x : ⊥ = omega arith in x);
       }
 
   -- One table for each of the 120 pairs.

@@ -14,12 +14,12 @@ use Rattle.bounded.specs.Bool.{and, or, implies, not}
 use Rattle.bounded.specs.Fold.{some, first}
 use Rattle.bounded.proofs.Bool.{by-cases, clash, bool-ext, not-true→false, and-i, and-l, and-r, and-cong}
 use Rattle.bounded.proofs.Bool.{or-l, or-r, or-false-l, or-false-r, or-false-i, implies-i, implies-e, not-false-e, not-false-i, if-true, if-false}
-use Rattle.bounded.proofs.Fold.{is-or-not, every-i, every-e, some-i, some-e, count-cong, first-some, first-passes}
+use Rattle.bounded.proofs.Fold.{is-or-not, every-i, every-e, some-i, some-e, some-cong, count-cong, first-some, first-passes}
 use Rattle.words.specs.Word.{has}
 use Rattle.words.proofs.Laws.{has-zero, has-below, within}
 use Rattle.network.specs.Network.{Network, free, partner, solves}
 use Rattle.network.specs.Sound.{Sound, Bounded}
-use Rattle.network.specs.Step.{outside}
+use Rattle.network.specs.Step.{outside, relisted, followersTrimmed}
 use Rattle.network.specs.Substitution.{isPair}
 use Rattle.network.specs.Completion.{completed, follow}
 use Rattle.network.specs.Lists.{narrowed}
@@ -28,10 +28,11 @@ use Rattle.network.specs.Added.{traced, partnerIn, tableAllows, meetsTab
 use Rattle.network.specs.Added.{Numbered, Fitting, Refuses, Traced, Partner, PartnersAllowed, Adds}
 use Rattle.network.proofs.Sound.{led-not-free, led-pred, free-or-led, leader-n, leader-is-free, partner-some, partner-only, Sound→Bounded}
 use Rattle.network.proofs.Step.{here, past, never, outside-e, outside-i, both-sides}
+use Rattle.network.proofs.Trim.{trim-solves, relisted-free, relisted-trims, relisted-rest}
 use Rattle.network.proofs.Completion.{solves-domain, solves-pair, solves-i, completed-keeps, completed-led, completed-only}
 use Rattle.network.proofs.SheetOf.{network-ext}
 use Rattle.network.proofs.Rules.{same-test}
-use Rattle.network.proofs.Lists.{narrowed-i, narrowed-other, narrowed-fewer, lists-free}
+use Rattle.network.proofs.Lists.{narrowed-i, narrowed-other, narrowed-fewer, narrowed-led, lists-free}
 
 -- ---- pairs
 
@@ -180,6 +181,11 @@ module _ (N : Network) (p q : ℕ) (t : ℕ → ℕ → Bool) (distinct : p ≡ 
         follower-partners x l a b e =
             ap (and (N .domain x b)) (allows-else l x a b (λ _ d. led-other x l q e q-free d) (λ _ d. led-other x l p e p-free d))
 
+        leader-partners : (x l a b : ℕ) → N .leader x ≡ suc l → partner M x l b a ≡ partner N x l b a
+        unfolding partner constrained
+        leader-partners x l a b e =
+            ap (and (N .domain l a)) (allows-else x l b a (λ d _. led-other x l p e p-free d) (λ d _. led-other x l q e q-free d))
+
         pub constrained-sound : Sound M
         unfolding constrained
         constrained-sound =
@@ -199,12 +205,13 @@ module _ (N : Network) (p q : ℕ) (t : ℕ → ℕ → Bool) (distinct : p ≡ 
               follower-stated = λ x l e. follower-pairs x l l e ∙ S .follower-stated x l e;
               follower-only = λ x l k e s. S .follower-only x l k e (sym (follower-pairs x l k e) ∙ s);
               follower-one = λ x l a e d. count-cong (N .size x) _ _ (λ b _. follower-partners x l a b e) ∙ S .follower-one x l a e d;
+              follower-trimmed = λ x l b e d. some-cong (N .size l) _ _ (λ a _. leader-partners x l a b e) ∙ S .follower-trimmed x l b e d;
             }
 
 -- ---- a shorter domain
 
 pub narrowed-solves : (N : Network) (i : ℕ) (r : ℕ → Bool) → i < N .n → (f : ℕ → ℕ) → solves (narrowed N i r) f ≡ and (solves N f) (r (f i))
-unfolding narrowed
+unfolding narrowed relisted
 narrowed-solves N i r i-in f =
     bool-ext _ _
     (λ h. and-i _ _
@@ -287,7 +294,8 @@ module _ (N : Network) where
 -- ---- the table added
 
 module _ (N : Network) (x y : ℕ) (rows : List ℕ) where
-  pub added-one : traced N x ≡ traced N y → added N x y rows ≡ narrowed N (traced N x) (λ (a : ℕ). allowsPartners N x y rows a a)
+  pub added-one : traced N x ≡ traced N y
+      → added N x y rows ≡ followersTrimmed (narrowed N (traced N x) (λ (a : ℕ). allowsPartners N x y rows a a))
   unfolding added
   added-one e = if-true _ _ _ (eq-eqb _ _ e)
 
@@ -297,7 +305,7 @@ module _ (N : Network) (x y : ℕ) (rows : List ℕ) where
 
   -- The leaders are one, or they differ.
   added-case : (P : Network → Type 0)
-      → (traced N x ≡ traced N y → P (narrowed N (traced N x) (λ (a : ℕ). allowsPartners N x y rows a a)))
+      → (traced N x ≡ traced N y → P (followersTrimmed (narrowed N (traced N x) (λ (a : ℕ). allowsPartners N x y rows a a))))
       → ((traced N x ≡ traced N y → ⊥) → P (constrained N (traced N x) (traced N y) (allowsPartners N x y rows)))
       → P (added N x y rows)
   added-case P one two =
@@ -306,11 +314,11 @@ module _ (N : Network) (x y : ℕ) (rows : List ℕ) where
       (λ t. let d = eqb-false _ _ t in rw (added-two d) (two d))
 
   pub added-n : added N x y rows .n ≡ N .n
-  unfolding narrowed constrained
+  unfolding narrowed constrained followersTrimmed relisted
   added-n = added-case (λ (M : Network). M .n ≡ N .n) (λ e. refl) (λ d. refl)
 
   pub added-size : (i : ℕ) → added N x y rows .size i ≡ N .size i
-  unfolding narrowed constrained
+  unfolding narrowed constrained followersTrimmed relisted
   added-size i = added-case (λ (M : Network). M .size i ≡ N .size i) (λ e. refl) (λ d. refl)
 
   module _ (S : Sound N) (x-in : x < N .n) (y-in : y < N .n) where
@@ -334,7 +342,8 @@ module _ (N : Network) (x y : ℕ) (rows : List ℕ) where
     pub added-solves : (f : ℕ → ℕ) → solves (added N x y rows) f ≡ and (solves N f) (meetsTable x y rows f)
     added-solves f =
         added-case (λ (M : Network). solves M f ≡ and (solves N f) (meetsTable x y rows f))
-        (λ e. narrowed-solves N (traced N x) _ (traced-in N S x x-in) f
+        (λ e. trim-solves (narrowed N (traced N x) _) (lists-free .any-part N S (traced N x) (traced-is-free N S x) _) f
+        ∙ narrowed-solves N (traced N x) _ (traced-in N S x x-in) f
         ∙ and-cong _ _ _ (λ s. ap (λ (v : ℕ). allowsPartners N x y rows (f (traced N x)) (f v)) e ∙ partners-met f s))
         (λ d. constrained-solves N (traced N x) (traced N y) _ d S (traced-in N S x x-in) (traced-in N S y y-in) f
         ∙ and-cong _ _ _ (partners-met f))
@@ -461,6 +470,7 @@ module _ (N : Network) (x y : ℕ) (rows : List ℕ) (S : Sound N) where
         other-pairs = λ _ u v a b h k. (stated-else N p q t d u v h k, allows-else N p q t d u v a b h k);
         domains-stay = λ _ u a. refl;
         keeps-exactly = λ e. absurd (d e);
+        trims-exactly = λ e. absurd (d e);
         other-domains = λ e. absurd (d e);
         pairs-stay = λ e. absurd (d e);
         same-n = refl;
@@ -469,11 +479,17 @@ module _ (N : Network) (x y : ℕ) (rows : List ℕ) (S : Sound N) where
       }
 
   adds-one : (e : traced N x ≡ traced N y)
-      → Adds N x y rows (traced N x) (traced N y) (narrowed N (traced N x) (λ (a : ℕ). allowsPartners N x y rows a a))
-  unfolding narrowed
+      → Adds N x y rows (traced N x) (traced N y) (followersTrimmed (narrowed N (traced N x) (λ (a : ℕ). allowsPartners N x y rows a a)))
+  unfolding narrowed followersTrimmed relisted
   adds-one e =
       let p = traced N x in
       let r : ℕ → Bool = λ a. allowsPartners N x y rows a a in
+      let M = narrowed N p r in
+      let p-free = traced-is-free N S x in
+      let fewer = narrowed-fewer N p r in
+      let led = narrowed-led N p r p-free in
+      let at-p : (a : ℕ) → followersTrimmed M .domain p a ≡ and (N .domain p a) (r a) =
+      λ a. relisted-free N S (M .domain) fewer led p a p-free ∙ narrowed-i N p r a in
       let other : (a : ℕ) → N .domain p a ≡ true → N .domain (traced N y) a ≡ true = λ a d. rw e at d in
       record {
         first-traced = is-traced N x;
@@ -485,12 +501,16 @@ module _ (N : Network) (x y : ℕ) (rows : List ℕ) (S : Sound N) where
         domains-stay = λ d. absurd (d e);
         keeps-exactly =
             λ _ a. (
-              λ h. let k = sym (narrowed-i N p r a) ∙ h in
+              λ h. let k = sym (at-p a) ∙ h in
                   let da = and-l _ _ k in
                   (da, partners-allowed a a da (other a da) .0 (and-r _ _ k)),
-              λ h. narrowed-i N p r a ∙ and-i _ _ (h .0) (partners-allowed a a (h .0) (other a (h .0)) .1 (h .1)),
+              λ h. at-p a ∙ and-i _ _ (h .0) (partners-allowed a a (h .0) (other a (h .0)) .1 (h .1)),
             );
-        other-domains = λ _ u a d. narrowed-other N p r u a d;
+        trims-exactly = λ _ u b e. relisted-trims N S (M .domain) fewer led u p b e;
+        other-domains =
+            λ _ u a d e. free-or-led N u
+            (λ t. relisted-free N S (M .domain) fewer led u a t ∙ narrowed-other N p r u a d)
+            (λ l h. relisted-rest N S (M .domain) fewer led u l a h (λ b. narrowed-other N p r l b (λ q. e (h ∙ ap suc q))));
         pairs-stay = λ _ u v a b. (refl, refl);
         same-n = refl;
         same-size = λ u. refl;
@@ -512,9 +532,12 @@ module _ (N : Network) (x y : ℕ) (rows : List ℕ) (p q : ℕ) (M P : Network)
   same-domain : (u a : ℕ) → M .domain u a ≡ P .domain u a
   same-domain u a =
       one-or-two
-      (λ e. is-or-not p (λ (v : ℕ). M .domain v a ≡ P .domain v a)
-      (same-test _ _ (R .keeps-exactly e a) (Q .keeps-exactly e a))
-      (λ v d. R .other-domains e v a d ∙ sym (Q .other-domains e v a d)) u)
+      (λ e. let at-p : (b : ℕ) → M .domain p b ≡ P .domain p b = λ b. same-test _ _ (R .keeps-exactly e b) (Q .keeps-exactly e b) in
+      is-or-not p (λ (v : ℕ). M .domain v a ≡ P .domain v a)
+      (at-p a)
+      (λ v d. by-cases (eqb (N .leader v) (suc p))
+      (λ t. let l = eqb-true _ _ t in same-test _ _ (R .trims-exactly e v a l) (simp at-p (Q .trims-exactly e v a l)))
+      (λ t. let l = eqb-false _ _ t in R .other-domains e v a d l ∙ sym (Q .other-domains e v a d l))) u)
       (λ d. R .domains-stay d u a ∙ sym (Q .domains-stay d u a))
 
   same-stated : (u v : ℕ) → M .stated u v ≡ P .stated u v

@@ -11,7 +11,7 @@ use Rattle.bounded.specs.Bool.{and, or}
 use Rattle.bounded.proofs.Bool.{by-cases, clash, and-l, and-r, and-assoc, and-true, true-and, or-l, or-r, if-true, if-false}
 use Rattle.network.specs.Network.{Network}
 use Rattle.network.specs.Sound.{Sound}
-use Rattle.network.specs.Step.{outside, refusal, legal, eliminate}
+use Rattle.network.specs.Step.{outside, refusal, legal}
 use Rattle.network.specs.Reduction.{reduce}
 use Rattle.network.specs.Sheet.{Table}
 use Rattle.network.specs.Added.{meetsTable, addRefusal, added}

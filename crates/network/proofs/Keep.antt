@@ -1,7 +1,7 @@
--- A legal step keeps the solutions (source document 000, Property 2), and a sound network sound.
+-- A legal step keeps the solutions (source document 000, Property 2), and with the trimming of followers a sound network sound.
 use mathlib.Core.Bool.{Bool, true, false}
 use mathlib.Core.Path.{_≡_, refl, sym, _∙_, ap, ap₂}
-use Prim.Native.Nat.{ℕ, suc, _<_}
+use Prim.Native.Nat.{ℕ, suc, _≤_, _<_}
 use native.Mathlib.Omega.{arith}
 use lib.Dec.{eqb}
 use borrow.Author.Tests.{eq-eqb, ne-eqb, eqb-true, eqb-false}
@@ -9,17 +9,18 @@ use Rattle.bounded.specs.Bool.{and, implies, not}
 use Rattle.bounded.specs.Fold.{every, count}
 use Rattle.bounded.proofs.Bool.{by-cases, clash, bool-ext, not-true→false, and-i, and-l, and-r, and-cong, and-false, and-true, true-and}
 use Rattle.bounded.proofs.Bool.{not-i, not-false-i, implies-e, implies-true, implies-false}
-use Rattle.bounded.proofs.Fold.{is-or-not, every-i, every-e, pairs-e, count-cong, count-one}
+use Rattle.bounded.proofs.Fold.{is-or-not, every-i, every-e, some-cong, pairs-e, count-cong, count-one}
 use Rattle.network.specs.Network.{Network, free, partner, functional, inDomains, pairsAllow, solves}
-use Rattle.network.specs.Sound.{Sound}
-use Rattle.network.specs.Step.{legal, trimmed, third, composed, eliminate}
+use Rattle.network.specs.Sound.{Sound, Bounded}
+use Rattle.network.specs.Step.{legal, trimmed, third, composed, eliminate, relisted, followersTrimmed, Trimmable, followed}
 use Rattle.network.specs.Pairs.{Stays}
 use Rattle.network.proofs.Pairs.{stays-sym, own-pair-stays, self-pair-stays, pair-case-sym, Moved, pairs-moved}
-use Rattle.network.proofs.Sound.{free-e, led-not-free}
+use Rattle.network.proofs.Sound.{free-e, free-i, led-not-free, free-or-led, domain-n}
 use Rattle.network.proofs.Step.{Legal, legal-e, third-e, third-i, i-not-third, j-not-third, ij-stays}
 use Rattle.network.proofs.Step.{same-n, domain-i, domain-other, domain-fewer, domain-kept, leader-j, leader-of-j, leader-other, leader-case}
 use Rattle.network.proofs.Step.{MovedPairs, eliminate-moves, trimmed-domain, trimmed-e, trimmed-i, composed-e, one-partner, composed-at}
 use Rattle.network.proofs.Step.{both-sides, moved-stated-sym, moved-allows-sym}
+use Rattle.network.proofs.Trim.{trim-free, trim-led, trim-fewer, trim-one, trim-trims, trim-solves}
 
 -- f meets the constraint of a pair, if there is one.
 abbrev meets : Network → (ℕ → ℕ) → ℕ → ℕ → Bool
@@ -133,11 +134,14 @@ module _ (N : Network) (S : Sound N) (i j : ℕ) (L : Legal N i j) where
       (λ k t a b s. clash s (pairs .allows-moved a b .at-jk k t))
       (λ x y r a b s. S .allows-in x y a b (sym (pairs .allows-moved a b .elsewhere x y r) ∙ s))
 
+  now-domain-in : (x a : ℕ) → eliminate N i j .domain x a ≡ true → a < N .size x
+  now-domain-in x a h = S .domain-in x a (domain-fewer N i j x a h)
+
   -- A free variable other than j stays free.
   stays-free : (x : ℕ) → N .leader x ≡ 0 → (x ≡ j → ⊥) → eliminate N i j .leader x ≡ 0
   stays-free x h d = leader-other N i j x d (λ e. let z : ⊥ = omega arith in z) ∙ h
 
-  i-stays-free : eliminate N i j .leader i ≡ 0
+  pub i-stays-free : eliminate N i j .leader i ≡ 0
   i-stays-free = stays-free i (free-e N i (L .i-free)) (L .distinct)
 
   now-leader-free : (x l : ℕ) → eliminate N i j .leader x ≡ suc l → (l < N .n) × (eliminate N i j .leader l ≡ 0)
@@ -146,6 +150,27 @@ module _ (N : Network) (S : Sound N) (i j : ℕ) (L : Legal N i j) where
       (L .i-in, i-stays-free)
       (λ x h. (L .i-in, i-stays-free))
       (λ x l h d e. let r = S .leader-free x l h in (r .0, stays-free l (r .1) e))
+
+  -- Rules 1 to 3 leave what can be trimmed,
+  pub eliminate-trimmable : Trimmable (eliminate N i j)
+  unfolding eliminate
+  eliminate-trimmable = record { values-in = now-domain-in; pairs-alike = now-allows-sym; leaders-free = now-leader-free }
+
+  -- and what arrays hold.
+  pub eliminate-bounded : (m w : ℕ) → N .n ≤ m → N .n ≤ w → ((x : ℕ) → N .size x ≤ w) → Bounded m w (eliminate N i j)
+  unfolding eliminate
+  eliminate-bounded m w held told within =
+      record {
+        size-bound = λ x l. S .size-past x (omega arith);
+        leader-bound = λ x l. let below : j < N .n = L .j-in in stays-free x (S .leader-past x (omega arith)) (omega arith);
+        domain-bound = λ x a d.
+            (omega (arith, domain-n N S x a (domain-fewer N i j x a d)), omega (arith, now-domain-in x a d, within x));
+        stated-bound = λ x y s. omega (arith, now-stated-in x y s);
+        allows-bound = λ x y a b r.
+            let s = now-stated-in x y (now-allows-stated x y a b r) in
+            let v = now-allows-in x y a b r in
+            (omega arith, omega arith, omega (arith, within x), omega (arith, within y));
+      }
 
   -- What follows is not what is free.
   not-free : (x y l : ℕ) → N .leader x ≡ suc l → free N y ≡ true → x ≡ y → ⊥
@@ -254,15 +279,45 @@ module _ (N : Network) (S : Sound N) (i j : ℕ) (L : Legal N i j) where
       (λ c lc. partner-stays l x a c (not-free x i l h (L .i-free)) (stays-sym i j _ x l (other-follower-stays x l h e l)))
       ∙ S .follower-one x l a h (domain-fewer N i j l a da))
 
-pub eliminate-sound : (N : Network) → Sound N → (i j : ℕ) → legal N i j ≡ true → Sound (eliminate N i j)
-unfolding eliminate
-eliminate-sound N S i j legal-step =
+  -- The values of i are those that rule 1 leaves,
+  pub leader-domain : (a : ℕ) → followed N i j .domain i a ≡ trimmed N i j a
+  unfolding followed
+  leader-domain a = trim-free (eliminate N i j) i a (free-i _ i i-stays-free) ∙ domain-i N i j a
+
+  -- a follower of another leader is trimmed already,
+  other-led : (a x l : ℕ) → eliminate N i j .leader x ≡ suc l → (l ≡ i → ⊥) → followed N i j .domain x a ≡ N .domain x a
+  unfolding followed trimmed eliminate
+  other-led a =
+      leader-case N i j (λ (x l : ℕ). (l ≡ i → ⊥) → followed N i j .domain x a ≡ N .domain x a)
+      (λ d. absurd (d refl))
+      (λ x h d. absurd (d refl))
+      (λ x l h xj lj d.
+      let same = domain-other N i j x a (not-free x i l h (L .i-free)) in
+      trim-led (eliminate N i j) x l a (leader-other N i j x xj (λ e. lj (let q : l ≡ j = omega arith in q)) ∙ h)
+      ∙ bool-ext _ _
+      (λ t. sym same ∙ and-l _ _ t)
+      (λ t. and-i _ _ (same ∙ t)
+      (some-cong (N .size l) _ _ (λ b _. partner-stays x l a b d (other-follower-stays x l h lj l)) ∙ S .follower-trimmed x l a h t)))
+
+  -- and so only i and those that follow it now lose values.
+  pub other-domain : (x a : ℕ) → (x ≡ i → ⊥) → (eliminate N i j .leader x ≡ suc i → ⊥) → followed N i j .domain x a ≡ N .domain x a
+  unfolding followed
+  other-domain x a d e =
+      free-or-led (eliminate N i j) x
+      (λ t. trim-free (eliminate N i j) x a t ∙ domain-other N i j x a d)
+      (λ l h. other-led a x l h (λ q. e (h ∙ ap suc q)))
+
+pub followed-sound : (N : Network) → Sound N → (i j : ℕ) → legal N i j ≡ true → Sound (followed N i j)
+unfolding eliminate relisted followersTrimmed followed
+followed-sound N S i j legal-step =
     let L : Legal N i j = legal-e N i j legal-step in
+    let M = eliminate N i j in
+    let T = eliminate-trimmable N S i j L in
     record {
       some-variable = S .some-variable;
       sizes = S .sizes;
       size-past = S .size-past;
-      domain-in = λ x a h. S .domain-in x a (domain-fewer N i j x a h);
+      domain-in = λ x a h. now-domain-in N S i j L x a (trim-fewer M x a h);
       leader-past = λ x h. let l : j < N .n = L .j-in in stays-free N S i j L x (S .leader-past x h) (omega arith);
       stated-in = now-stated-in N S i j L;
       no-self = λ x. pairs N S i j L .stated-moved .elsewhere x x (self-pair-stays i j _ (i-not-third N i j) (j-not-third N i j) x) ∙ S .no-self x;
@@ -273,12 +328,18 @@ eliminate-sound N S i j legal-step =
       leader-free = now-leader-free N S i j L;
       follower-stated = now-follower-stated N S i j L;
       follower-only = λ x l k. now-follower-only N S i j L k x l;
-      follower-one = λ x l a. now-follower-one N S i j L a x l;
+      follower-one = λ x l a e h. let d = trim-fewer M l a h in trim-one M T x l a e d (now-follower-one N S i j L a x l e d);
+      follower-trimmed = λ x l b e h. trim-trims M T x l b e h;
     }
 
+-- and the whole step keeps the solutions.
+pub followed-solves : (N : Network) → Sound N → (i j : ℕ) → legal N i j ≡ true → (f : ℕ → ℕ) → solves (followed N i j) f ≡ solves N f
+unfolding followed
+followed-solves N S i j l f = trim-solves (eliminate N i j) (followed-sound N S i j l) f ∙ eliminate-solves N S i j l f
+
 -- j is no longer free, and every other variable is as free as it was.
-pub free-after : (N : Network) (i j x : ℕ) → free (eliminate N i j) x ≡ and (free N x) (not (eqb x j))
-unfolding free
+pub free-after : (N : Network) (i j x : ℕ) → free (followed N i j) x ≡ and (free N x) (not (eqb x j))
+unfolding free followed followersTrimmed relisted
 free-after N i j =
     is-or-not j (λ (x : ℕ). free (eliminate N i j) x ≡ and (free N x) (not (eqb x j)))
     (led-not-free (eliminate N i j) j i (leader-j N i j) ∙ sym (ap (and (free N j)) (not-false-i _ (eq-eqb j j refl)) ∙ and-false _))

@@ -1,6 +1,7 @@
 pub mod Sound
 pub mod Pairs
 pub mod Step
+pub mod Trim
 pub mod Keep
 pub mod Substitution
 pub mod Completion
@@ -13,6 +14,7 @@ pub mod Sheet
 pub mod SheetOf
 pub mod Rules
 pub mod Sheets
+pub mod TrimmedSheets
 pub mod Lists
 pub mod Added
 pub mod Search

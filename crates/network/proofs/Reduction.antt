@@ -9,11 +9,11 @@ use Rattle.bounded.proofs.Bool.{by-cases, clash, bool-ext, not-true→false, an
 use Rattle.bounded.proofs.Fold.{some-i, some-e, first-some, first-passes, first-below, count-cong, count-le, count-split, count-without}
 use Rattle.network.specs.Network.{Network, free, solves}
 use Rattle.network.specs.Sound.{Sound}
-use Rattle.network.specs.Step.{legal, eliminate}
+use Rattle.network.specs.Step.{legal, eliminate, relisted, followersTrimmed, followed}
 use Rattle.network.specs.Reduction.{freeCount, leading, reducible, nextLeader, lowestFollower, nextFollower, advance, oneMore, runWithin, reduceWithin, reduce, Run, done, next}
 use Rattle.network.specs.Promise.{Keeps}
 use Rattle.network.proofs.Step.{Legal, legal-e}
-use Rattle.network.proofs.Keep.{eliminate-solves, eliminate-sound, free-after}
+use Rattle.network.proofs.Keep.{followed-solves, followed-sound, free-after}
 use Rattle.network.proofs.Completion.{some-free}
 
 -- A network stands for itself with nothing added.
@@ -49,25 +49,25 @@ pub keeps-trans : (N M L : Network) → Keeps N M (λ (f : ℕ → ℕ). true) �
 keeps-trans N M L a b = keeps-cong N L _ _ (λ f. and-true true) (keeps-then N M L _ _ a b)
 
 -- One legal step.
-pub step-keeps : (N : Network) → Sound N → (i j : ℕ) → legal N i j ≡ true → Keeps N (eliminate N i j) (λ (f : ℕ → ℕ). true)
-unfolding eliminate
+pub step-keeps : (N : Network) → Sound N → (i j : ℕ) → legal N i j ≡ true → Keeps N (followed N i j) (λ (f : ℕ → ℕ). true)
+unfolding eliminate relisted followersTrimmed followed
 step-keeps N s i j l =
     record {
       same-n = refl;
       same-size = λ x. refl;
-      still-sound = eliminate-sound N s i j l;
-      same-solutions = λ f. eliminate-solves N s i j l f ∙ sym (and-true (solves N f));
+      still-sound = followed-sound N s i j l;
+      same-solutions = λ f. followed-solves N s i j l f ∙ sym (and-true (solves N f));
     }
 
-pub step-count : (N : Network) → Sound N → (i j : ℕ) → legal N i j ≡ true → suc (freeCount (eliminate N i j)) ≡ freeCount N
-unfolding freeCount eliminate
+pub step-count : (N : Network) → Sound N → (i j : ℕ) → legal N i j ≡ true → suc (freeCount (followed N i j)) ≡ freeCount N
+unfolding freeCount eliminate relisted followersTrimmed followed
 step-count N s i j l =
     let g : Legal N i j = legal-e N i j l in
     ap suc (count-cong (N .n) _ _ (λ x m. free-after N i j x)) ∙ count-without (N .n) (free N) j (g .j-in) (g .j-free)
 
 pub run-keeps : {N M : Network} {k : ℕ} → Sound N → Run N M k → Keeps N M (λ (f : ℕ → ℕ). true)
 run-keeps {N} s done = keeps-refl N s
-run-keeps {N} {M} s (next i j l r) = keeps-trans N (eliminate N i j) M (step-keeps N s i j l) (run-keeps (eliminate-sound N s i j l) r)
+run-keeps {N} {M} s (next i j l r) = keeps-trans N (followed N i j) M (step-keeps N s i j l) (run-keeps (followed-sound N s i j l) r)
 
 pub run-sound : {N M : Network} {k : ℕ} → Sound N → Run N M k → Sound M
 run-sound s r = run-keeps s r .still-sound
@@ -79,12 +79,12 @@ run-solves {N} s r f = run-keeps s r .same-solutions f ∙ and-true (solves N f)
 -- No step sets a variable free.
 pub run-free : {N M : Network} {k : ℕ} → Sound N → Run N M k → (x : ℕ) → free M x ≡ true → free N x ≡ true
 run-free s done x h = h
-run-free {N} s (next i j l r) x h = and-l _ _ (sym (free-after N i j x) ∙ run-free (eliminate-sound N s i j l) r x h)
+run-free {N} s (next i j l r) x h = and-l _ _ (sym (free-after N i j x) ∙ run-free (followed-sound N s i j l) r x h)
 
 -- Each step takes one free variable.
 pub run-count : {N M : Network} {k : ℕ} → Sound N → Run N M k → freeCount M + k ≡ freeCount N
 run-count s done = omega arith
-run-count {N} s (next i j l r) = omega (arith, step-count N s i j l, run-count (eliminate-sound N s i j l) r)
+run-count {N} s (next i j l r) = omega (arith, step-count N s i j l, run-count (followed-sound N s i j l) r)
 
 -- "the number of steps, which equals the number of options that were live before and are not now,
 pub run-taken : {N M : Network} {k : ℕ} → Sound N → Run N M k → count (N .n) (λ (x : ℕ). and (free N x) (not (free M x))) ≡ k
@@ -161,7 +161,7 @@ module _ (who : Network → ℕ) where
   runWithin-stop (suc most) N h = if-false _ _ _ h
 
   pub runWithin-step : (most : ℕ) (N : Network) → leading N (who N) ≡ true
-      → runWithin who (suc most) N ≡ oneMore (runWithin who most (eliminate N (who N) (lowestFollower N (who N))))
+      → runWithin who (suc most) N ≡ oneMore (runWithin who most (followed N (who N) (lowestFollower N (who N))))
   unfolding runWithin
   runWithin-step most N h = if-true _ _ _ h
 
@@ -176,7 +176,7 @@ module _ (who : Network → ℕ) where
 
   -- keep what each of them keeps,
   pub runWithin-keeps : (P : Network → Type 0)
-      → ((M : Network) → P M → leading M (who M) ≡ true → P (eliminate M (who M) (lowestFollower M (who M))))
+      → ((M : Network) → P M → leading M (who M) ≡ true → P (followed M (who M) (lowestFollower M (who M))))
       → (most : ℕ) (N : Network) → P N → P (runWithin who most N .network)
   unfolding oneMore
   runWithin-keeps P step zero N h = rw (runWithin-zero N) h

@@ -5,36 +5,63 @@ use mathlib.Core.Path.{_≡_, sym, _∙_, ap}
 use Prim.Native.Nat.{ℕ, suc}
 use lib.Dec.{eqb}
 use borrow.Author.Tests.{eqb-true, eqb-false}
-use Rattle.bounded.proofs.Bool.{by-cases, bool-ext, implies-i, implies-e}
+use Rattle.bounded.proofs.Bool.{by-cases, clash, bool-ext, implies-i, implies-e}
 use Rattle.bounded.proofs.Fold.{is-or-not}
-use Rattle.network.specs.Network.{Network}
+use Rattle.network.specs.Network.{Network, free}
 use Rattle.network.specs.Sound.{Sound}
-use Rattle.network.specs.Step.{trimmed, third, eliminate}
+use Rattle.network.specs.Step.{legal, trimmed, third, eliminate, relisted, followersTrimmed, followed}
 use Rattle.network.specs.Rules.{Rules}
 use Rattle.network.proofs.Pairs.{pair-case}
-use Rattle.network.proofs.Step.{same-n, same-size, domain-i, domain-other, leader-j, leader-of-j, leader-other, eliminate-moves}
+use Rattle.network.proofs.Sound.{free-i, led-not-free}
+use Rattle.network.proofs.Step.{Legal, legal-e, same-n, same-size, domain-other, domain-fewer, leader-j, leader-of-j, leader-other, eliminate-moves}
 use Rattle.network.proofs.Step.{trimmed-domain, trimmed-e, trimmed-i, joined-e, joined-i, composed-e, composed-i, moved-stated-sym, moved-allows-sym}
+use Rattle.network.proofs.Trim.{trim-free, trim-led, trim-fewer, trim-keeps}
+use Rattle.network.proofs.Keep.{eliminate-trimmable, i-stays-free, leader-domain, other-domain}
 use Rattle.network.proofs.SheetOf.{network-ext}
 
-pub eliminate-rules : (N : Network) → Sound N → (i j : ℕ) → (i ≡ j → ⊥) → Rules N i j (eliminate N i j)
-eliminate-rules N S i j d =
-    let m = eliminate-moves N i j d in
+-- "A value stays in a follower's list exactly when it is the partner of a value in the leader's list."
+followed-trims : (N : Network) → Sound N → (i j : ℕ) → Legal N i j → (x b : ℕ) → eliminate N i j .leader x ≡ suc i
+    → (followed N i j .domain x b ≡ true)
+    ↔ ((N .domain x b ≡ true) × ((a : ℕ) × (followed N i j .domain i a ≡ true) × (eliminate N i j .allows i x a b ≡ true)))
+unfolding followed eliminate
+followed-trims N S i j L x b e =
+    let M = eliminate N i j in
+    let T = eliminate-trimmable N S i j L in
+    let free-i-now : free M i ≡ true = free-i M i (i-stays-free N S i j L) in
+    let other : x ≡ i → ⊥ = λ q. clash free-i-now (rw q at (led-not-free M x i e)) in (
+      λ h. (
+        domain-fewer N i j x b (trim-fewer M x b h),
+        trimmed-e M x i b (sym (trim-led M x i b e) ∙ h)
+            (λ a da ba. (a, trim-free M i a free-i-now ∙ da, T .pairs-alike i x a b ∙ ba)),
+      ),
+      λ h. let p = h .1 in
+          trim-keeps M T x i (p .0) b e (sym (trim-free M i (p .0) free-i-now) ∙ p .1)
+          (domain-other N i j x b other ∙ h .0) (p .2),
+    )
+
+pub followed-rules : (N : Network) → Sound N → (i j : ℕ) → legal N i j ≡ true → Rules N i j (followed N i j)
+unfolding followed followersTrimmed relisted
+followed-rules N S i j legal-step =
+    let L = legal-e N i j legal-step in
+    let at-i = leader-domain N S i j L in
+    let m = eliminate-moves N i j (L .distinct) in
     record {
       rule-1 =
           λ a. (
-            λ h. let t : trimmed N i j a ≡ true = sym (domain-i N i j a) ∙ h in
+            λ h. let t : trimmed N i j a ≡ true = sym (at-i a) ∙ h in
                 (trimmed-domain N i j a t, trimmed-e N i j a t (λ b db ab. (b, db, ab))),
-            λ h. domain-i N i j a ∙ trimmed-i N i j S a (h .1 .0) (h .0) (h .1 .1) (h .1 .2),
+            λ h. at-i a ∙ trimmed-i N i j S a (h .1 .0) (h .0) (h .1 .1) (h .1 .2),
           );
-      rule-1-rest = domain-other N i j;
+      rule-1-rest = other-domain N S i j L;
+      trimming = followed-trims N S i j L;
       rule-2-stated = m .stated-moved .at-ik;
       rule-2 =
           λ k a c t. (
             λ h. let e = composed-e N i j k a c _ (sym (m .allows-moved a c .at-ik k t) ∙ h) in
-                (domain-i N i j a ∙ e .0, e .1, joined-e N i j k a c (e .2) (λ b db ab bc. (b, db, ab, bc)), implies-e _ _ (e .3)),
+                (at-i a ∙ e .0, e .1, joined-e N i j k a c (e .2) (λ b db ab bc. (b, db, ab, bc)), implies-e _ _ (e .3)),
             λ h. let p = h .2 in
                 m .allows-moved a c .at-ik k t
-                ∙ composed-i N i j k a c _ (sym (domain-i N i j a) ∙ h .0) (h .1)
+                ∙ composed-i N i j k a c _ (sym (at-i a) ∙ h .0) (h .1)
                 (joined-i N i j S k a (p .0) c (p .1) (p .2) (p .3)) (implies-i _ _ (h .3)),
           );
       rule-2-side = λ k a c t. (moved-stated-sym N S i j _ _ m k i, moved-allows-sym N S i j _ _ m k i c a);
@@ -54,11 +81,8 @@ same-test a b e f = bool-ext a b (λ h. f .1 (e .0 h)) (λ h. e .1 (f .0 h))
 
 -- Two networks that the rules give are one.
 module _ (N : Network) (i j : ℕ) (M P : Network) (R : Rules N i j M) (Q : Rules N i j P) where
-  same-domain : (x a : ℕ) → M .domain x a ≡ P .domain x a
-  same-domain x a =
-      is-or-not i (λ (y : ℕ). M .domain y a ≡ P .domain y a)
-      (same-test _ _ (R .rule-1 a) (Q .rule-1 a))
-      (λ y d. R .rule-1-rest y a d ∙ sym (Q .rule-1-rest y a d)) x
+  same-list : (a : ℕ) → M .domain i a ≡ P .domain i a
+  same-list a = same-test _ _ (R .rule-1 a) (Q .rule-1 a)
 
   same-leader : (x : ℕ) → M .leader x ≡ P .leader x
   same-leader =
@@ -90,7 +114,22 @@ module _ (N : Network) (i j : ℕ) (M P : Network) (R : Rules N i j M) (Q : Rule
       (λ x y r a b. R .rule-2-rest x y a b r .1 ∙ sym (Q .rule-2-rest x y a b r .1))
     where
       ik : (k : ℕ) → third N i j k ≡ true → (a c : ℕ) → M .allows i k a c ≡ P .allows i k a c
-      ik k t a c = same-test _ _ (R .rule-2 k a c t) (rw (same-domain i a) (Q .rule-2 k a c t))
+      ik k t a c = same-test _ _ (R .rule-2 k a c t) (rw (same-list a) (Q .rule-2 k a c t))
+
+  same-domain : (x a : ℕ) → M .domain x a ≡ P .domain x a
+  same-domain x a =
+      is-or-not i (λ (y : ℕ). M .domain y a ≡ P .domain y a)
+      (same-list a)
+      (λ y d. by-cases (eqb (M .leader y) (suc i))
+      (λ t. let e = eqb-true _ _ t in
+      let e' : P .leader y ≡ suc i = sym (same-leader y) ∙ e in
+      bool-ext _ _
+      (λ h. let p = R .trimming y a e .0 h in
+      Q .trimming y a e' .1 (p .0, (p .1 .0, sym (same-list _) ∙ p .1 .1, sym (same-allows i y _ a) ∙ p .1 .2)))
+      (λ h. let p = Q .trimming y a e' .0 h in
+      R .trimming y a e .1 (p .0, (p .1 .0, same-list _ ∙ p .1 .1, same-allows i y _ a ∙ p .1 .2))))
+      (λ t. let e = eqb-false _ _ t in
+      R .rule-1-rest y a d e ∙ sym (Q .rule-1-rest y a d (λ q. e (same-leader y ∙ q))))) x
 
   pub rules-only : M ≡ P
   rules-only =

@@ -247,6 +247,7 @@ networkOf-sound s F =
       follower-stated = λ i l e. absurd (let x : ⊥ = omega arith in x);
       follower-only = λ i l k e. absurd (let x : ⊥ = omega arith in x);
       follower-one = λ i l a e. absurd (let x : ⊥ = omega arith in x);
+      follower-trimmed = λ i l b e. absurd (let x : ⊥ = omega arith in x);
     }
 
 -- "A sheet just read has full lists, no leader,

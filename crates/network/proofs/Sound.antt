@@ -1,5 +1,6 @@
 -- The test of soundness and the facts are the same, and small facts of sound networks.
 use mathlib.Core.Bool.{true, false}
+use mathlib.Core.Logic.{_↔_}
 use mathlib.Core.Path.{_≡_, refl, sym, _∙_}
 use Prim.Native.Nat.{ℕ, suc, pred, _≤_, _<_}
 use native.Mathlib.Omega.{arith}
@@ -7,10 +8,10 @@ use lib.Dec.{ltb}
 use borrow.Author.Tests.{lt-ltb, le-ltb, le-leb, eq-eqb, ne-eqb, ltb-true, ltb-false, leb-true, eqb-true, eqb-false}
 use Rattle.bounded.specs.Fold.{some, count}
 use Rattle.bounded.proofs.Bool.{by-cases, clash, bool-ext, not-true→false, and-i, and-l, and-r, implies-i, implies-e, not-i, not-e, if-true, if-false}
-use Rattle.bounded.proofs.Fold.{every-i, every-e, some-i, count-some, count-two}
+use Rattle.bounded.proofs.Fold.{every-i, every-e, some-i, some-e, count-some, count-two}
 use Rattle.network.specs.Network.{Network, free, partner}
 use Rattle.network.specs.Sound.{Sound, Bounded, countSound, sizesSound, domainsSound, pairsSound}
-use Rattle.network.specs.Sound.{rowsSound, leads, tiedTo, determines, followersSound, sound}
+use Rattle.network.specs.Sound.{rowsSound, leads, tiedTo, determines, trimmedTo, followerSound, followersSound, sound}
 
 -- A variable is free exactly when it has no leader.
 pub free-e : (N : Network) (i : ℕ) → free N i ≡ true → N .leader i ≡ 0
@@ -72,6 +73,18 @@ module _ (N : Network) (S : Sound N) where
       let within : (v : ℕ) → partner N l i a v ≡ true → v < N .size i = λ v t. S .domain-in i v (and-l _ _ t) in
       count-two (N .size i) (partner N l i a) (omega (arith, S .follower-one i l a e d)) b c (within b p) (within c q) p q
 
+  -- "A value stays in a follower's list exactly when it is the partner of a value in the leader's list."
+  pub follower-exactly : (i l b : ℕ) → N .leader i ≡ suc l → (N .domain i b ≡ true) ↔ ((a : ℕ) × (N .domain l a ≡ true) × (partner N l i a b ≡ true))
+  unfolding partner
+  follower-exactly i l b e = (
+    λ d. some-e (N .size l) _ (S .follower-trimmed i l b e d) (λ a _ p. (a, and-l _ _ p, and-i _ _ d (S .allows-sym l i a b ∙ and-r _ _ p))),
+    λ h. and-l _ _ (h .2),
+  )
+
+  -- So an empty leader's list leaves its followers' empty.
+  pub follower-empty : (i l : ℕ) → N .leader i ≡ suc l → ((a : ℕ) → N .domain l a ≡ false) → (b : ℕ) → N .domain i b ≡ false
+  follower-empty i l e h b = not-true→false _ (λ d. let p = follower-exactly i l b e .0 d in clash (p .1) (h (p .0)))
+
 -- From the test to the facts: what each sentence of the test says, of a network within the bounds.
 count-sound-e : (m w k : ℕ) (N : Network) → countSound m w k N ≡ true → (1 ≤ N .n) × (N .n ≤ m)
 unfolding countSound
@@ -117,13 +130,14 @@ module _ (m w k : ℕ) (N : Network) (B : Bounded m w N) where
       (and-l _ _ t, ltb-true _ _ (and-l _ _ within), ltb-true _ _ (and-r _ _ within), and-r _ _ (and-r _ _ t))
 
   followers-sound-e : followersSound m w k N ≡ true → (i l : ℕ) → N .leader i ≡ suc l
-      → (leads m w k N i l ≡ true) × (tiedTo m w k N i l ≡ true) × (determines m w k N i l ≡ true)
-  unfolding followersSound
+      → (leads m w k N i l ≡ true) × (tiedTo m w k N i l ≡ true) × (determines m w k N i l ≡ true) × (trimmedTo m w k N i l ≡ true)
+  unfolding followersSound followerSound
   followers-sound-e h i l e =
       by-cases (ltb i m)
       (λ t.
       let r = rw (led-pred N i l e) at (implies-e _ _ (every-e _ _ h i (ltb-true _ _ t)) (not-i _ (led-not-free N i l e))) in
-      (and-l _ _ r, and-l _ _ (and-r _ _ r), and-r _ _ (and-r _ _ r)))
+      let rest = and-r _ _ (and-r _ _ r) in
+      (and-l _ _ r, and-l _ _ (and-r _ _ r), and-l _ _ rest, and-r _ _ rest))
       (λ t. absurd (let x : ⊥ = omega (arith, B .leader-bound i (ltb-false _ _ t)) in x))
 
   leads-e : (i l : ℕ) → leads m w k N i l ≡ true → (i < N .n) × (l < N .n) × (N .leader l ≡ 0)
@@ -139,6 +153,10 @@ module _ (m w k : ℕ) (N : Network) (B : Bounded m w N) where
   determines-e : (i l : ℕ) → determines m w k N i l ≡ true → (a : ℕ) → N .domain l a ≡ true → count (N .size i) (partner N l i a) ≡ 1
   unfolding determines
   determines-e i l h a d = eqb-true _ _ (implies-e _ _ (every-e _ _ h a (B .domain-bound l a d .1)) d)
+
+  trimmed-to-e : (i l : ℕ) → trimmedTo m w k N i l ≡ true → (b : ℕ) → N .domain i b ≡ true → some (N .size l) (partner N i l b) ≡ true
+  unfolding trimmedTo
+  trimmed-to-e i l h b d = implies-e _ _ (every-e _ _ h b (B .domain-bound i b d .1)) d
 
 -- The sentences of the test.
 record Tested (m w k : ℕ) (N : Network) : Type 0 where
@@ -190,6 +208,7 @@ sound→Sound m w k N B s =
       follower-stated = λ i l e. tied-e m w k N B i l (led i l e .1) .0;
       follower-only = λ i l u e. tied-e m w k N B i l (led i l e .1) .1 u;
       follower-one = λ i l a e. determines-e m w k N B i l (led i l e .2) a;
+      follower-trimmed = λ i l b e. trimmed-to-e m w k N B i l (led i l e .3) b;
     }
 
 pub sound-n : (m w k : ℕ) (N : Network) → sound m w k N ≡ true → N .n ≤ m
@@ -261,12 +280,16 @@ module _ (m w k : ℕ) (N : Network) (S : Sound N) (below : N .n ≤ m) (within 
   unfolding determines
   determines-i i l e = every-i _ _ λ a _. implies-i _ _ λ d. eq-eqb _ _ (S .follower-one i l a e d)
 
+  trimmed-to-i : (i l : ℕ) → N .leader i ≡ suc l → trimmedTo m w k N i l ≡ true
+  unfolding trimmedTo
+  trimmed-to-i i l e = every-i _ _ λ b _. implies-i _ _ λ d. S .follower-trimmed i l b e d
+
   followers-sound-i : followersSound m w k N ≡ true
-  unfolding followersSound
+  unfolding followersSound followerSound
   followers-sound-i = every-i _ _ λ i _. implies-i _ _ λ f.
       free-or-led N i
       (λ t. clash t (not-e _ f))
-      (λ l e. rw (led-pred N i l e) (and-i _ _ (leads-i i l e) (and-i _ _ (tied-i i l e) (determines-i i l e))))
+      (λ l e. rw (led-pred N i l e) (and-i _ _ (leads-i i l e) (and-i _ _ (tied-i i l e) (and-i _ _ (determines-i i l e) (trimmed-to-i i l e)))))
 
   pub Sound→sound : sound m w k N ≡ true
   unfolding sound

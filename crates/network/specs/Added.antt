@@ -11,7 +11,7 @@ use Rattle.bounded.specs.Bool.{and, or, implies, not, if}
 use Rattle.bounded.specs.Fold.{every}
 use Rattle.words.specs.Word.{has}
 use Rattle.network.specs.Network.{Network, free, partner}
-use Rattle.network.specs.Step.{outside}
+use Rattle.network.specs.Step.{outside, followersTrimmed}
 use Rattle.network.specs.Substitution.{isPair}
 use Rattle.network.specs.Completion.{follow}
 use Rattle.network.specs.Lists.{narrowed}
@@ -72,11 +72,12 @@ module _ (N : Network) (x y : ℕ) (rows : List ℕ) where
   unfoldable pub allowsPartners : ℕ → ℕ → Bool
   allowsPartners a b = tableAllows rows (partnerIn N x a) (partnerIn N y b)
 
-  -- The network with the table added, variables counted from 0. "If they are one, its list loses the values whose partners the new table forbids."
+  -- The network with the table added, variables counted from 0. "If they are one, its list loses the values whose partners the new table forbids", and
+  -- "each added table now also trims the lists of all followers of the leader concerned" (L8). If the leaders differ no list changes.
   unfoldable pub added : Network
   added =
       if (eqb (traced N x) (traced N y))
-      (narrowed N (traced N x) (λ (a : ℕ). allowsPartners a a))
+      (followersTrimmed (narrowed N (traced N x) (λ (a : ℕ). allowsPartners a a)))
       (constrained N (traced N x) (traced N y) allowsPartners)
 
 -- The sentences, each as it stands. A number that is not "0 or above n":
@@ -136,8 +137,11 @@ pub record Adds (N : Network) (x y : ℕ) (rows : List ℕ) (p q : ℕ) (M : Net
   pub domains-stay : (p ≡ q → ⊥) → (u a : ℕ) → M .domain u a ≡ N .domain u a
   -- "If they are one, its list loses the values whose partners the new table forbids."
   pub keeps-exactly : p ≡ q → (a : ℕ) → (M .domain p a ≡ true) ↔ ((N .domain p a ≡ true) × PartnersAllowed N x y rows a a)
+  -- "A value stays in a follower's list exactly when it is the partner of a value in the leader's list."
+  pub trims-exactly : p ≡ q → (u b : ℕ) → N .leader u ≡ suc p
+      → (M .domain u b ≡ true) ↔ ((N .domain u b ≡ true) × ((a : ℕ) × (M .domain p a ≡ true) × (N .allows p u a b ≡ true)))
   -- Every other domain is as it was, and so is every pair.
-  pub other-domains : p ≡ q → (u a : ℕ) → (u ≡ p → ⊥) → M .domain u a ≡ N .domain u a
+  pub other-domains : p ≡ q → (u a : ℕ) → (u ≡ p → ⊥) → (N .leader u ≡ suc p → ⊥) → M .domain u a ≡ N .domain u a
   pub pairs-stay : p ≡ q → (u v a b : ℕ) → (M .stated u v ≡ N .stated u v) × (M .allows u v a b ≡ N .allows u v a b)
   -- Nothing else changes: no variable gets a leader.
   pub same-n : M .n ≡ N .n

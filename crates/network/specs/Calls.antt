@@ -7,7 +7,7 @@ use lib.Dec.{eqb}
 use lib.ListN.{length}
 use Rattle.bounded.specs.Bool.{and, if}
 use Rattle.network.specs.Network.{Network}
-use Rattle.network.specs.Step.{refusal, eliminate}
+use Rattle.network.specs.Step.{refusal, followed}
 use Rattle.network.specs.Reduction.{Reduced, reduce}
 use Rattle.network.specs.Sheet.{Table}
 use Rattle.network.specs.Added.{meetsTable, addRefusal, added}
@@ -25,7 +25,7 @@ refuses N (add-table x y rows) = addRefusal N x y rows
 
 -- What a call that is not refused makes, and the number of its steps.
 unfoldable pub made : Network → Call → Reduced
-made N (follow-step l f) = record { network = eliminate N (pred l) (pred f); steps = 1 }
+made N (follow-step l f) = record { network = followed N (pred l) (pred f); steps = 1 }
 made N full-reduction = reduce N
 made N (add-table x y rows) = record { network = added N (pred x) (pred y) rows; steps = 0 }
 

@@ -12,6 +12,7 @@ pub mod Calls
 pub mod Promise
 pub mod Sheet
 pub mod Sheets
+pub mod TrimmedSheets
 pub mod Lists
 pub mod Added
 pub mod Search

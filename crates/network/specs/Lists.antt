@@ -7,20 +7,12 @@ use lib.Dec.{eqb}
 use Rattle.bounded.specs.Bool.{and, if}
 use Rattle.network.specs.Network.{Network, free}
 use Rattle.network.specs.Sound.{Sound}
-use Rattle.network.specs.Step.{legal, eliminate}
+use Rattle.network.specs.Step.{legal, relisted, followersTrimmed, followed}
 use Rattle.network.specs.Sheet.{networkOf}
 
 -- N with the values of i that pass p alone.
 unfoldable pub narrowed : Network → ℕ → (ℕ → Bool) → Network
-narrowed N i p =
-    record {
-      n = N .n;
-      size = N .size;
-      domain = λ (x a : ℕ). if (eqb x i) (and (N .domain x a) (p a)) (N .domain x a);
-      leader = N .leader;
-      stated = N .stated;
-      allows = N .allows;
-    }
+narrowed N i p = relisted N (λ (x a : ℕ). if (eqb x i) (and (N .domain x a) (p a)) (N .domain x a))
 
 -- Sheet I, its one domain empty.
 unfoldable pub emptyList : Network
@@ -39,8 +31,8 @@ abbrev pub Empty : Network → ℕ → Type 0
 Empty N i = (a : ℕ) → N .domain i a ≡ false
 
 pub record ListsFree : Type 0 where
-  -- A free variable's domain may lose any values, whatever the others are.
-  pub any-part : (N : Network) → Sound N → (i : ℕ) → free N i ≡ true → (p : ℕ → Bool) → Sound (narrowed N i p)
+  -- A free variable's domain may lose any values, whatever the others are, if the domains of its followers are trimmed with it.
+  pub any-part : (N : Network) → Sound N → (i : ℕ) → free N i ≡ true → (p : ℕ → Bool) → Sound (followersTrimmed (narrowed N i p))
   -- So a domain may be short where nobody follows,
   pub short-sound : Sound shortList
   pub short-list : shortList .domain 0 1 ≡ false
@@ -50,5 +42,5 @@ pub record ListsFree : Type 0 where
   pub empty-list : Empty emptyList 0
   -- "since a step may produce one".
   pub step-legal : (Sound blankTable) × (legal blankTable 0 1 ≡ true)
-  pub step-sound : Sound (eliminate blankTable 0 1)
-  pub step-empties : Empty (eliminate blankTable 0 1) 0
+  pub step-sound : Sound (followed blankTable 0 1)
+  pub step-empties : (Empty (followed blankTable 0 1) 0) × (Empty (followed blankTable 0 1) 1)

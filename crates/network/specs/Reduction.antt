@@ -5,7 +5,7 @@ use Prim.Native.Nat.{ℕ, zero, suc}
 use Rattle.bounded.specs.Bool.{if}
 use Rattle.bounded.specs.Fold.{some, count, first}
 use Rattle.network.specs.Network.{Network, free}
-use Rattle.network.specs.Step.{legal, eliminate}
+use Rattle.network.specs.Step.{legal, followed}
 
 -- How many variables are free.
 unfoldable pub freeCount : Network → ℕ
@@ -32,7 +32,7 @@ nextFollower N = lowestFollower N (nextLeader N)
 
 -- The network with that step taken.
 unfoldable pub advance : Network → Network
-advance N = eliminate N (nextLeader N) (nextFollower N)
+advance N = followed N (nextLeader N) (nextFollower N)
 
 -- "It hands back the state and the number of steps."
 pub record Reduced : Type 0 where
@@ -47,7 +47,7 @@ unfoldable pub runWithin : (Network → ℕ) → ℕ → Network → Reduced
 runWithin who zero N = record { network = N; steps = 0 }
 runWithin who (suc most) N =
     if (leading N (who N))
-    (oneMore (runWithin who most (eliminate N (who N) (lowestFollower N (who N)))))
+    (oneMore (runWithin who most (followed N (who N) (lowestFollower N (who N)))))
     (record { network = N; steps = 0 })
 
 -- At most so many steps of the reduction: it takes "the lowest i that has a legal j".
@@ -61,4 +61,4 @@ reduce N = reduceWithin (N .n) N
 -- A run of legal steps, whichever they are, and their number: what holds of any run holds of the reduction.
 pub data Run : Network → Network → ℕ → Type 0 where
   done : {N : Network} → Run N N 0
-  next : {N M : Network} {k : ℕ} (i j : ℕ) → legal N i j ≡ true → Run (eliminate N i j) M k → Run N M (suc k)
+  next : {N M : Network} {k : ℕ} (i j : ℕ) → legal N i j ≡ true → Run (followed N i j) M k → Run N M (suc k)

@@ -1,4 +1,4 @@
--- Rules 1 to 3 as document 01 says them: what M is after the step of N in which j comes to follow i.
+-- Rules 1 to 3 as document 01 says them, and the trimming of document 02: what M is after the step of N in which j comes to follow i.
 use mathlib.Core.Bool.{true, false}
 use mathlib.Core.Logic.{_↔_}
 use mathlib.Core.Path.{_≡_}
@@ -11,8 +11,12 @@ pub record Rules (N : Network) (i j : ℕ) (M : Network) : Type 0 where
   -- 1. "The list of i loses each value that has no allowed partner in the list of j."
   pub rule-1 : (a : ℕ)
       → (M .domain i a ≡ true) ↔ ((N .domain i a ≡ true) × ((b : ℕ) × (N .domain j b ≡ true) × (N .allows i j a b ≡ true)))
-  -- No other domain changes.
-  pub rule-1-rest : (x a : ℕ) → (x ≡ i → ⊥) → M .domain x a ≡ N .domain x a
+  -- No other domain changes, but those of followers of i.
+  pub rule-1-rest : (x a : ℕ) → (x ≡ i → ⊥) → (M .leader x ≡ suc i → ⊥) → M .domain x a ≡ N .domain x a
+  -- "Each follow step .. now also trims the lists of all followers of the leader concerned, new ones included. A value stays in a follower's list exactly
+  -- when it is the partner of a value in the leader's list" (document 02).
+  pub trimming : (x b : ℕ) → M .leader x ≡ suc i
+      → (M .domain x b ≡ true) ↔ ((N .domain x b ≡ true) × ((a : ℕ) × (M .domain i a ≡ true) × (M .allows i x a b ≡ true)))
   -- 2. "For each third option k stated with j, the pair i, k becomes stated. It allows (a, c) exactly when a is in the new list of i,
   -- c is in the list of k, some b in the list of j goes with both, and, if i, k was stated before, it allowed (a, c) before."
   pub rule-2-stated : (k : ℕ) → third N i j k ≡ true → M .stated i k ≡ true

@@ -4,7 +4,7 @@ use mathlib.Core.Path.{_≡_}
 use Prim.Native.Nat.{ℕ, suc, pred, _≤_, _<_}
 use lib.Dec.{eqb, leb, ltb}
 use Rattle.bounded.specs.Bool.{and, implies, not, if}
-use Rattle.bounded.specs.Fold.{every, count}
+use Rattle.bounded.specs.Fold.{every, some, count}
 use Rattle.network.specs.Network.{Network, free, partner}
 
 pub record Sound (N : Network) : Type 0 where
@@ -23,6 +23,8 @@ pub record Sound (N : Network) : Type 0 where
   pub follower-stated : (i l : ℕ) → N .leader i ≡ suc l → N .stated i l ≡ true
   pub follower-only : (i l k : ℕ) → N .leader i ≡ suc l → N .stated i k ≡ true → k ≡ l
   pub follower-one : (i l a : ℕ) → N .leader i ≡ suc l → N .domain l a ≡ true → count (N .size i) (partner N l i a) ≡ 1
+  -- "A value stays in a follower's list exactly when it is the partner of a value in the leader's list" (document 02).
+  pub follower-trimmed : (i l b : ℕ) → N .leader i ≡ suc l → N .domain i b ≡ true → some (N .size l) (partner N i l b) ≡ true
 
 -- What arrays for m variables, with words of w bits, can hold: nothing stands at a variable m or above, nor at a bit w or above. A bit of `stated` is a
 -- variable's, and may be any below w.
@@ -76,11 +78,16 @@ module _ (m w k : ℕ) (N : Network) where
   unfoldable pub determines : ℕ → ℕ → Bool
   determines i l = every w (λ (a : ℕ). implies (N .domain l a) (eqb (count (N .size i) (partner N l i a)) 1))
 
+  -- "A value stays in a follower's list exactly when it is the partner of a value in the leader's list" (document 02): each has such a value.
+  unfoldable pub trimmedTo : ℕ → ℕ → Bool
+  trimmedTo i l = every w (λ (b : ℕ). implies (N .domain i b) (some (N .size l) (partner N i l b)))
+
+  -- What is asked of a follower i of l.
+  unfoldable pub followerSound : ℕ → ℕ → Bool
+  followerSound i l = and (leads i l) (and (tiedTo i l) (and (determines i l) (trimmedTo i l)))
+
   unfoldable pub followersSound : Bool
-  followersSound =
-      every m (λ (i : ℕ).
-      implies (not (free N i))
-      (and (leads i (pred (N .leader i))) (and (tiedTo i (pred (N .leader i))) (determines i (pred (N .leader i))))))
+  followersSound = every m (λ (i : ℕ). implies (not (free N i)) (followerSound i (pred (N .leader i))))
 
   unfoldable pub sound : Bool
   sound = and countSound (and sizesSound (and domainsSound (and pairsSound (and rowsSound followersSound))))

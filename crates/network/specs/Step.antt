@@ -1,6 +1,7 @@
--- One follow step: j is to follow i. The refusals, decided here once, and the rules 1 to 3.
+-- One follow step: j is to follow i. The refusals, decided here once, the rules 1 to 3, and the trimming of followers' lists.
 use mathlib.Core.Bool.{Bool, true, false}
-use Prim.Native.Nat.{ℕ, suc, pred}
+use mathlib.Core.Path.{_≡_}
+use Prim.Native.Nat.{ℕ, suc, pred, _<_}
 use lib.Dec.{eqb, ltb}
 use Rattle.bounded.specs.Bool.{and, or, implies, not, if}
 use Rattle.bounded.specs.Fold.{some}
@@ -42,7 +43,7 @@ module _ (N : Network) (i j : ℕ) where
   unfoldable pub composed : ℕ → ℕ → ℕ → Bool → Bool
   composed k a c before = and (and (trimmed a) (N .domain k c)) (and (joined k a c) before)
 
-  -- The step. "The pair i, k becomes stated .. The pair j, k is then unstated and allows nothing."
+  -- Rules 1 to 3. "The pair i, k becomes stated .. The pair j, k is then unstated and allows nothing."
   -- Rule 3: "Followers of j get i as leader, and so does j."
   unfoldable pub eliminate : Network
   eliminate =
@@ -61,3 +62,31 @@ module _ (N : Network) (i j : ℕ) where
             (if (and (eqb y i) (third x)) (composed x b a (implies (N .stated x y) (N .allows x y a b)))
             (if (or (and (eqb x j) (third y)) (and (eqb y j) (third x))) false (N .allows x y a b)));
       }
+
+-- N with other domains.
+unfoldable pub relisted : Network → (ℕ → ℕ → Bool) → Network
+relisted N D =
+    record {
+      n = N .n;
+      size = N .size;
+      domain = D;
+      leader = N .leader;
+      stated = N .stated;
+      allows = N .allows;
+    }
+
+-- "trims the lists of all followers .. A value stays in a follower's list exactly when it is the partner of a value in the leader's list"
+-- (document 02): rule 1, with the follower in the place of i and its leader in that of j.
+unfoldable pub followersTrimmed : Network → Network
+followersTrimmed N = relisted N (λ (x b : ℕ). if (free N x) (N .domain x b) (trimmed N x (pred (N .leader x)) b))
+
+-- What the trimming asks of a network, sound or on the way between two that are: each follower's list can be trimmed by itself, in any order.
+pub record Trimmable (M : Network) : Type 0 where
+  pub values-in : (x a : ℕ) → M .domain x a ≡ true → a < M .size x
+  pub pairs-alike : (x y a b : ℕ) → M .allows x y a b ≡ M .allows y x b a
+  pub leaders-free : (x l : ℕ) → M .leader x ≡ suc l → (l < M .n) × (M .leader l ≡ 0)
+
+-- The whole step: "Each follow step .. now also trims the lists of all followers of the leader concerned, new ones included" (document 02). Followers of
+-- other leaders are trimmed already where N is sound.
+unfoldable pub followed : Network → ℕ → ℕ → Network
+followed N i j = followersTrimmed (eliminate N i j)

@@ -8,15 +8,15 @@ use lib.Dec.{eqb, ltb}
 use lib.ListN.{getD}
 use borrow.Author.Tests.{lt-ltb, le-leb, eq-eqb, ne-eqb, ltb-true, ltb-false, leb-true, eqb-true, eqb-false}
 use Rattle.bounded.specs.Bool.{and, not}
-use Rattle.bounded.specs.Fold.{count}
+use Rattle.bounded.specs.Fold.{some, count}
 use Rattle.bounded.proofs.Array.{array-past}
 use Rattle.bounded.proofs.Bool.{by-cases, clash, bool-ext, not-true→false, and-i, and-l, and-r, implies-i, implies-e, not-i, not-e, if-true, if-false}
-use Rattle.bounded.proofs.Fold.{every-i, every-e, count-widen}
+use Rattle.bounded.proofs.Fold.{every-i, every-e, some-i, some-e, count-widen}
 use Rattle.words.specs.Word.{width, has, word}
 use Rattle.words.proofs.Laws.{has-word, has-zero, is-word, word-widen, empty}
 use Rattle.network.specs.Network.{partner}
 use Rattle.network.specs.Sound.{Sound}
-use Rattle.pairs.specs.Pairs.{variables, slot, rowAt, allowsOf, partnersAt, partnersWithin}
+use Rattle.pairs.specs.Pairs.{variables, slot, rowAt, allowsOf, partnersOf, partnersAt, partnersWithin}
 use Rattle.pairs.proofs.Places.{Placed, placed, every-place, slot-before, slot-after}
 use Rattle.pairs.proofs.Laws.{Inside, allows-up, allows-inside, allows-apart, allows-alike}
 use Rattle.head.specs.declared.Head.{Head}
@@ -25,7 +25,7 @@ use Rattle.head.proofs.Held.{held-bounded, held-sound, held-n, held-size, sound
 use Rattle.soundness_head.specs.Fits.{sizeFits, sizesFit, within, domainsFit, statedWith, variableFits, pairsFit, headFits}
 use Rattle.soundness_head.proofs.Tests.{size-e, size-past-e, size-le}
 use Rattle.soundness_rows.specs.Fits.{pastFits, constraintFits, pairRowsFit, lowerRowsFit, rowsFit}
-use Rattle.soundness.specs.Parts.{followerFits, freeOrFits, followersFit, partsFit}
+use Rattle.soundness.specs.Parts.{trimmedTo, followerFits, freeOrFits, followersFit, partsFit}
 use Rattle.soundness.proofs.Joins.{join-i, join-e, join-empty-e, join-empty-i}
 
 -- A word within k has its members below k.
@@ -130,6 +130,20 @@ module _ (h : Head) (A : HeadShaped h) where
         count-widen (getD (h .sizes) i 0) width _ (omega arith)
         (λ b m. not-true→false _ (λ t. let x : ⊥ = omega (arith, d b (and-l _ _ t)) in x))
 
+    -- A partner of the leader's list is one of a value in it.
+    partners-some : {B : Type 0} (i l b : ℕ) → b < width → has (partnersOf width rows l i (getD (h .domains) l 0)) b ≡ true
+        → ((a : ℕ) → partner (held h rows) i l b a ≡ true → B) → B
+    unfolding partnersOf partner held
+    partners-some i l b k t f =
+        some-e width _ (sym (has-word width _ b k) ∙ t)
+        (λ a _ m. f a (and-i _ _ (and-l _ _ m) (allows-alike width rows i l b a ∙ and-r _ _ m)))
+
+    partners-i : (i l b a : ℕ) → b < width → a < width → partner (held h rows) i l b a ≡ true
+        → has (partnersOf width rows l i (getD (h .domains) l 0)) b ≡ true
+    unfolding partnersOf partner held
+    partners-i i l b a k m t =
+        has-word width _ b k ∙ some-i width _ a m (and-i _ _ (and-l _ _ t) (sym (allows-alike width rows i l b a) ∙ and-r _ _ t))
+
     module _ (F : followersFit h rows ≡ true) where
       led-e : (i l : ℕ) → getD (h .leaders) i 0 ≡ suc l → followerFits (h .n) (h .domains) (h .leaders) rows i (getD (h .stated) i 0) l ≡ true
       unfolding followersFit freeOrFits
@@ -143,12 +157,14 @@ module _ (h : Head) (A : HeadShaped h) where
       follower-e : (i l : ℕ) → getD (h .leaders) i 0 ≡ suc l
           → (l < h .n) × (getD (h .leaders) l 0 ≡ 0) × (getD (h .stated) i 0 ≡ word width (λ (u : ℕ). eqb u l))
           × (partnersWithin width rows l i (getD (h .domains) l 0) (getD (h .domains) i 0) 1 1 ≡ true)
+          × (trimmedTo rows i l (getD (h .domains) i 0) (getD (h .domains) l 0) ≡ true)
       unfolding followerFits
       follower-e i l e =
           let t = led-e i l e in
           let u = and-r _ _ t in
           let v = and-r _ _ u in
-          (ltb-true _ _ (and-l _ _ t), eqb-true _ _ (and-l _ _ u), eqb-true _ _ (and-l _ _ v), and-r _ _ v)
+          let w = and-r _ _ v in
+          (ltb-true _ _ (and-l _ _ t), eqb-true _ _ (and-l _ _ u), eqb-true _ _ (and-l _ _ v), and-l _ _ w, and-r _ _ w)
 
       tied-e : (i l : ℕ) → h .n ≤ variables → getD (h .leaders) i 0 ≡ suc l → has (getD (h .stated) i 0) l ≡ true
       tied-e i l b e =
@@ -168,6 +184,15 @@ module _ (h : Head) (A : HeadShaped h) where
           let least : 1 ≤ partnersAt width rows l i (getD (h .domains) i 0) a = leb-true _ _ (and-l _ _ t) in
           let most : partnersAt width rows l i (getD (h .domains) i 0) a ≤ 1 = leb-true _ _ (and-r _ _ t) in
           omega (arith, partners-e i l a le (domain-e D i))
+
+      -- A value of the follower is the partner of one of the leader.
+      trimmed-e : (i l b : ℕ) → domainsFit (h .sizes) (h .domains) ≡ true → getD (h .leaders) i 0 ≡ suc l
+          → has (getD (h .domains) i 0) b ≡ true → some (getD (h .sizes) l 0) (partner (held h rows) i l b) ≡ true
+      unfolding trimmedTo partner held
+      trimmed-e i l b D e d =
+          let k = held-bounded h rows A .domain-bound i b d .1 in
+          partners-some i l b k (implies-e _ _ (every-e width _ (follower-e i l e .4) b k) d) (λ a m.
+          some-i (getD (h .sizes) l 0) _ a (domain-e D l a (and-l _ _ m)) m)
 
     fit-sound : partsFit h rows ≡ true → soundIn h rows ≡ true
     unfolding partsFit headFits held
@@ -205,6 +230,7 @@ module _ (h : Head) (A : HeadShaped h) where
           follower-stated = λ i l e. tied-e F i l most e;
           follower-only = only-e F;
           follower-one = λ i l a e. one-e F i l a (size-le h A most S i) D e;
+          follower-trimmed = λ i l b. trimmed-e F i l b D;
         })
         most
         (size-le h A most S)
@@ -263,16 +289,18 @@ module _ (h : Head) (A : HeadShaped h) where
           clash (sym (S .stated-sym i j) ∙ S .allows-stated i j k v (row k v l b t)) s))))
 
       follower-i : (i l : ℕ) → getD (h .leaders) i 0 ≡ suc l → followerFits (h .n) (h .domains) (h .leaders) rows i (getD (h .stated) i 0) l ≡ true
-      unfolding followerFits partnersWithin held
+      unfolding followerFits trimmedTo partnersWithin held
       follower-i i l e =
           and-i _ _ (lt-ltb _ _ (S .leader-free i l e .0))
           (and-i _ _ (eq-eqb _ _ (S .leader-free i l e .1))
           (and-i _ _ (eq-eqb _ _ (is-word width _ _ (A .stated-array .element-lt i)
           (λ k _. bool-ext _ _ (λ s. eq-eqb _ _ (S .follower-only i l k e s)) (λ q. rw (eqb-true k l q) (S .follower-stated i l e)))))
-          (every-i width _ λ a la. implies-i _ _ λ d.
+          (and-i _ _ (every-i width _ λ a la. implies-i _ _ λ d.
           let k = partnersAt width rows l i (getD (h .domains) i 0) a in
           let one : k ≡ 1 = partners-e i l a (le i) (S .domain-in i) ∙ S .follower-one i l a e d in
-          and-i _ _ (le-leb 1 k (omega arith)) (le-leb k 1 (omega arith)))))
+          and-i _ _ (le-leb 1 k (omega arith)) (le-leb k 1 (omega arith)))
+          (every-i width _ λ b lb. implies-i _ _ λ d. some-e (getD (h .sizes) l 0) _ (S .follower-trimmed i l b e d)
+          (λ a la m. partners-i i l b a lb (omega (arith, le l)) m)))))
 
       followers-i : followersFit h rows ≡ true
       unfolding followersFit freeOrFits

@@ -12,7 +12,15 @@ ghost use lib.ListN.{getD};
 ghost use Rattle.words.specs.Word.{has};
 ghost use Rattle.pairs.specs.Pairs.{variables};
 ghost use Rattle.head.specs.Held.{soundIn};
-ghost use Rattle.soundness.specs.Parts.{followerFits, freeOrFits, followersFit};
+ghost use Rattle.soundness.specs.Parts.{trimmedTo, followerFits, freeOrFits, followersFit};
+
+// `di` and `dl` are the lists of `i` and of its leader `l`: no value of the first that is not the partner of one of the second.
+fn trimmed_to(rows: &Rows, i: usize, l: usize, di: u32, dl: u32) -> bool
+    requires { ⌜ (i < variables) × (l < variables) × (l ≡ i → ⊥) ⌝ }
+    ensures { λ r. ⌜ r ≡ trimmedTo (now (rows .entry)) i l di dl ⌝ }
+{
+    words::both(di, pairs_read::partners(rows, l, i, dl)) == di
+}
 
 // `i` follows `l`; `stated` is the word of `i`.
 fn follower_sound(
@@ -36,7 +44,12 @@ fn follower_sound(
     if stated != words::single(l) {
         return false;
     }
-    pairs_read::partners_within(rows, l, i, domains[l], domains[i], 1, 1)
+    let di = domains[i];
+    let dl = domains[l];
+    if !pairs_read::partners_within(rows, l, i, dl, di, 1, 1) {
+        return false;
+    }
+    trimmed_to(rows, i, l, di, dl)
 }
 
 // A variable is free or follows another.

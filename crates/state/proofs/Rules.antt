@@ -3,13 +3,12 @@ use mathlib.Core.Bool.{true}
 use mathlib.Core.Path.{_≡_, sym, ap, _∙_}
 use Prim.Native.Nat.{ℕ, pred}
 use borrow.Author.Tests.{eq-eqb}
-use Rattle.network.specs.Step.{legal, eliminate}
+use Rattle.network.specs.Step.{legal, followed}
 use Rattle.network.specs.Rules.{Rules}
 use Rattle.network.specs.Calls.{follow-step}
 use Rattle.network.proofs.Calls.{not-refused-legal}
-use Rattle.network.proofs.Rules.{eliminate-rules}
-use Rattle.network.proofs.Step.{legal-e}
-use Rattle.step_reduce.proofs.Reducing.{eliminated-packed}
+use Rattle.network.proofs.Rules.{followed-rules}
+use Rattle.step_reduce.proofs.Reducing.{followed-packed}
 use Rattle.state.specs.declared.state.State.{State}
 use Rattle.state.specs.View.{Shaped, view}
 use Rattle.state.specs.Answers.{Told}
@@ -28,9 +27,9 @@ module _ (s : State) (l f : ℕ) where
   legal-rules h e =
       let t = taken-sound s (follow-step l f) e in
       let L = taken-legal e in
-      let same : view (stepped s l f .state) ≡ eliminate (view s) (pred l) (pred f) =
-      ap (λ (a : Told). view (a .state)) (stepped-taken s l f e) ∙ packed-view (eliminated-packed _ _ (h .head-shaped) t (pred l) (pred f) L) in
-      rw same (eliminate-rules (view s) (state-sound s h t) (pred l) (pred f) (legal-e (view s) (pred l) (pred f) L .distinct))
+      let same : view (stepped s l f .state) ≡ followed (view s) (pred l) (pred f) =
+      ap (λ (a : Told). view (a .state)) (stepped-taken s l f e) ∙ packed-view (followed-packed _ _ (h .head-shaped) t (pred l) (pred f) L) in
+      rw same (followed-rules (view s) (state-sound s h t) (pred l) (pred f) L)
 
 pub step-rules : StepsByRules
 unfolding StepsByRules

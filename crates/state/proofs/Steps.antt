@@ -12,7 +12,7 @@ use Rattle.cause.proofs.Laws.{number-positive}
 use Rattle.cause.specs.Number.{numberOf}
 use Rattle.cause.specs.declared.Cause.{Cause}
 use Rattle.network.specs.Network.{Network, free}
-use Rattle.network.specs.Step.{refusal, eliminate}
+use Rattle.network.specs.Step.{refusal, followed}
 use Rattle.network.specs.Reduction.{freeCount, reducible, reduce}
 use Rattle.network.specs.Calls.{follow-step, full-reduction, refuses, made, tablesOf}
 use Rattle.network.proofs.Reduction.{reduce-count, reduce-taken, reduce-most, reduce-stops}
@@ -35,7 +35,7 @@ module _ (s : State) (l f : ℕ) where
   unfolding refuses
   sound-step t = call-sound s (follow-step l f) t
 
-  pub stepped-taken : stepRefusal s l f ≡ 0 → stepped s l f ≡ record { number = 0; state = pack (eliminate (view s) (pred l) (pred f)); steps = 1 }
+  pub stepped-taken : stepRefusal s l f ≡ 0 → stepped s l f ≡ record { number = 0; state = pack (followed (view s) (pred l) (pred f)); steps = 1 }
   unfolding made
   stepped-taken e = call-taken s (follow-step l f) e
 

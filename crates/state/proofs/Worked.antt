@@ -5,7 +5,7 @@ use mathlib.Core.Path.{_≡_, sym, ap, ap₂, _∙_}
 use Prim.Native.Nat.{ℕ, pred, _-_, _≤_}
 use native.Mathlib.Numerals.{sub-one}
 use Rattle.cause.specs.declared.Cause.the-variants as cause
-use Rattle.network.specs.Step.{legal, eliminate}
+use Rattle.network.specs.Step.{legal, followed}
 use Rattle.network.specs.Reduction.{reduce}
 use Rattle.network.proofs.Step.{refusal-0, legal-i}
 use Rattle.answers.specs.declared.Outcome.{Outcome}
@@ -25,7 +25,7 @@ use Rattle.state.proofs.Calls.{taken-sound}
 use Rattle.state.proofs.Steps.{sound-step, stepped-taken, reduced-refused}
 
 -- What a step leaves is the state of the network after it.
-pub step-state : {h r : Head} {before after : List ℕ} {i j : ℕ} → Stepped h before i j r after → stateOf r after ≡ pack (eliminate (held h before) i j)
+pub step-state : {h r : Head} {before after : List ℕ} {i j : ℕ} → Stepped h before i j r after → stateOf r after ≡ pack (followed (held h before) i j)
 unfolding pack
 step-state S = λ z. stateOf (S .head-is z) (S .rows-are z)
 
@@ -53,13 +53,13 @@ not-refused-step {s} {l} {f} e q =
       is-legal = rw (sub-one l, sub-one f) (legal-i (view s) (pred l) (pred f) (both .2));
     }
 
-pub step-told : {s : State} {l f : ℕ} {o : Outcome} {r : State} → StepTaken s l f → o ≡ outcome.Done → r ≡ pack (eliminate (view s) (l - 1) (f - 1))
+pub step-told : {s : State} {l f : ℕ} {o : Outcome} {r : State} → StepTaken s l f → o ≡ outcome.Done → r ≡ pack (followed (view s) (l - 1) (f - 1))
     → record { number = outcomeNumber o; state = r; steps = 1 } ≡ stepped s l f
 unfolding outcomeNumber
 step-told {s} {l} {f} T e p =
     (λ z. record {
       number = ap outcomeNumber e z;
-      state = (p ∙ ap₂ (λ (x y : ℕ). pack (eliminate (view s) x y)) (sub-one l) (sub-one f)) z;
+      state = (p ∙ ap₂ (λ (x y : ℕ). pack (followed (view s) x y)) (sub-one l) (sub-one f)) z;
       steps = 1;
     })
     ∙ sym (stepped-taken s l f (T .number-0))

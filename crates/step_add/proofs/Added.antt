@@ -1,25 +1,31 @@
 -- The table added on a head and rows is the table added on the network that they hold.
 use mathlib.Core.Bool.{Bool, true}
 use mathlib.Core.List.{List}
-use mathlib.Core.Path.{_≡_, sym, ap, _∙_}
-use Prim.Native.Nat.{ℕ, suc, _<_}
+use mathlib.Core.Path.{_≡_, refl, sym, ap, _∙_}
+use Prim.Native.Nat.{ℕ, suc, _≤_, _<_}
 use native.Mathlib.Omega.{arith}
 use lib.Dec.{eqb}
 use lib.ListN.{length, getD, set}
 use Rattle.bounded.specs.Bool.{or}
+use Rattle.bounded.specs.Table.{tabulate}
 use Rattle.words.specs.Word.{width, has, word}
 use Rattle.words.proofs.Laws.{word-cong}
 use Rattle.network.specs.Network.{Network, free}
-use Rattle.network.specs.Sound.{Sound}
+use Rattle.network.specs.Sound.{Sound, Bounded}
+use Rattle.network.specs.Step.{relisted, followersTrimmed, Trimmable}
 use Rattle.network.specs.Lists.{narrowed}
 use Rattle.network.specs.Added.{traced, addRefusal, constrained, allowsPartners, added}
+use Rattle.network.proofs.Trim.{relisted-trimmable, relisted-bounded}
+use Rattle.network.proofs.Lists.{narrowed-fewer, narrowed-led, lists-free}
 use Rattle.network.proofs.Added.{traced-free, traced-in, traced-is-free}
 use Rattle.network.proofs.Added.{added-one, added-two, add-refuses, not-refused}
 use Rattle.pairs.specs.Pairs.{variables, rowsOf}
 use Rattle.pairs.specs.Frames.{Stored}
 use Rattle.head.specs.declared.Head.{Head}
-use Rattle.head.specs.Held.{HeadShaped, RowsShaped, held, headOf, soundIn}
-use Rattle.head.proofs.Held.{rows-of-held, held-sound, held-n}
+use Rattle.head.specs.Held.{mostValues, HeadShaped, RowsShaped, held, headOf, soundIn}
+use Rattle.head.proofs.Held.{rows-of-held, held-sound, held-n, held-size}
+use Rattle.step_trim.specs.Trimmed.{Led, trimmedAt}
+use Rattle.step_trim.proofs.Trimmed.{leaders-led, network-trimmed}
 use Rattle.step_sides.specs.declared.sides.Side.{Side}
 use Rattle.step_sides.specs.Sides.{leaderOf, sideOf, Apart, PartnersIn, cutAt, keptAt}
 use Rattle.step_sides.specs.Turned.{Turns}
@@ -74,19 +80,61 @@ module _ {h : Head} {rows : List ℕ} {x y : ℕ} {table : List ℕ} (G : Given 
       → AddedTo h rows x y table r after
   made M e he re = record { head-is = he ∙ ap headOf (sym e); rows-are = re ∙ ap (λ (K : Network). rowsOf width (K .allows)) (sym e) }
 
-  -- One leader: its domain keeps what the table allows.
+  -- One leader: its domain keeps what the table allows. With its followers' untrimmed the network is not sound; it fits the arrays and can be trimmed.
+  abbrev cut-list : Network
+  cut-list = narrowed (held h rows) (traced (held h rows) x) (λ (a : ℕ). allowsPartners (held h rows) x y table a a)
+
+  leads-free : free (held h rows) (traced (held h rows) x) ≡ true
+  leads-free = traced-is-free (held h rows) S x
+
+  few : held h rows .n ≤ variables
+  unfolding held
+  few = held-n h rows (G .is-sound)
+
+  small : (z : ℕ) → held h rows .size z ≤ mostValues
+  unfolding held
+  small = held-size h rows (G .shaped) (G .is-sound)
+
+  fits : Bounded variables width cut-list
+  unfolding narrowed relisted
+  fits =
+      relisted-bounded (held h rows) S (cut-list .domain) (narrowed-fewer (held h rows) _ _) (narrowed-led (held h rows) _ _ leads-free)
+      variables width few (omega (arith, few)) small
+
+  can : Trimmable cut-list
+  unfolding narrowed relisted
+  can = relisted-trimmable (held h rows) S (cut-list .domain) (narrowed-fewer (held h rows) _ _) (narrowed-led (held h rows) _ _ leads-free)
+
+  sound-trimmed : Sound (followersTrimmed cut-list)
+  sound-trimmed = lists-free .any-part (held h rows) S (traced (held h rows) x) leads-free _
+
+  cut-rows : rows ≡ rowsOf width (cut-list .allows)
+  unfolding narrowed relisted
+  cut-rows = sym (rows-of-held h rows (G .rows-shaped))
+
+  list-trimmed : {r : Head} {short : List ℕ} → r ≡ headOf cut-list → short ≡ tabulate variables (trimmedAt width rows (r .domains) (r .leaders))
+      → record { n = r .n; sizes = r .sizes; domains = short; leaders = r .leaders; stated = r .stated } ≡ headOf (followersTrimmed cut-list)
+  unfolding narrowed relisted
+  list-trimmed e = network-trimmed cut-list fits can sound-trimmed few small e cut-rows
+
+  -- Each leader is a variable that the arrays have.
+  pub leaders-in : Led (h .leaders)
+  unfolding held
+  leaders-in = leaders-led h rows (G .shaped) (record { values-in = S .domain-in; pairs-alike = S .allows-sym; leaders-free = S .leader-free }) few
+
   abbrev Trims : Side → Side → Type 0
   Trims s r =
-      (k : ℕ) → s .leader ≡ r .leader → k ≡ word width (keptAt width rows table s r)
-      → AddedTo h rows x y table (record { n = h .n; sizes = h .sizes; domains = set (h .domains) (s .leader) k; leaders = h .leaders; stated = h .stated }) rows
+      (k : ℕ) (short : List ℕ) → s .leader ≡ r .leader → k ≡ word width (keptAt width rows table s r)
+      → short ≡ tabulate variables (trimmedAt width rows (set (h .domains) (s .leader) k) (h .leaders))
+      → AddedTo h rows x y table (record { n = h .n; sizes = h .sizes; domains = short; leaders = h .leaders; stated = h .stated }) rows
 
   trims : Trims (sideOf h x) (sideOf h y)
-  unfolding sideOf leaderOf traced free held narrowed
-  trims k e ke =
-      made (narrowed (held h rows) (traced (held h rows) x) (λ (a : ℕ). allowsPartners (held h rows) x y table a a)) (added-one (held h rows) x y table e)
-      (narrowed-head h rows (G .shaped) _ _ _ (first-in .1)
-      (ke ∙ word-cong width _ _ (λ a _. kept-is h rows (G .shaped) (G .is-sound) x y table a e)))
-      (sym (rows-of-held h rows (G .rows-shaped)))
+  unfolding sideOf leaderOf traced free held
+  trims k short e ke q =
+      made (followersTrimmed cut-list) (added-one (held h rows) x y table e)
+      (list-trimmed (narrowed-head h rows (G .shaped) _ _ _ (first-in .1)
+      (ke ∙ word-cong width _ _ (λ a _. kept-is h rows (G .shaped) (G .is-sound) x y table a e))) q)
+      (cut-rows ∙ unfold followersTrimmed relisted in refl)
 
   -- Two: their pair is stated, and cut.
   abbrev Cuts : Side → Side → Bool → (one two u v : ℕ) → List ℕ → Type 0

@@ -18,6 +18,7 @@ use Rattle.bounded.proofs.Table.{is-table, getD-set}
 use Rattle.words.specs.Word.{width, has, word}
 use Rattle.words.proofs.Laws.{has-word, has-ruled, is-word, word-cong, word-lt}
 use Rattle.network.specs.Network.{Network}
+use Rattle.network.specs.Step.{relisted}
 use Rattle.network.specs.Lists.{narrowed}
 use Rattle.network.specs.Added.{cutPair, constrained}
 use Rattle.network.proofs.Lists.{narrowed-i, narrowed-other}
@@ -65,7 +66,7 @@ module _ (h : Head) (rows : List ℕ) (S : HeadShaped h) where
   pub narrowed-head : (p x : ℕ) (r : ℕ → Bool) → p < variables → x ≡ word width (λ (a : ℕ). and (held h rows .domain p a) (r a))
       → record { n = h .n; sizes = h .sizes; domains = set (h .domains) p x; leaders = h .leaders; stated = h .stated }
       ≡ headOf (narrowed (held h rows) p r)
-  unfolding held headOf narrowed
+  unfolding held headOf narrowed relisted
   narrowed-head p x r b e =
       λ i.
       record {

@@ -5,6 +5,7 @@ use step_sides::Side;
 use step_sides::reach;
 use step_sides::side_of;
 use step_sides::turned;
+use step_trim::trim_followers;
 use words::WIDTH;
 use words::both;
 use words::either;
@@ -90,7 +91,8 @@ fn kept(rows: &Rows, table: &[u32], first: Side, second: Side) -> u32
     members
 }
 
-// Adds the table of `x` and `y`, counted from 0. With one leader its domain is trimmed; else the pair of the two is stated and cut, where its rows are.
+// Adds the table of `x` and `y`, counted from 0. With one leader its domain is trimmed, and so are those of its followers; else the pair of the two is stated
+// and cut, where its rows are.
 pub fn add(mut head: Head, rows: &mut Rows, x: usize, y: usize, table: &[u32]) -> Head
     requires { ⌜ (soundIn head (now rows) ≡ true) × RowsShaped (now rows) × (addRefusal (held head (now rows)) (suc x) (suc y) (now table) ≡ 0) ⌝ }
     ensures { λ r. ⌜ AddedTo head (now (rows .entry)) x y (now (table .entry)) r (now (rows .exit)) ⌝ }
@@ -100,7 +102,11 @@ pub fn add(mut head: Head, rows: &mut Rows, x: usize, y: usize, table: &[u32]) -
     let p = first.leader;
     let q = second.leader;
     if p == q {
-        head.domains[p] = kept(rows, table, first, second);
+        let mut domains = head.domains;
+        let leaders = head.leaders;
+        domains[p] = kept(rows, table, first, second);
+        let short = trim_followers(rows, domains, leaders);
+        head.domains = short;
         return head;
     }
     let mut stated = head.stated;

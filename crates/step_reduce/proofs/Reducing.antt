@@ -8,7 +8,7 @@ use Rattle.bounded.proofs.Bool.{by-cases, not-true→false, if-true, if-false}
 use Rattle.bounded.proofs.Fold.{count-le}
 use Rattle.words.specs.Word.{width}
 use Rattle.network.specs.Network.{Network}
-use Rattle.network.specs.Step.{legal, eliminate}
+use Rattle.network.specs.Step.{legal, followed}
 use Rattle.network.specs.Reduction.{Reduced, freeCount, leading, lowestFollower, oneMore, runWithin, reduceWithin, reduce}
 use Rattle.network.proofs.Reduction.{step-keeps, step-count, follower-legal, runWithin-step, runWithin-stop}
 use Rattle.pairs.specs.Pairs.{variables, rowsOf}
@@ -23,9 +23,9 @@ use Rattle.step_reduce.specs.declared.Reduction.{Reduction}
 use Rattle.step_reduce.specs.Reduced.{RanTo, ReducedTo}
 
 -- A head and rows hold what a legal step makes of a sound network.
-pub eliminated-packed : (h : Head) (rows : List ℕ) → HeadShaped h → soundIn h rows ≡ true → (i j : ℕ) → legal (held h rows) i j ≡ true
-    → Packed (eliminate (held h rows) i j)
-eliminated-packed h rows S t i j l = kept-packed rows S t _ (step-keeps (held h rows) (held-sound h rows S t) i j l)
+pub followed-packed : (h : Head) (rows : List ℕ) → HeadShaped h → soundIn h rows ≡ true → (i j : ℕ) → legal (held h rows) i j ≡ true
+    → Packed (followed (held h rows) i j)
+followed-packed h rows S t i j l = kept-packed rows S t _ (step-keeps (held h rows) (held-sound h rows S t) i j l)
 
 -- What a search that finds a follower of the leader who is to take one, or none, says.
 module _ (who : Network → ℕ) (N : Network) where
@@ -49,10 +49,10 @@ module _ (who : Network → ℕ) (N : Network) where
       let p = found-next i j e in
       subst₂ (λ (x y : ℕ). legal N x y ≡ true) (p .1) (p .2) (follower-legal N (who N) (p .0))
 
-  found-step : (i j most : ℕ) → followerPair N (who N) ≡ pair.Found i j → runWithin who (suc most) N ≡ oneMore (runWithin who most (eliminate N i j))
+  found-step : (i j most : ℕ) → followerPair N (who N) ≡ pair.Found i j → runWithin who (suc most) N ≡ oneMore (runWithin who most (followed N i j))
   found-step i j most e =
       let p = found-next i j e in
-      runWithin-step who most N (p .0) ∙ ap₂ (λ (x y : ℕ). oneMore (runWithin who most (eliminate N x y))) (p .1) (p .2)
+      runWithin-step who most N (p .0) ∙ ap₂ (λ (x y : ℕ). oneMore (runWithin who most (followed N x y))) (p .1) (p .2)
 
 -- The steps of a head h and rows, of the leader that `who` names each time, have been `steps` and have come to r and `rows`: what is left are the steps of
 -- those, at most `most`.
@@ -88,7 +88,7 @@ module _ {who : Network → ℕ} {h r : Head} {before rows : List ℕ} {steps : 
     pub running-legal : legal (held r rows) i j ≡ true
     running-legal = found-legal who (held r rows) i j e
 
-    one-less : suc (freeCount (eliminate (held r rows) i j)) ≡ freeCount (held r rows)
+    one-less : suc (freeCount (followed (held r rows) i j)) ≡ freeCount (held r rows)
     one-less = step-count (held r rows) (held-sound r rows (R .still-head) (R .still-sound)) i j running-legal
 
     -- Fewer steps than there are variables have been taken.
@@ -96,10 +96,10 @@ module _ {who : Network → ℕ} {h r : Head} {before rows : List ℕ} {steps : 
     running-steps = omega (arith, one-less, R .free-left, R .most-left, R .n-small)
 
     module _ {q : Head} {after : List ℕ} (S : Stepped r rows i j q after) where
-      packed : Packed (eliminate (held r rows) i j)
-      packed = eliminated-packed r rows (R .still-head) (R .still-sound) i j running-legal
+      packed : Packed (followed (held r rows) i j)
+      packed = followed-packed r rows (R .still-head) (R .still-sound) i j running-legal
 
-      held-q : held q after ≡ eliminate (held r rows) i j
+      held-q : held q after ≡ followed (held r rows) i j
       held-q = ap₂ held (S .head-is) (S .rows-are) ∙ packed .packed-held
 
       pub running-less : freeCount (held q after) < freeCount (held r rows)

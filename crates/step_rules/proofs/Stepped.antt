@@ -2,29 +2,33 @@
 use mathlib.Core.Bool.{Bool, true, false}
 use mathlib.Core.List.{List}
 use mathlib.Core.Path.{_≡_, refl, sym, ap, ap₂, fun-ext, subst, _∙_}
-use Prim.Native.Nat.{ℕ, _^_, _<_}
+use Prim.Native.Nat.{ℕ, _^_, _≤_, _<_}
 use native.Mathlib.Omega.{arith}
 use lib.ListN.{getD, set, length-set}
 use lib.Seq.{getD-set-same, getD-set-other}
 use Rattle.bounded.specs.Bool.{and, implies}
 use Rattle.bounded.specs.Table.{tabulate}
+use Rattle.bounded.proofs.Array.{getD-table}
 use Rattle.bounded.proofs.Bool.{bool-ext, not-true→false, and-i, and-l, and-r}
 use Rattle.bounded.proofs.Fold.{is-or-not, some-i, some-e}
 use Rattle.bounded.proofs.Table.{is-table}
 use Rattle.words.specs.Word.{width, has, word}
 use Rattle.words.proofs.Laws.{has-word, has-all, has-below, is-word, within, word-lt}
 use Rattle.network.specs.Sound.{Sound, Bounded}
-use Rattle.network.specs.Step.{legal, trimmed, third, composed, eliminate}
+use Rattle.network.specs.Step.{legal, trimmed, third, composed, eliminate, relisted, followersTrimmed, Trimmable, followed}
 use Rattle.network.proofs.Pairs.{pair-case-sym}
 use Rattle.network.proofs.Step.{Legal, legal-e, third-e, i-not-third, j-not-third, domain-i, domain-other, eliminate-moves, moved-allows-sym}
+use Rattle.network.proofs.Keep.{eliminate-trimmable, eliminate-bounded, followed-sound}
 use Rattle.network.proofs.Step.{trimmed-domain, trimmed-e, trimmed-i, joined-e, joined-i}
-use Rattle.pairs.specs.Pairs.{variables, allowsOf}
+use Rattle.pairs.specs.Pairs.{variables, allowsOf, rowsOf}
 use Rattle.pairs.proofs.Laws.{allows-alike, rows-rule}
 use Rattle.head.specs.declared.Head.{Head}
-use Rattle.head.specs.Held.{RowsShaped, held, headOf, soundIn}
-use Rattle.head.proofs.Held.{HeadShaped, held-bounded, held-sound, held-n}
+use Rattle.head.specs.Held.{mostValues, RowsShaped, held, headOf, soundIn}
+use Rattle.head.proofs.Held.{HeadShaped, held-bounded, held-sound, held-n, held-size}
 use Rattle.step_compose.specs.Compose.{supportedAt, composedAt}
 use Rattle.step_parts.specs.StepParts.{leaderAfter, thirdOf, statedAfter, madeAt, MovedRows}
+use Rattle.step_trim.specs.Trimmed.{Led, trimmedAt}
+use Rattle.step_trim.proofs.Trimmed.{trimmable-led, leaders-led, network-trimmed}
 use Rattle.step_rules.specs.Stepped.{Stepped}
 
 module _ {h : Head} (rows : List ℕ) (S : HeadShaped h) (t : soundIn h rows ≡ true) (i j : ℕ) (l : legal (held h rows) i j ≡ true) where
@@ -44,6 +48,36 @@ module _ {h : Head} (rows : List ℕ) (S : HeadShaped h) (t : soundIn h rows ≡
   -- The two variables.
   pub step-asks : (i < variables) × (j < variables) × (i ≡ j → ⊥)
   step-asks = (below i (may .i-in), below j (may .j-in), may .distinct)
+
+  -- What rules 1 to 3 leave is not sound; it fits the arrays, and its followers can be trimmed.
+  few : held h rows .n ≤ variables
+  unfolding held
+  few = held-n h rows t
+
+  small : (x : ℕ) → held h rows .size x ≤ mostValues
+  unfolding held
+  small = held-size h rows S t
+
+  fits : Bounded variables width (eliminate (held h rows) i j)
+  fits = eliminate-bounded (held h rows) sound i j may variables width few (omega (arith, few)) small
+
+  can : Trimmable (eliminate (held h rows) i j)
+  can = eliminate-trimmable (held h rows) sound i j may
+
+  sound-trimmed : Sound (followersTrimmed (eliminate (held h rows) i j))
+  unfolding followed
+  sound-trimmed = followed-sound (held h rows) sound i j l
+
+  -- Who leads before the step and after it is a variable that the arrays have.
+  pub led-before : Led (h .leaders)
+  unfolding held
+  led-before = leaders-led h rows S (record { values-in = sound .domain-in; pairs-alike = sound .allows-sym; leaders-free = sound .leader-free }) few
+
+  pub led-after : {led : List ℕ} → led ≡ tabulate variables (λ (x : ℕ). leaderAfter i j x (getD (h .leaders) x 0)) → Led led
+  unfolding eliminate leaderAfter held
+  led-after {led} e =
+      trimmable-led (eliminate (held h rows) i j) can few led
+      (λ x. ap (λ (l : List ℕ). getD l x 0) e ∙ getD-table variables _ x (fits .leader-bound x))
 
   -- Rule 1.
   module _ {ti : ℕ} (is-ti : ti ≡ supportedAt width rows i j (getD (h .domains) i 0) (getD (h .domains) j 0)) where
@@ -143,9 +177,18 @@ module _ {h : Head} (rows : List ℕ) (S : HeadShaped h) (t : soundIn h rows ≡
             stated = (links ∙ stated-is) z;
           }
 
-      pub stepped : Stepped h rows i j (record { n = h .n; sizes = h .sizes; domains = set (h .domains) i ti; leaders = led; stated = linked }) after
-      stepped =
-          record {
-            head-is = head-after;
-            rows-are = rows-rule width _ after (m .same-length ∙ R .array-length) (m .words (R .element-lt)) (λ x y a b _ _ la lb. allowed x y a b la lb);
-          }
+      rows-after : after ≡ rowsOf width (eliminate (held h rows) i j .allows)
+      rows-after = rows-rule width _ after (m .same-length ∙ R .array-length) (m .words (R .element-lt)) (λ x y a b _ _ la lb. allowed x y a b la lb)
+
+      -- The followers are trimmed by the new leaders and the new list of i.
+      trimmed-after : {short : List ℕ} → short ≡ tabulate variables (trimmedAt width after (set (h .domains) i ti) led)
+          → record { n = h .n; sizes = h .sizes; domains = short; leaders = led; stated = linked } ≡ headOf (followed (held h rows) i j)
+      unfolding eliminate followed
+      trimmed-after = network-trimmed (eliminate (held h rows) i j) fits can sound-trimmed few small head-after rows-after
+
+      pub stepped : {short : List ℕ} → short ≡ tabulate variables (trimmedAt width after (set (h .domains) i ti) led)
+          → Stepped h rows i j (record { n = h .n; sizes = h .sizes; domains = short; leaders = led; stated = linked }) after
+      stepped q = record { head-is = trimmed-after q; rows-are = rows-after ∙ same-allows }
+        where
+          same-allows : rowsOf width (eliminate (held h rows) i j .allows) ≡ rowsOf width (followed (held h rows) i j .allows)
+          same-allows = unfold followed followersTrimmed relisted in refl

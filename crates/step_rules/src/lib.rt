@@ -5,13 +5,14 @@ use step_parts::leaders_after;
 use step_parts::move_thirds;
 use step_parts::stated_after;
 use step_parts::thirds_of;
+use step_trim::trim_followers;
 ghost use mathlib.Core.Bool.{true};
 ghost use mathlib.Core.Path.{_≡_};
 ghost use Rattle.network.specs.Step.{legal};
 ghost use Rattle.head.specs.Held.{RowsShaped, held, soundIn};
 ghost use Rattle.step_rules.specs.Stepped.{Stepped};
 
-// Rules 1, 2 and 3, in order. The rows are worked on where they are; the head is built anew.
+// Rules 1, 2 and 3, in order, and then the lists of all followers. The rows are worked on where they are; the head is built anew.
 pub fn step(head: Head, rows: &mut Rows, i: usize, j: usize) -> Head
     requires { ⌜ (soundIn head (now rows) ≡ true) × RowsShaped (now rows) × (legal (held head (now rows)) i j ≡ true) ⌝ }
     ensures { λ r. ⌜ Stepped head (now (rows .entry)) i j r (now (rows .exit)) ⌝ }
@@ -27,10 +28,11 @@ pub fn step(head: Head, rows: &mut Rows, i: usize, j: usize) -> Head
     let linked = stated_after(stated, thirds, i, j);
     let mut trimmed = domains;
     trimmed[i] = ti;
+    let short = trim_followers(rows, trimmed, led);
     Head {
         n: head.n,
         sizes: sizes,
-        domains: trimmed,
+        domains: short,
         leaders: led,
         stated: linked,
     }

@@ -1,7 +1,7 @@
 // How often each thing was tried, how often it came out wrong, and where the random numbers are.
 
 // One more than the greatest of the kinds that are counted.
-pub const KINDS: usize = 45;
+pub const KINDS: usize = 49;
 
 // The counts, and the seed of the number that is drawn next. It goes by value, as loans make proofs longer.
 pub struct Tally {
@@ -77,6 +77,14 @@ pub const TABLES_SAME: usize = 42;
 pub const TABLES_ROWS: usize = 43;
 
 pub const SEARCHES: usize = 44;
+// Lists of followers: calls after which all are tried, and those of them that changed one.
+pub const LISTS: usize = 45;
+
+pub const LISTS_CHANGED: usize = 46;
+// States with a dead value in such a list, and the calls on these.
+pub const DEAD_VALUES: usize = 47;
+
+pub const DEAD_CALLS: usize = 48;
 
 // Nothing is counted yet.
 pub fn start(seed: u64) -> Tally {
@@ -119,6 +127,15 @@ pub fn hold(tally: Tally, is_right: bool) -> Tally {
     count(tally, DIFFERENCES)
 }
 
+// What another tally counted of calls on states that are not sound, as of the kind `k`, and what came out wrong there.
+pub fn with_unsound(tally: Tally, k: usize, other: Tally) -> Tally {
+    let counts = other.counts;
+    let mut after = add(tally, k, counts[UNSOUND]);
+    after = add(after, k, counts[WRITES_REFUSED]);
+    after = add(after, k, counts[TABLES_UNSOUND]);
+    add(after, DIFFERENCES, counts[DIFFERENCES])
+}
+
 fn print_number(number: u64) {
     io::write_all(1, b" ");
     io::print_decimal(1, number);
@@ -156,7 +173,9 @@ pub fn print_checks(counts: &[u64; KINDS]) {
         states called sound\ncuts\nbuilt with two or more live options\n\
         tables added\ntables added for a follower and another leader's option\n\
         tables added for two followers of one leader\ntables added for a follower and its leader\n\
-        tables refused with 9\ntables refused with 10\ntables refused with 21\ntables refused with 22\nsearches\n",
+        tables refused with 9\ntables refused with 10\ntables refused with 21\ntables refused with 22\nsearches\n\
+        calls after which the lists of followers were tried\ncalls that changed the list of a follower\n\
+        states with a dead value in the list of a follower\ncalls on such states\n",
         DAMAGED_STATES,
         counts,
     );

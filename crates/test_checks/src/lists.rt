@@ -15,6 +15,7 @@ use test_oracle::tables::none;
 use test_oracle::tables::with;
 use test_rules::added;
 use test_rules::added::Sides;
+use test_rules::followers;
 use test_rules::refusals;
 use test_rules::rules;
 
@@ -45,13 +46,22 @@ pub fn counted(run: Run, tally: Tally) -> Run {
     after
 }
 
+// After each call a list of a follower holds partners of values in its leader's list alone. It is counted how often a call changed one.
+fn check_lists(before: State, after: State, tally: Tally) -> Tally {
+    let are_trimmed = followers::are_trimmed(after);
+    let is_changed = followers::is_other_list(before, after);
+    let tried = tally::expect(tally, tally::LISTS, are_trimmed);
+    tally::add(tried, tally::LISTS_CHANGED, is_changed as u64)
+}
+
 // After a call that answered this, counted as `k`.
 fn later(run: Run, k: usize, answer: Stepping, is_right: bool) -> Run {
     let state = answer.state;
     let mut after = run;
     after.state = state;
     after.steps = std::num::wrapping_add_usize(run.steps, answer.steps);
-    counted(after, tally::expect(run.tally, k, is_right))
+    let tally = tally::expect(run.tally, k, is_right);
+    counted(after, check_lists(run.state, state, tally))
 }
 
 // After a call that is not refused and must come to `expected`, which is sound.

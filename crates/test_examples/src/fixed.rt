@@ -1,5 +1,7 @@
-// Fixed examples that are neither sheets nor lists of calls with tables added: refused bytes, texts, steps, answers on fixed states, searches, and page nine.
+// Fixed examples that are neither sheets nor lists of calls with tables added: refused bytes, texts, steps, answers on fixed states, searches, page nine,
+// and lists of followers.
 use crate::contrary;
+use crate::followers;
 use crate::lines::expect_text;
 use crate::lines::play;
 use crate::lines::read;
@@ -267,5 +269,6 @@ pub fn run(tally: Tally) -> Tally {
     run = searched(run);
     run = written(run);
     run = fitted(run);
+    run = followers::run(run);
     run.tally
 }

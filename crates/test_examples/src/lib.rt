@@ -4,6 +4,8 @@
 mod contrary;
 // Lists of examples.
 pub mod fixed;
+// Lists of followers.
+mod followers;
 // Lines of a list.
 pub mod lines;
 // What a sheet comes to, against a text.

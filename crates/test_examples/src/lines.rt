@@ -4,6 +4,7 @@
 // e: a leader and a follower; the number that the step is refused with, or 0.
 // r: a full reduction.
 // f: nothing; the number that page nine answers, the kind of its verdict, and the build. A run starts on the state handed back.
+// d: an option and its list. A run starts on the state with this list.
 // p: bytes; the text that is printed for them.
 // v: nothing; the bytes that the state is written as, in their version.
 // n: a version and the room of a buffer, two bytes each; the number that the writer refuses with.
@@ -12,7 +13,9 @@
 // s: nothing; what the search says, and the build.
 // w: two options that are stated together, and a value of the first; its row.
 // o: nothing; what the state comes to.
+// l: nothing; the lists of all options, a byte for each.
 // u: two options and the rows of a table; the number that it is refused with by a state that is not sound.
+// b: two options; the number that a step of these, the full reduction and the verdict are refused with by a state that is not sound.
 use crate::parts::end_of;
 use crate::parts::part;
 use crate::replies::is_answered;
@@ -76,6 +79,7 @@ fn tried(run: Run, letter: u8, given: &[u8], answer: &[u8]) -> Run {
         b'e' => steps::follow(run, given, answer),
         b'r' => lists::check_reduction(run),
         b'f' => steps::fit(run, answer),
+        b'd' => steps::relist(run, given),
         0 => run,
         _ => lists::counted(run, check(run, letter, given, answer)),
     }

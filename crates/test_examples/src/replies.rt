@@ -1,6 +1,7 @@
 // What a state answers, compared with what it must.
 use crate::outcomes::is_outcome;
 use crate::values::is_shown;
+use crate::values::option_at;
 use crate::values::table_of;
 use crate::values::values_of;
 use state::State;
@@ -44,16 +45,41 @@ fn is_turned_away(state: State, given: &[u8], answer: &[u8]) -> bool {
     calls::is_refused(state, added, byte(answer, 0))
 }
 
+// A state that is not sound: a step of two options, the full reduction and the verdict are refused with a number.
+fn is_unsound(state: State, given: &[u8], answer: &[u8]) -> bool {
+    let number = byte(answer, 0);
+    let stepped = calls::eliminate(state, option_at(given, 0), option_at(given, 1));
+    let judged = calls::verdict(state);
+    let solution = judged.solution;
+    let is_left = calls::is_refused(state, stepped, number)
+        & calls::is_refused(state, calls::reduce(state), number);
+    let is_judged = (judged.verdict == number) & fields::is_zero_from(solution, 0);
+    is_left & is_judged & !calls::is_sound(state)
+}
+
+// The lists of all options, a byte for each.
+fn are_listed(domains: [u32; 16], answer: &[u8]) -> bool {
+    for i in 0..16 {
+        if domains[i] != byte(answer, i) as u32 {
+            return false;
+        }
+    }
+    true
+}
+
 // The state answers what it must. Another letter than these is none of a line.
 pub(crate) fn is_answered(run: Run, letter: u8, given: &[u8], answer: &[u8]) -> bool {
     let state = run.state;
+    let domains = state.domains;
     match letter {
         b't' => is_tested(state, given, answer),
         b'c' => is_completed(state, given, answer),
         b's' => is_found(state, answer),
         b'w' => is_row(state, given, answer),
         b'o' => is_outcome(state, run.steps, answer),
+        b'l' => are_listed(domains, answer),
         b'u' => is_turned_away(state, given, answer),
+        b'b' => is_unsound(state, given, answer),
         _ => false,
     }
 }

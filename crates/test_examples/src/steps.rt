@@ -9,6 +9,7 @@ use test_calls::tally;
 use test_checks::lists;
 use test_checks::lists::Run;
 use test_oracle::brute::byte;
+use test_oracle::brute::index_of;
 
 // An example that came out right or not.
 fn expected(run: Run, is_right: bool) -> Run {
@@ -51,4 +52,14 @@ pub(crate) fn fit(run: Run, answer: &[u8]) -> Run {
         fitted.state,
         tally::expect(run.tally, tally::EXAMPLES, is_right),
     )
+}
+
+// The state with another list of an option, as no call makes it.
+pub(crate) fn relist(run: Run, given: &[u8]) -> Run {
+    let i = index_of(byte(given, 0) as usize);
+    let mut state = run.state;
+    if i < 16 {
+        state.domains[i] = byte(given, 1) as u32;
+    }
+    lists::start(state, run.tally)
 }

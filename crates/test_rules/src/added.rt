@@ -1,4 +1,6 @@
 // What an added table is to be refused with, and what it makes of a state, by the words of document 02.
+use crate::followers;
+use crate::followers::partners;
 use crate::refusals::is_option;
 use crate::rules::put_row;
 use crate::rules::was_allowed;
@@ -10,7 +12,6 @@ use test_oracle::fields::bit_if;
 use test_oracle::fields::byte_at;
 use test_oracle::fields::has;
 use test_oracle::fields::lower;
-use test_oracle::fields::row_at;
 use test_oracle::fields::word_at;
 use test_oracle::judge::is_row_wide;
 use test_oracle::tables::row;
@@ -73,14 +74,6 @@ pub fn sides_of(state: State, table: Table) -> Sides {
         first_leader: traced(leaders, first),
         second_leader: traced(leaders, second),
     }
-}
-
-// The partners in `x` of value `a` of its leader `l`: "A live option's value is its own partner."
-fn partners(domains: [u32; 16], rows: &[u32; 3840], l: usize, x: usize, a: usize) -> u32 {
-    if l == x {
-        return bit_if(true, a);
-    }
-    row_at(rows, l, x, a) & word_at(domains, x)
 }
 
 // What the rows of the values in `set` have together.
@@ -204,23 +197,39 @@ fn stated_after(stated: [u32; 16], p: usize, q: usize) -> [u32; 16] {
     after
 }
 
+// Where the two leaders differ.
+fn with_pair(state: State, table: &[u32], sides: Sides) -> State {
+    let domains = state.domains;
+    let stated = state.stated;
+    let joined = stated_after(stated, sides.first_leader, sides.second_leader);
+    let rows = rows_after(domains, stated, &state.rows, table, sides);
+    let mut after = state;
+    after.stated = joined;
+    after.rows = rows;
+    after
+}
+
+// Where they are one: "each added table now also trims the lists of all followers of the leader concerned".
+fn with_lists(state: State, table: &[u32], sides: Sides) -> State {
+    let p = sides.first_leader;
+    let leaders = state.leaders;
+    let mut domains = state.domains;
+    if p < 16 {
+        domains[p] = trimmed(domains, &state.rows, table, sides);
+    }
+    let lists = followers::trimmed(domains, leaders, &state.rows, p);
+    let mut after = state;
+    after.domains = lists;
+    after
+}
+
 // The state after an added table that is not refused.
 pub fn with_table(state: State, table: Table) -> State {
     let sides = sides_of(state, table);
-    let p = sides.first_leader;
-    let q = sides.second_leader;
     let rows = table.rows;
     let given = first_words(&rows, table.count);
-    let domains = state.domains;
-    let stated = state.stated;
-    let mut after = state;
-    if p != q {
-        after.stated = stated_after(stated, p, q);
-        after.rows = rows_after(domains, stated, &state.rows, given, sides);
-        return after;
+    if sides.first_leader != sides.second_leader {
+        return with_pair(state, given, sides);
     }
-    if p < 16 {
-        after.domains[p] = trimmed(domains, &state.rows, given, sides);
-    }
-    after
+    with_lists(state, given, sides)
 }

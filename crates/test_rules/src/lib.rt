@@ -4,6 +4,8 @@
 pub mod added;
 // Sound states with one fault.
 pub mod faults;
+// The lists of followers.
+pub mod followers;
 // What a follow step is to be refused with.
 pub mod refusals;
 // The rules of a legal follow step, and the full reduction by them.

@@ -1,4 +1,5 @@
 // The three rules of a legal follow step by their words, value by value. `j` comes to follow `i`, both counted from 0.
+use crate::followers;
 use crate::refusals::legal_from;
 use sheet::State;
 use test_oracle::brute::index_of;
@@ -201,7 +202,8 @@ fn leaders_after(leaders: [u8; 16], i: usize, j: usize) -> [u8; 16] {
     after
 }
 
-// The state after a legal step, options counted from 1.
+// The state after a legal step, options counted from 1. "Each follow step .. now also trims the lists of all followers of the leader concerned, new ones
+// included."
 pub fn step(state: State, leader: usize, follower: usize) -> State {
     let i = index_of(leader);
     let j = index_of(follower);
@@ -213,13 +215,15 @@ pub fn step(state: State, leader: usize, follower: usize) -> State {
     if i < 16 {
         domains[i] = trimmed(domains, &state.rows, i, j);
     }
+    let led = leaders_after(leaders, i, j);
+    let rows = rows_after(domains, stated, &state.rows, i, j);
     State {
         n,
         sizes,
-        domains,
-        leaders: leaders_after(leaders, i, j),
+        domains: followers::trimmed(domains, led, &rows, i),
+        leaders: led,
         stated: stated_after(stated, i, j),
-        rows: rows_after(domains, stated, &state.rows, i, j),
+        rows,
     }
 }
 

@@ -11,6 +11,7 @@ use test_inputs::random;
 use test_inputs::tables;
 use test_oracle::fields;
 use test_rules::faults;
+use test_rules::followers;
 
 // The verdict or the search: 9, and no build is shown.
 fn check_answer(answer: Judgement, tally: Tally) -> Tally {
@@ -66,13 +67,39 @@ fn check_write(state: State, tally: Tally) -> Tally {
     reads::check_unwritten(state, version, room, 9, tally::with_seed(tally, seed))
 }
 
-// Every call on the state with one fault.
-pub(crate) fn check(state: State, tally: Tally) -> Tally {
+// Every call on a state that is not sound.
+fn check_calls(state: State, tally: Tally) -> Tally {
+    let mut after = check_solving(state, tally);
+    after = check_write(state, after);
+    after = check_steps(state, after);
+    check_table(state, after)
+}
+
+// With one fault.
+fn check_damaged(state: State, tally: Tally) -> Tally {
     let mut seed = tally.seed;
     let damaged = faults::damaged(state, &mut seed);
-    let mut after = tally::count(tally, tally::DAMAGED_STATES);
-    after = check_solving(damaged, tally::with_seed(after, seed));
-    after = check_write(damaged, after);
-    after = check_steps(damaged, after);
-    check_table(damaged, after)
+    let counted = tally::count(tally, tally::DAMAGED_STATES);
+    check_calls(damaged, tally::with_seed(counted, seed))
+}
+
+// What the seed of the faults below differs by.
+const APART: u64 = 11400714819323198485;
+
+// With a dead value in the list of a follower, where there is one: what is wrong is this alone. It is drawn from a seed of its own, as other inputs are not
+// to hang on how many such states there are.
+fn check_dead(state: State, tally: Tally) -> Tally {
+    let mut seed = tally.seed ^ APART;
+    let at = followers::dead_from(state, random::index(&mut seed, followers::VALUES));
+    if at == followers::VALUES {
+        return tally;
+    }
+    let run = check_calls(followers::with_value(state, at), tally::start(seed));
+    let counted = tally::count(tally, tally::DEAD_VALUES);
+    tally::with_unsound(counted, tally::DEAD_CALLS, run)
+}
+
+// The state with either fault.
+pub(crate) fn check(state: State, tally: Tally) -> Tally {
+    check_dead(state, check_damaged(state, tally))
 }

@@ -2,11 +2,11 @@
 use mathlib.Core.Path.{sym, _∙_}
 use native.Mathlib.Omega.{arith}
 use borrow.Author.Needs.{needs}
-use borrow.Author.Tests.{lt-ltb, le-ltb, eq-eqb, ne-eqb}
+use borrow.Author.Tests.{lt-ltb, le-ltb, eq-eqb, ne-eqb, not-true, not-false}
 use Rattle.bounded.proofs.Bool.{and-fails, and-holds}
 use Rattle.words.specs.Word.{width}
 use Rattle.soundness.specs.Parts.{followerFits}
-use Rattle.soundness.proofs.Tests.{not-itself}
+use Rattle.soundness.proofs.Tests.{not-itself, follower-tied}
 use Rattle.soundness.proofs.follower_sound.Statement.{statement}
 use Rattle.soundness.proofs.follower_sound.Tie as tie
 
@@ -26,19 +26,36 @@ returns-3 c =
 
 partners-within-requires : tie.Need-partners-within-requires
 partners-within-requires c κs =
-    let start = c .before .before .before .before .before .before .before in (
+    let passed = c .before .before in
+    let start = passed .before .before .before .before .before in (
       search needs,
       search needs,
-      not-itself width _ _ _ (omega (arith, start .pre .1)) (start .pre .2) (c .before .before .if3 .left ∙ c .before .before .before .single .ensures),
+      not-itself width _ _ _ (omega (arith, start .pre .1)) (start .pre .2) (passed .if3 .left ∙ passed .before .single .ensures),
     )
 
 returns-4 : tie.Need-returns-4
-unfolding followerFits
 returns-4 c =
-    c .partners-within .ensures
-    ∙ sym (and-holds _ _ (lt-ltb _ _ (c .before .before .before .before .before .before .before .if1 .left))
-    ∙ and-holds _ _ (eq-eqb _ _ (c .before .before .before .before .before .if2 .left))
-    ∙ and-holds _ _ (eq-eqb _ _ (c .before .before .before .if3 .left ∙ c .before .before .before .before .single .ensures)))
+    let passed = c .before .before .before .before in
+    sym (follower-tied _ _ _ _ _ _ _ (passed .before .before .before .before .if1 .left) (passed .before .before .if2 .left)
+    (passed .if3 .left ∙ passed .before .single .ensures)
+    ∙ and-fails _ _ (sym (c .before .partners-within .ensures) ∙ not-true _ (c .if4 .taken)))
+
+trimmed-to-requires : tie.Need-trimmed-to-requires
+trimmed-to-requires c κs =
+    let passed = c .before .before .before .before in
+    let start = passed .before .before .before .before .before in (
+      search needs,
+      search needs,
+      not-itself width _ _ _ (omega (arith, start .pre .1)) (start .pre .2) (passed .if3 .left ∙ passed .before .single .ensures),
+    )
+
+returns-5 : tie.Need-returns-5
+returns-5 c =
+    let passed = c .before .before .before .before .before in
+    c .trimmed-to .ensures
+    ∙ sym (follower-tied _ _ _ _ _ _ _ (passed .before .before .before .before .if1 .left) (passed .before .before .if2 .left)
+    (passed .if3 .left ∙ passed .before .single .ensures)
+    ∙ and-holds _ _ (sym (c .before .before .partners-within .ensures) ∙ not-false _ (c .before .if4 .left)))
 
 pub follower-sound-spec : {M : Type 1} → statement M
 follower-sound-spec =
@@ -54,4 +71,6 @@ follower-sound-spec =
     (λ c. search needs)
     (λ c. search needs)
     partners-within-requires
-    returns-4)
+    returns-4
+    trimmed-to-requires
+    returns-5)

@@ -1,11 +1,11 @@
--- The two variables are apart, neither is a third one, and the three rules make what `Stepped` says.
+-- The two variables are apart, neither is a third one, and the three rules and the trimming make what `Stepped` says.
 use mathlib.Core.Bool.{false}
 use mathlib.Core.Path.{_≡_}
 use Prim.Native.Nat.{_^_, _<_}
 use borrow.Author.Needs.{needs}
 use Rattle.words.specs.Word.{has}
 use Rattle.head.proofs.Held.{HeadShaped, shape}
-use Rattle.step_rules.proofs.Stepped.{step-asks, thirds-apart, stepped}
+use Rattle.step_rules.proofs.Stepped.{step-asks, thirds-apart, led-before, led-after, stepped}
 use Rattle.step_rules.proofs.step.Statement.{statement}
 use Rattle.step_rules.proofs.step.Tie as tie
 
@@ -42,13 +42,22 @@ stated-after-requires c κs =
     let (ni, nj, b) = apart t in
     (li, lj, d, ni, nj, b)
 
+trim-followers-requires : tie.Need-trim-followers-requires
+trim-followers-requires c κs =
+    let p = c .before .before in
+    let s = p .before .before .before .before .before .before .before .before .before .before in
+    let before = led-before _ (shaped s) (s .pre .0) _ _ (s .pre .2) in
+    let after = led-after _ (shaped s) (s .pre .0) _ _ (s .pre .2) (p .leaders-after .ensures) in
+    search needs
+
 returns : tie.Need-returns
 returns c =
-    let m = c .before .before in
+    let p = c .before .before in
+    let m = p .before .before in
     let t = m .before .before in
     let s = t .before .before .before .before .before .before .before in
     stepped _ (shaped s) (s .pre .0) _ _ (s .pre .2) (t .thirds-of .ensures) (t .before .supported .ensures) (s .pre .1)
-    (m .move-thirds .ensures) (c .before .leaders-after .ensures) (c .stated-after .ensures)
+    (m .move-thirds .ensures) (p .before .leaders-after .ensures) (p .stated-after .ensures) (c .trim-followers .ensures)
 
 pub step-spec : {M : Type 1} → statement M
 step-spec =
@@ -69,4 +78,5 @@ step-spec =
     stated-after-requires
     (λ c. let a = asks (c .before .before .before .before .before .before .before .before .before .before .before) in search needs)
     (λ c. let a = asks (c .before .before .before .before .before .before .before .before .before .before .before) in search needs)
+    trim-followers-requires
     returns)

@@ -1,11 +1,11 @@
 -- The variables and their leaders are within the arrays, and each way leaves the network with the table added: `added-same`, `added-apart`.
 use borrow.Author.Needs.{needs}
 use Rattle.head.proofs.Held.{shape}
-use Rattle.step_add.proofs.Added.{Given, first-in, second-in, rows-in, sides-apart, sides-turn, added-same, added-apart}
+use Rattle.step_add.proofs.Added.{Given, first-in, second-in, rows-in, leaders-in, sides-apart, sides-turn, added-same, added-apart}
 use Rattle.step_add.proofs.table.add.Statement.{statement}
 use Rattle.step_add.proofs.table.add.Tie as tie
 
-given : (c : tie.After-shared-slice-known) → let a = c .before .args in Given (a .t1) (a .rows .now) (a .x) (a .y) (a .table .now)
+given : (c : tie.After-shared-slice-known) → let a = c .before .args in Given (a .head) (a .rows .now) (a .x) (a .y) (a .table .now)
 given c =
     let p = c .before .pre in
     record { shaped = search shape; is-sound = p .0; rows-shaped = p .1; accepted = p .2 }
@@ -18,16 +18,23 @@ side-of-requires-2 c κs = second-in (given (c .before))
 
 kept-requires : tie.Need-kept-requires
 kept-requires c κs =
-    let second = c .before .before in
+    let second = c .before .before .before .before in
     let first = second .before in
     (first .side-of .ensures .1, second .side-of2 .ensures .1, rows-in (given (first .before)) (first .side-of .ensures .0))
 
+trim-followers-requires : tie.Need-trim-followers-requires
+trim-followers-requires c κs =
+    let one = c .before .before .before .before .before in
+    leaders-in (given (one .before .before .before))
+
 returns : tie.Need-returns
 returns c =
-    let one = c .before .before in
+    let kept = c .before .before in
+    let one = kept .before .before .before .before in
     let second = one .before in
     let first = second .before in
-    added-same (given (first .before)) (first .side-of .ensures .0) (second .side-of2 .ensures .0) _ (one .if1 .taken) (c .kept .ensures)
+    added-same (given (first .before)) (first .side-of .ensures .0) (second .side-of2 .ensures .0) _ _ (one .if1 .taken) (kept .kept .ensures)
+    (c .trim-followers .ensures)
 
 cut-requires : tie.Need-cut-requires
 cut-requires c κs =
@@ -63,6 +70,7 @@ add-spec =
     kept-requires
     (λ c. search needs)
     (λ c. search needs)
+    trim-followers-requires
     returns
     (λ c. search needs)
     (λ c. search needs)

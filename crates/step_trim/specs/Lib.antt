@@ -1,0 +1,2 @@
+-- What the trimming of followers' lists makes of a head's domains.
+pub mod Trimmed
