@@ -1,6 +1,7 @@
 -- The network that a head and rows hold, and the head and rows of a network.
 use mathlib.Core.Bool.{Bool}
 use mathlib.Core.List.{List}
+use mathlib.Core.Path.{_≡_}
 use Prim.Native.Nat.{ℕ, _<_, _*_, _^_}
 use lib.ListN.{getD, replicate}
 use Rattle.bounded.specs.Array.{Array}
@@ -49,6 +50,11 @@ headOf N =
       leaders = tabulate variables (N .leader);
       stated = tabulate variables (λ (i : ℕ). word width (N .stated i));
     }
+
+-- A head and rows are those of a network.
+pub record Represents (N : Network) (h : Head) (rows : List ℕ) : Type 0 where
+  pub head-is : h ≡ headOf N
+  pub rows-are : rows ≡ rowsOf width (N .allows)
 
 -- "The zero state is zero throughout, n included."
 unfoldable pub zeroHead : Head

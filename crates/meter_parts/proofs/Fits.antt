@@ -13,9 +13,10 @@ use Rattle.cause.proofs.Laws.{number-positive}
 use Rattle.answers.specs.declared.Outcome.the-variants as outcome
 use Rattle.answers.specs.Answers.{outcomeNumber, VerdictTold}
 use Rattle.network.specs.Calls.{full-reduction, add-table}
-use Rattle.head.specs.Held.{HeadShaped}
+use Rattle.network.specs.Reduction.{reduce}
+use Rattle.head.specs.Held.{HeadShaped, held}
 use Rattle.step_reduce.specs.declared.Reduction.{Reduction}
-use Rattle.step_reduce.specs.Reduced.{ReducedTo}
+use Rattle.step_reduce.specs.Reduced.{RanTo}
 use Rattle.state.specs.declared.state.State.{State}
 use Rattle.state.specs.declared.reduction.Worked.{Worked}
 use Rattle.state.specs.View.{Shaped, headIn, stateOf, soundState}
@@ -24,7 +25,6 @@ use Rattle.state.specs.Steps.{reduced}
 use Rattle.state.specs.Tables.{tableAdded}
 use Rattle.state.specs.Solutions.{verdictOf}
 use Rattle.state.specs.Worked.{workedTold}
-use Rattle.state.proofs.Steps.{reduced-done}
 use Rattle.state.proofs.Calls.{call-number, call-back, call-same, call-head, taken-sound}
 use Rattle.state.proofs.Worked.{reduction-told}
 use Rattle.meter_rule.specs.PageNine.{pageNine}
@@ -65,9 +65,9 @@ module _ {s : State} (h : Shaped s) (f : flatMeter (s .n) (s .sizes) ≡ true) {
     limited-sound = ap soundState limited-is ∙ with-table s h fits .on-sound
 
     -- And after the reduction.
-    module _ {b : Reduction} {left : List ℕ} (cut : ReducedTo (a .head) rows b left) where
+    module _ {b : Reduction} {left : List ℕ} (cut : RanTo (reduce (held (a .head) rows)) b left) where
       cut-told : record { number = outcomeNumber outcome.Done; state = stateOf (b .head) left; steps = b .steps } ≡ reduced (stateOf (a .head) rows)
-      cut-told = reduction-told cut ∙ sym (reduced-done (stateOf (a .head) rows) limited-sound)
+      cut-told = reduction-told (a .head) rows limited-sound cut
 
       left-is : stateOf (b .head) left ≡ fittedState s
       unfolding fittedState

@@ -1,6 +1,6 @@
 // Option sheets: the public calls, and the types of what they answer. What they promise together stands in the crate `promise`.
-mod bytes;
-mod solutions;
+mod sheets;
+mod states;
 
 pub use answers::Outcome;
 pub use answers::ReadOutcome;
@@ -8,17 +8,17 @@ pub use answers::TestAnswer;
 pub use answers::Verdict;
 pub use answers::VerdictAnswer;
 pub use answers::WriteAnswer;
-pub use bytes::cut;
-pub use bytes::read;
-pub use bytes::write;
 pub use cause::Cause;
 pub use cause::number as cause_number;
-pub use solutions::complete;
-pub use solutions::is_sound;
-pub use solutions::search;
-pub use solutions::test;
-pub use solutions::verdict;
+pub use sheets::cut;
+pub use sheets::read;
+pub use sheets::write;
 pub use state::Answer;
 pub use state::CutAnswer;
 pub use state::ReadAnswer;
 pub use state::State;
+pub use states::complete;
+pub use states::is_sound;
+pub use states::search;
+pub use states::test;
+pub use states::verdict;

@@ -27,7 +27,7 @@ use Rattle.state.specs.Steps.{stepRefusal, stepped, reducedAs, reduced}
 use Rattle.head.specs.Held.{held}
 use Rattle.state.proofs.View.{Shaped, state-sound, packed-view}
 use Rattle.state.proofs.Keep.{reduced-packed}
-use Rattle.state.proofs.Calls.{StateKept, call-sound, call-taken, call-9, call-back, call-keeps-all}
+use Rattle.state.proofs.Calls.{StateKept, call-sound, call-taken, call-9, call-keeps-all}
 
 -- The follow step.
 module _ (s : State) (l f : ℕ) where
@@ -55,10 +55,6 @@ module _ (s : State) where
 
   pub reduced-refused : soundState s ≡ false → reduced s ≡ refused 9 s
   reduced-refused t = call-9 s full-reduction t
-
-  -- "a refused call hands back what it was given"
-  pub reduced-back : (reduced s .number ≡ 0 → ⊥) → reduced s .state ≡ s
-  reduced-back z = call-back s full-reduction z
 
 -- A step and a reduction keep every solution.
 pub step-keeps : (s : State) → Shaped s → (l f : ℕ) → StateKept s (stepped s l f .state) (λ (g : ℕ → ℕ). true)

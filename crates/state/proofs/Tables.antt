@@ -6,6 +6,7 @@ use Prim.Native.Nat.{ℕ, suc, pred, _-_, _≤_}
 use native.Mathlib.Numerals.{sub-one}
 use lib.Dec.{eqb}
 use Rattle.bounded.specs.Bool.{implies}
+use Rattle.network.specs.Network.{Network}
 use Rattle.network.specs.Sound.{Sound}
 use Rattle.network.specs.Promise.{Keeps}
 use Rattle.network.specs.Added.{traced, meetsTable, addRefusal, added, Adds}
@@ -15,7 +16,6 @@ use Rattle.network.proofs.Calls.{keeps-to-one}
 use Rattle.answers.specs.declared.Outcome.{Outcome}
 use Rattle.answers.specs.declared.Outcome.the-variants as outcome
 use Rattle.answers.specs.Answers.{outcomeNumber}
-use Rattle.step_add.specs.Added.{AddedTo}
 use Rattle.step_add_judge.proofs.Judging.{counted-from-0}
 use Rattle.head.specs.declared.Head.{Head}
 use Rattle.head.specs.Held.{held}
@@ -82,12 +82,6 @@ table-rules s h x y rows =
 
 -- ---- the code's answers
 
--- What adding leaves is the state of the network with the table added.
-pub table-state : {h r : Head} {before after : List ℕ} {x y : ℕ} {table : List ℕ} → AddedTo h before x y table r after
-    → stateOf r after ≡ pack (added (held h before) x y table)
-unfolding pack
-table-state A = λ z. stateOf (A .head-is z) (A .rows-are z)
-
 -- A table that nothing refuses is one for a sound state, and names two variables. The code counts both from 0.
 pub record TableTaken (s : State) (x y : ℕ) (rows : List ℕ) : Type 0 where
   pub number-0 : tableRefusal s x y rows ≡ 0
@@ -110,13 +104,7 @@ not-refused-table {s} {x} {y} {rows} e q =
       fits = from-0 .2;
     }
 
-pub addition-told : {s : State} {x y : ℕ} {rows : List ℕ} {o : Outcome} {r : State} → TableTaken s x y rows → o ≡ outcome.Done
-    → r ≡ pack (added (view s) (x - 1) (y - 1) rows) → record { number = outcomeNumber o; state = r; steps = 0 } ≡ tableAdded s x y rows
-unfolding outcomeNumber
-addition-told {s} {x} {y} {rows} T e p =
-    (λ z. record {
-      number = ap outcomeNumber e z;
-      state = (p ∙ ap₂ (λ (i j : ℕ). pack (added (view s) i j rows)) (sub-one x) (sub-one y)) z;
-      steps = 0;
-    })
-    ∙ sym (table-taken s x y rows (T .number-0))
+-- The table that the code adds, its variables counted from 0, is the one that the call adds.
+pub table-made : (N : Network) (x y : ℕ) (rows : List ℕ) → record { network = added N (x - 1) (y - 1) rows; steps = 0 } ≡ made N (add-table x y rows)
+unfolding made
+table-made N x y rows = ap₂ (λ (i j : ℕ). record { network = added N i j rows; steps = 0 }) (sub-one x) (sub-one y)

@@ -1,33 +1,56 @@
--- The answers of the follow step and of the full reduction, case by case.
+-- The answers of the code are those of the calls.
 use mathlib.Core.Bool.{true, false}
 use mathlib.Core.List.{List}
-use mathlib.Core.Path.{_≡_, sym, ap, ap₂, _∙_}
+use mathlib.Core.Path.{_≡_, refl, sym, ap, ap₂, _∙_}
 use Prim.Native.Nat.{ℕ, pred, _-_, _≤_}
 use native.Mathlib.Numerals.{sub-one}
 use Rattle.cause.specs.declared.Cause.the-variants as cause
 use Rattle.network.specs.Step.{legal, followed}
-use Rattle.network.specs.Reduction.{reduce}
+use Rattle.network.specs.Network.{Network}
+use Rattle.network.specs.Reduction.{Reduced, reduce}
 use Rattle.network.proofs.Step.{refusal-0, legal-i}
 use Rattle.answers.specs.declared.Outcome.{Outcome}
 use Rattle.answers.specs.declared.Outcome.the-variants as outcome
 use Rattle.answers.specs.Answers.{outcomeNumber}
-use Rattle.step_rules.specs.Stepped.{Stepped}
 use Rattle.step_reduce.specs.declared.Reduction.{Reduction}
-use Rattle.step_reduce.specs.Reduced.{ReducedTo}
+use Rattle.step_reduce.specs.Reduced.{RanTo}
 use Rattle.head.specs.declared.Head.{Head}
-use Rattle.head.specs.Held.{held}
+use Rattle.head.specs.Held.{Represents, held, soundIn}
 use Rattle.state.specs.declared.state.State.{State}
 use Rattle.state.specs.View.{stateOf, view, pack, soundState}
-use Rattle.state.specs.Calls.{refused}
-use Rattle.state.specs.Steps.{stepRefusal, stepped, reducedAs, reduced}
-use Rattle.network.specs.Calls.{follow-step}
-use Rattle.state.proofs.Calls.{taken-sound}
-use Rattle.state.proofs.Steps.{sound-step, stepped-taken, reduced-refused}
+use Rattle.state.specs.Calls.{refused, callRefusal, called}
+use Rattle.state.specs.Steps.{stepRefusal, reduced}
+use Rattle.network.specs.Calls.{Call, follow-step, full-reduction, refuses, made}
+use Rattle.state.proofs.Calls.{call-sound, call-taken, call-9, taken-sound}
+use Rattle.state.proofs.Steps.{sound-step}
 
--- What a step leaves is the state of the network after it.
-pub step-state : {h r : Head} {before after : List ℕ} {i j : ℕ} → Stepped h before i j r after → stateOf r after ≡ pack (followed (held h before) i j)
+-- ---- any call
+
+-- A head and rows that represent a network are its state.
+represents-state : {M : Network} {r : Head} {after : List ℕ} → Represents M r after → stateOf r after ≡ pack M
 unfolding pack
-step-state S = λ z. stateOf (S .head-is z) (S .rows-are z)
+represents-state R = λ z. stateOf (R .head-is z) (R .rows-are z)
+
+-- A call that is not refused is told as what it makes.
+module _ (s : State) (c : Call) {o : Outcome} (taken : callRefusal s c ≡ 0) (done : o ≡ outcome.Done) where
+  pub taken-told : {told : Reduced} {steps : ℕ} {r : Head} {after : List ℕ} → told ≡ made (view s) c → Represents (told .network) r after → steps ≡ told .steps
+      → record { number = outcomeNumber o; state = stateOf r after; steps = steps } ≡ called s c
+  unfolding outcomeNumber
+  taken-told m R k =
+      (λ z. record { number = ap outcomeNumber done z; state = represents-state R z; steps = k z })
+      ∙ ap (λ (t : Reduced). record { number = 0; state = pack (t .network); steps = t .steps }) m
+      ∙ sym (call-taken s c taken)
+
+  -- So is a run.
+  pub ran-told : {r : Reduction} {after : List ℕ} → RanTo (made (view s) c) r after
+      → record { number = outcomeNumber o; state = stateOf (r .head) after; steps = r .steps } ≡ called s c
+  ran-told R = taken-told refl (R .becomes) (R .steps-are)
+
+-- A call on a state that is not sound is told as refused.
+pub unsound-told : (s : State) (c : Call) → soundState s ≡ false
+    → record { number = outcomeNumber (outcome.Refused cause.Unsound); state = s; steps = 0 } ≡ called s c
+unfolding outcomeNumber refused
+unsound-told s c t = sym (call-9 s c t)
 
 -- ---- the follow step
 
@@ -53,26 +76,16 @@ not-refused-step {s} {l} {f} e q =
       is-legal = rw (sub-one l, sub-one f) (legal-i (view s) (pred l) (pred f) (both .2));
     }
 
-pub step-told : {s : State} {l f : ℕ} {o : Outcome} {r : State} → StepTaken s l f → o ≡ outcome.Done → r ≡ pack (followed (view s) (l - 1) (f - 1))
-    → record { number = outcomeNumber o; state = r; steps = 1 } ≡ stepped s l f
-unfolding outcomeNumber
-step-told {s} {l} {f} T e p =
-    (λ z. record {
-      number = ap outcomeNumber e z;
-      state = (p ∙ ap₂ (λ (x y : ℕ). pack (followed (view s) x y)) (sub-one l) (sub-one f)) z;
-      steps = 1;
-    })
-    ∙ sym (stepped-taken s l f (T .number-0))
+-- The step that the code makes, counted from 0, is the one that the call makes.
+pub step-made : (N : Network) (l f : ℕ) → record { network = followed N (l - 1) (f - 1); steps = 1 } ≡ made N (follow-step l f)
+unfolding made
+step-made N l f = ap₂ (λ (x y : ℕ). record { network = followed N x y; steps = 1 }) (sub-one l) (sub-one f)
 
--- ---- the full reduction
+-- ---- the runs
 
--- What the reduction leaves, and its count, are told as they are.
-pub reduction-told : {h : Head} {r : Reduction} {before after : List ℕ} → ReducedTo h before r after
-    → record { number = outcomeNumber outcome.Done; state = stateOf (r .head) after; steps = r .steps } ≡ reducedAs (reduce (held h before))
-unfolding outcomeNumber reducedAs pack
-reduction-told R = λ z. record { number = 0; state = stateOf (R .head-is z) (R .rows-are z); steps = R .steps-are z }
-
-pub reduce-unsound : (s : State) → soundState s ≡ false
-    → record { number = outcomeNumber (outcome.Refused cause.Unsound); state = s; steps = 0 } ≡ reduced s
-unfolding outcomeNumber refused
-reduce-unsound s t = sym (reduced-refused s t)
+-- The full reduction of a sound state.
+pub reduction-told : (h : Head) (before : List ℕ) {r : Reduction} {after : List ℕ} → soundIn h before ≡ true → RanTo (reduce (held h before)) r after
+    → record { number = outcomeNumber outcome.Done; state = stateOf (r .head) after; steps = r .steps } ≡ reduced (stateOf h before)
+unfolding made refuses
+reduction-told h before t R =
+    let s = stateOf h before in ran-told s full-reduction (call-sound s full-reduction t) refl R

@@ -11,7 +11,6 @@ use head::Rows;
 use head::whole;
 use soundness::sound_parts;
 use step_choice::judge;
-use step_judge::Judgement;
 use step_reduce::reduce_sound;
 use step_rules::step;
 ghost use mathlib.Core.Path.{_≡_};
@@ -35,10 +34,7 @@ fn refuse_step(head: Head, rows: &Rows, leader: usize, follower: usize) -> Outco
     if !sound_parts(head, rows) {
         return Outcome::Refused(Cause::Unsound);
     }
-    match judge(head, rows, leader, follower) {
-        Judgement::Legal => Outcome::Done,
-        Judgement::Refused(cause) => Outcome::Refused(cause),
-    }
+    judge(head, rows, leader, follower)
 }
 
 // One follow step. A refusal comes before anything is stored.

@@ -11,7 +11,6 @@ use head::Rows;
 use head::whole;
 use soundness::sound_parts;
 use step_add::add;
-use step_add_judge::TableJudgement;
 use step_add_judge::judge_table;
 ghost use mathlib.Core.Path.{_≡_};
 ghost use Rattle.state.specs.View.{stateOf};
@@ -27,10 +26,7 @@ fn refuse_table(head: Head, rows: &Rows, first: usize, second: usize, table: &[u
     if !sound_parts(head, rows) {
         return Outcome::Refused(Cause::Unsound);
     }
-    match judge_table(head, first, second, table) {
-        TableJudgement::Legal => Outcome::Done,
-        TableJudgement::Refused(cause) => Outcome::Refused(cause),
-    }
+    judge_table(head, first, second, table)
 }
 
 // One table. A refusal comes before anything is stored.

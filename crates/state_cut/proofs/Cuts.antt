@@ -8,7 +8,6 @@ use lib.ListN.{replicate}
 use Rattle.cause.specs.declared.Cause.{Cause}
 use Rattle.cause.specs.Number.{numberOf}
 use Rattle.cause.proofs.Laws.{number-positive}
-use Rattle.network.specs.Reduction.{reduce}
 use Rattle.network.specs.Sheet.{Sheet}
 use Rattle.pairs.specs.Pairs.{variables}
 use Rattle.head.specs.Held.{zeroHead}
@@ -24,13 +23,13 @@ use Rattle.state.specs.View.{stateOf, view, soundState, zeroState}
 use Rattle.answers.specs.Answers.{readNumber, readPlace, VerdictTold, verdictTold, no-verdict}
 use Rattle.state.specs.Answers.{ReadTold, Told}
 use Rattle.state.specs.Read.{readSheet}
-use Rattle.state.specs.Steps.{reducedAs, reduced}
+use Rattle.state.specs.Steps.{reduced}
 use Rattle.state.specs.Solutions.{verdictOf}
 use Rattle.state.specs.Cut.{CutTold, cutAccepted, cutRefused, cutAs, cutSheet}
 use Rattle.state_read.specs.Parts.{readPartsTold}
 use Rattle.state_cut.specs.Parts.{cutPartsTold}
 use Rattle.state.proofs.Calls.{StateKept}
-use Rattle.state.proofs.Steps.{reduced-done, reduced-keeps, reduced-most}
+use Rattle.state.proofs.Steps.{reduced-keeps, reduced-most}
 use Rattle.state.proofs.Cut.{cut-taken, cut-away}
 use Rattle.state_read.proofs.RoundTrip.{AsRead, got-or-bad, read-refused, read-got, read-sound}
 
@@ -70,10 +69,7 @@ module _ (bytes : List ℕ) (a : ReadParts) (rows : List ℕ) (e : readPartsTold
   unfolding readNumber
   cut-read octets h = rw told-state (read-sound bytes octets (sym told-number ∙ ap readNumber h))
 
-  module _ (r : AsRead stateRead) {b : Told} (f : b ≡ reducedAs (reduce (view stateRead))) where
-    told-reduced : b ≡ reduced stateRead
-    told-reduced = f ∙ sym (reduced-done stateRead (r .is-sound))
-
+  module _ (r : AsRead stateRead) {b : Told} (told-reduced : b ≡ reduced stateRead) where
     -- which the reduction keeps sound,
     kept : StateKept stateRead (b .state) (λ (f : ℕ → ℕ). true)
     kept = rw (ap (λ (x : Told). x .state) told-reduced) (reduced-keeps stateRead (r .read-shaped))

@@ -22,14 +22,13 @@ use Rattle.network.proofs.Added.{added-one, added-two, add-refuses, not-refused
 use Rattle.pairs.specs.Pairs.{variables, rowsOf}
 use Rattle.pairs.specs.Frames.{Stored}
 use Rattle.head.specs.declared.Head.{Head}
-use Rattle.head.specs.Held.{mostValues, HeadShaped, RowsShaped, held, headOf, soundIn}
+use Rattle.head.specs.Held.{mostValues, HeadShaped, RowsShaped, Represents, held, headOf, soundIn}
 use Rattle.head.proofs.Held.{rows-of-held, held-sound, held-n, held-size}
 use Rattle.step_trim.specs.Trimmed.{Led, trimmedAt}
 use Rattle.step_trim.proofs.Trimmed.{leaders-led, network-trimmed}
 use Rattle.step_sides.specs.declared.sides.Side.{Side}
 use Rattle.step_sides.specs.Sides.{leaderOf, sideOf, Apart, PartnersIn, cutAt, keptAt}
 use Rattle.step_sides.specs.Turned.{Turns}
-use Rattle.step_add.specs.Added.{AddedTo}
 use Rattle.step_add.proofs.Meaning.{cut-is, kept-is, partners-in, turns}
 use Rattle.step_add.proofs.Stored.{narrowed-head, constrained-head, constrained-rows}
 
@@ -77,7 +76,7 @@ module _ {h : Head} {rows : List ℕ} {x y : ℕ} {table : List ℕ} (G : Given 
 
   -- The head and rows of the network with the table added.
   made : (M : Network) {r : Head} {after : List ℕ} → added (held h rows) x y table ≡ M → r ≡ headOf M → after ≡ rowsOf width (M .allows)
-      → AddedTo h rows x y table r after
+      → Represents (added (held h rows) x y table) r after
   made M e he re = record { head-is = he ∙ ap headOf (sym e); rows-are = re ∙ ap (λ (K : Network). rowsOf width (K .allows)) (sym e) }
 
   -- One leader: its domain keeps what the table allows. With its followers' untrimmed the network is not sound; it fits the arrays and can be trimmed.
@@ -126,7 +125,7 @@ module _ {h : Head} {rows : List ℕ} {x y : ℕ} {table : List ℕ} (G : Given 
   Trims s r =
       (k : ℕ) (short : List ℕ) → s .leader ≡ r .leader → k ≡ word width (keptAt width rows table s r)
       → short ≡ tabulate variables (trimmedAt width rows (set (h .domains) (s .leader) k) (h .leaders))
-      → AddedTo h rows x y table (record { n = h .n; sizes = h .sizes; domains = short; leaders = h .leaders; stated = h .stated }) rows
+      → Represents (added (held h rows) x y table) (record { n = h .n; sizes = h .sizes; domains = short; leaders = h .leaders; stated = h .stated }) rows
 
   trims : Trims (sideOf h x) (sideOf h y)
   unfolding sideOf leaderOf traced free held
@@ -144,7 +143,7 @@ module _ {h : Head} {rows : List ℕ} {x y : ℕ} {table : List ℕ} (G : Given 
       → Stored width rows after (s .leader) (r .leader) (cutAt width rows table s r was) width
       → one ≡ word width (λ (w : ℕ). eqb w (r .leader)) → u ≡ word width (λ (w : ℕ). or (has (getD (h .stated) (s .leader) 0) w) (has one w))
       → two ≡ word width (λ (w : ℕ). eqb w (s .leader)) → v ≡ word width (λ (w : ℕ). or (has (getD (set (h .stated) (s .leader) u) (r .leader) 0) w) (has two w))
-      → AddedTo h rows x y table
+      → Represents (added (held h rows) x y table)
       (record { n = h .n; sizes = h .sizes; domains = h .domains; leaders = h .leaders; stated = set (set (h .stated) (s .leader) u) (r .leader) v }) after
 
   cuts : {was : Bool} {one two u v : ℕ} {after : List ℕ} → Cuts (sideOf h x) (sideOf h y) was one two u v after

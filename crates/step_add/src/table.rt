@@ -16,12 +16,11 @@ ghost use mathlib.Core.Path.{_≡_};
 ghost use Prim.Native.Nat.{suc, _<_};
 ghost use lib.ListN.{length};
 ghost use Rattle.words.specs.Word.{width, word};
-ghost use Rattle.network.specs.Added.{addRefusal};
+ghost use Rattle.network.specs.Added.{addRefusal, added};
 ghost use Rattle.pairs.specs.Frames.{Stored};
-ghost use Rattle.head.specs.Held.{RowsShaped, held, soundIn};
+ghost use Rattle.head.specs.Held.{RowsShaped, Represents, held, soundIn};
 ghost use Rattle.step_sides.specs.Sides.{Placed, Apart, PartnersIn, keptAt, cutAt};
 ghost use Rattle.step_sides.specs.Turned.{Turns};
-ghost use Rattle.step_add.specs.Added.{AddedTo};
 
 // The first leader is lower: the values of the second leader that go with value `a` of the first. A value outside its domain has none, and a pair that was stated
 // bars what it barred.
@@ -95,7 +94,7 @@ fn kept(rows: &Rows, table: &[u32], first: Side, second: Side) -> u32
 // and cut, where its rows are.
 pub fn add(mut head: Head, rows: &mut Rows, x: usize, y: usize, table: &[u32]) -> Head
     requires { ⌜ (soundIn head (now rows) ≡ true) × RowsShaped (now rows) × (addRefusal (held head (now rows)) (suc x) (suc y) (now table) ≡ 0) ⌝ }
-    ensures { λ r. ⌜ AddedTo head (now (rows .entry)) x y (now (table .entry)) r (now (rows .exit)) ⌝ }
+    ensures { λ r. ⌜ Represents (added (held head (now (rows .entry))) x y (now (table .entry))) r (now (rows .exit)) ⌝ }
 {
     let first = side_of(head, x);
     let second = side_of(head, y);

@@ -6,14 +6,6 @@ use lib.Dec.{eqb, ltb}
 use lib.ListN.{length, getD}
 use Rattle.bounded.specs.Bool.{and}
 use Rattle.bounded.specs.Fold.{every}
-use Rattle.cause.specs.Number.{numberOf}
-use Rattle.step_add_judge.specs.declared.TableJudgement.{TableJudgement}
-use Rattle.step_add_judge.specs.declared.TableJudgement.the-variants as judgement
-
--- The number that refuses a table; 0 for one that is not refused.
-unfoldable pub tableNumber : TableJudgement → ℕ
-tableNumber judgement.Legal = 0
-tableNumber (judgement.Refused c) = numberOf c
 
 -- A table has so many rows, and none has a bit at or above the other size.
 unfoldable pub rowsWithin : List ℕ → ℕ → ℕ → Bool

@@ -1,4 +1,5 @@
 // What refuses a table for two variables.
+use answers::Outcome;
 use cause::Cause;
 use head::Head;
 use words::wide;
@@ -12,12 +13,8 @@ ghost use Rattle.words.specs.Word.{width};
 ghost use Rattle.network.specs.Added.{addRefusal};
 ghost use Rattle.pairs.specs.Pairs.{variables};
 ghost use Rattle.head.specs.Held.{mostValues, held};
-ghost use Rattle.step_add_judge.specs.Judging.{tableNumber, rowsWithin};
-
-pub enum TableJudgement {
-    Legal,
-    Refused(Cause),
-}
+ghost use Rattle.answers.specs.Answers.{outcomeNumber};
+ghost use Rattle.step_add_judge.specs.Judging.{rowsWithin};
 
 // "option number 0 or above n"
 fn outside(n: usize, x: usize) -> bool
@@ -52,29 +49,29 @@ fn rows_fit(table: &[u32], size: usize, other: usize) -> bool
 }
 
 // Of two variables: "then 21 for two equal options, then 22 for a wrong count of rows or a bit at or above the size".
-fn decided(same: bool, fits: bool) -> TableJudgement
-    ensures { λ r. ⌜ tableNumber r ≡ if same 21 (if (not fits) 22 0) ⌝ }
+fn decided(same: bool, fits: bool) -> Outcome
+    ensures { λ r. ⌜ outcomeNumber r ≡ if same 21 (if (not fits) 22 0) ⌝ }
 {
     if same {
-        return TableJudgement::Refused(Cause::SameVariables);
+        return Outcome::Refused(Cause::SameVariables);
     }
     if !fits {
-        return TableJudgement::Refused(Cause::TableRows);
+        return Outcome::Refused(Cause::TableRows);
     }
-    TableJudgement::Legal
+    Outcome::Done
 }
 
 // What refuses the table, variables counted from 1. Tested upward: 10, 21, 22. It goes by n and the sizes alone, so that no rows are looked at.
-pub fn judge_table(head: Head, first: usize, second: usize, table: &[u32]) -> TableJudgement
+pub fn judge_table(head: Head, first: usize, second: usize, table: &[u32]) -> Outcome
     requires { ⌜ (head .n ≤ variables) × ((i : ℕ) → getD (head .sizes) i 0 ≤ mostValues) ⌝ }
-    ensures { λ r. ⌜ ((rows : List ℕ) → tableNumber r ≡ addRefusal (held head rows) first second (now (table .entry))) ⌝ }
+    ensures { λ r. ⌜ ((rows : List ℕ) → outcomeNumber r ≡ addRefusal (held head rows) first second (now (table .entry))) ⌝ }
 {
     let n = head.n;
     if outside(n, first) {
-        return TableJudgement::Refused(Cause::VariableNumber);
+        return Outcome::Refused(Cause::VariableNumber);
     }
     if outside(n, second) {
-        return TableJudgement::Refused(Cause::VariableNumber);
+        return Outcome::Refused(Cause::VariableNumber);
     }
     let size = size_of(head, first);
     let other = size_of(head, second);

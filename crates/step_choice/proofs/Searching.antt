@@ -17,8 +17,9 @@ use Rattle.network.proofs.Step.{legal-e}
 use Rattle.network.proofs.Reduction.{leading-i, reducible-leads}
 use Rattle.head.specs.declared.Head.{Head}
 use Rattle.head.specs.Held.{HeadShaped, held, soundIn}
-use Rattle.step_judge.specs.Judging.{judgedNumber, pairNumber}
-use Rattle.step_judge.specs.declared.Judgement.the-variants as judgement
+use Rattle.answers.specs.Answers.{outcomeNumber}
+use Rattle.step_judge.specs.Judging.{pairNumber}
+use Rattle.answers.specs.declared.Outcome.the-variants as outcome
 use Rattle.step_judge.proofs.Judging.{leader-led}
 use Rattle.step_choice.specs.Judging.{followerPair, nextPair, whoLeads}
 use Rattle.step_choice.specs.declared.Leader.{Leader}
@@ -27,12 +28,12 @@ use Rattle.step_choice.specs.declared.Pair.the-variants as pair
 use Rattle.step_choice.proofs.Judging.{legalAt, not-zero, legal-counted}
 
 -- What a judgement says of its number.
-pub judged-legal : (k : ℕ) → judgedNumber judgement.Legal ≡ k → eqb k 0 ≡ true
-unfolding judgedNumber
+pub judged-legal : (k : ℕ) → outcomeNumber outcome.Done ≡ k → eqb k 0 ≡ true
+unfolding outcomeNumber
 judged-legal k h = eq-eqb k 0 (sym h)
 
-pub judged-refused : (c : Cause) (k : ℕ) → judgedNumber (judgement.Refused c) ≡ k → eqb k 0 ≡ false
-unfolding judgedNumber
+pub judged-refused : (c : Cause) (k : ℕ) → outcomeNumber (outcome.Refused c) ≡ k → eqb k 0 ≡ false
+unfolding outcomeNumber
 judged-refused c k h = not-zero k _ (sym h) (number-positive c)
 
 -- A variable that is not free leads nobody.

@@ -1,14 +1,14 @@
 // Which step is legal, and which comes next. The head goes by value once a call, and each pair is judged by the words that it needs.
+use answers::Outcome;
 use cause::Cause;
 use head::Head;
 use pairs::Rows;
-use step_judge::Judgement;
 use step_judge::judge_pair;
 ghost use mathlib.Core.Path.{_≡_};
 ghost use mathlib.Core.Bool.{true};
 ghost use Rattle.head.specs.Held.{held, soundIn};
 ghost use Rattle.network.specs.Step.{refusal};
-ghost use Rattle.step_judge.specs.Judging.{judgedNumber};
+ghost use Rattle.answers.specs.Answers.{outcomeNumber};
 ghost use Rattle.step_choice.specs.Judging.{followerPair, nextPair, whoLeads};
 
 // A leader and a follower, counted from 0.
@@ -24,25 +24,25 @@ pub enum Leader {
 }
 
 // What refuses the step, variables counted from 1. Tested upward: 10, 11, 12, 13.
-pub fn judge(head: Head, rows: &Rows, leader: usize, follower: usize) -> Judgement
+pub fn judge(head: Head, rows: &Rows, leader: usize, follower: usize) -> Outcome
     requires { ⌜ soundIn head (now rows) ≡ true ⌝ }
-    ensures { λ r. ⌜ judgedNumber r ≡ refusal (held head (now (rows .entry))) leader follower ⌝ }
+    ensures { λ r. ⌜ outcomeNumber r ≡ refusal (held head (now (rows .entry))) leader follower ⌝ }
 {
     let n = head.n;
     if leader == 0 {
-        return Judgement::Refused(Cause::VariableNumber);
+        return Outcome::Refused(Cause::VariableNumber);
     }
     if n < leader {
-        return Judgement::Refused(Cause::VariableNumber);
+        return Outcome::Refused(Cause::VariableNumber);
     }
     if follower == 0 {
-        return Judgement::Refused(Cause::VariableNumber);
+        return Outcome::Refused(Cause::VariableNumber);
     }
     if n < follower {
-        return Judgement::Refused(Cause::VariableNumber);
+        return Outcome::Refused(Cause::VariableNumber);
     }
     if leader == follower {
-        return Judgement::Refused(Cause::NotTwoFree);
+        return Outcome::Refused(Cause::NotTwoFree);
     }
     let leaders = head.leaders;
     let domains = head.domains;
@@ -86,7 +86,7 @@ pub fn next_pair(head: Head, rows: &Rows) -> Pair
                 i,
                 j,
             );
-            if let Judgement::Legal = judgement {
+            if let Outcome::Done = judgement {
                 found = Pair::Found(i, j);
                 break 'search;
             }
@@ -118,7 +118,7 @@ pub fn next_follower(head: Head, rows: &Rows, i: usize) -> Pair
             i,
             j,
         );
-        if let Judgement::Legal = judgement {
+        if let Outcome::Done = judgement {
             return Pair::Found(i, j);
         }
     }

@@ -2,14 +2,6 @@
 use mathlib.Core.Bool.{Bool}
 use Prim.Native.Nat.{ℕ}
 use Rattle.bounded.specs.Bool.{or, not, if}
-use Rattle.cause.specs.Number.{numberOf}
-use Rattle.step_judge.specs.declared.Judgement.{Judgement}
-use Rattle.step_judge.specs.declared.Judgement.the-variants as judgement
-
--- The number that refuses a step; 0 for a legal one.
-unfoldable pub judgedNumber : Judgement → ℕ
-judgedNumber judgement.Legal = 0
-judgedNumber (judgement.Refused c) = numberOf c
 
 -- The number that refuses a step of two variables that differ, by whether each is free, their pair is stated, and it is functional: 11 "one not live", 12
 -- "pair not stated", 13 "not functional".

@@ -1,4 +1,5 @@
 // What refuses a step of two variables, by the words of the pair.
+use answers::Outcome;
 use cause::Cause;
 use pairs::Rows;
 ghost use mathlib.Core.Path.{_≡_};
@@ -7,12 +8,8 @@ ghost use Prim.Native.Nat.{_<_};
 ghost use lib.Dec.{eqb};
 ghost use Rattle.words.specs.Word.{width, has};
 ghost use Rattle.pairs.specs.Pairs.{variables, partnersWithin};
-ghost use Rattle.step_judge.specs.Judging.{judgedNumber, pairNumber};
-
-pub enum Judgement {
-    Legal,
-    Refused(Cause),
-}
+ghost use Rattle.answers.specs.Answers.{outcomeNumber};
+ghost use Rattle.step_judge.specs.Judging.{pairNumber};
 
 // What refuses a step of two variables that differ, counted from 0: one is not free, their pair is not stated, or it is not functional. The ones of row AND
 // domain decide whether it is. `leader` and `other` are the leaders of `i` and `j`, `di` and `dj` their domains; `stated` is what `i` is stated with.
@@ -25,21 +22,21 @@ pub fn judge_pair(
     rows: &Rows,
     i: usize,
     j: usize,
-) -> Judgement
+) -> Outcome
     requires { ⌜ (i < variables) × (j < variables) × (has stated j ≡ true → i ≡ j → ⊥) ⌝ }
-    ensures { λ r. ⌜ judgedNumber r ≡ pairNumber (eqb leader 0) (eqb other 0) (has stated j) (partnersWithin width (now (rows .entry)) i j di dj 0 1) ⌝ }
+    ensures { λ r. ⌜ outcomeNumber r ≡ pairNumber (eqb leader 0) (eqb other 0) (has stated j) (partnersWithin width (now (rows .entry)) i j di dj 0 1) ⌝ }
 {
     if leader != 0 {
-        return Judgement::Refused(Cause::NotTwoFree);
+        return Outcome::Refused(Cause::NotTwoFree);
     }
     if other != 0 {
-        return Judgement::Refused(Cause::NotTwoFree);
+        return Outcome::Refused(Cause::NotTwoFree);
     }
     if !words::member(stated, j) {
-        return Judgement::Refused(Cause::NotStated);
+        return Outcome::Refused(Cause::NotStated);
     }
     if !pairs_read::partners_within(rows, i, j, di, dj, 0, 1) {
-        return Judgement::Refused(Cause::NotFunctional);
+        return Outcome::Refused(Cause::NotFunctional);
     }
-    Judgement::Legal
+    Outcome::Done
 }

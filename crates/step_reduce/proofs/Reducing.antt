@@ -13,14 +13,13 @@ use Rattle.network.specs.Reduction.{Reduced, freeCount, leading, lowestFollower
 use Rattle.network.proofs.Reduction.{step-keeps, step-count, follower-legal, runWithin-step, runWithin-stop}
 use Rattle.pairs.specs.Pairs.{variables, rowsOf}
 use Rattle.head.specs.declared.Head.{Head}
-use Rattle.head.specs.Held.{RowsShaped, held, headOf, soundIn}
+use Rattle.head.specs.Held.{RowsShaped, Represents, held, headOf, soundIn}
 use Rattle.head.proofs.Held.{HeadShaped, Packed, held-n, held-sound, head-of-held, rows-of-held, kept-packed}
 use Rattle.step_choice.specs.declared.Pair.the-variants as pair
 use Rattle.step_choice.specs.declared.Leader.the-variants as leader
 use Rattle.step_choice.specs.Judging.{followerPair, whoLeads}
-use Rattle.step_rules.specs.Stepped.{Stepped}
 use Rattle.step_reduce.specs.declared.Reduction.{Reduction}
-use Rattle.step_reduce.specs.Reduced.{RanTo, ReducedTo}
+use Rattle.step_reduce.specs.Reduced.{RanTo}
 
 -- A head and rows hold what a legal step makes of a sound network.
 pub followed-packed : (h : Head) (rows : List ℕ) → HeadShaped h → soundIn h rows ≡ true → (i j : ℕ) → legal (held h rows) i j ≡ true
@@ -95,7 +94,7 @@ module _ {who : Network → ℕ} {h r : Head} {before rows : List ℕ} {steps : 
     pub running-steps : steps < variables
     running-steps = omega (arith, one-less, R .free-left, R .most-left, R .n-small)
 
-    module _ {q : Head} {after : List ℕ} (S : Stepped r rows i j q after) where
+    module _ {q : Head} {after : List ℕ} (S : Represents (followed (held r rows) i j) q after) where
       packed : Packed (followed (held r rows) i j)
       packed = followed-packed r rows (R .still-head) (R .still-sound) i j running-legal
 
@@ -135,13 +134,15 @@ module _ {who : Network → ℕ} {h r : Head} {before rows : List ℕ} {steps : 
       let stop = runWithin-stop who (R .most) (held r rows) (none-next who (held r rows) e) in
       let N : told .network ≡ held r rows = R .network-left ∙ ap (λ (a : Reduced). a .network) stop in
       record {
-        head-is = sym (ap headOf N ∙ head-of-held r rows (R .still-head));
-        rows-are = sym (ap (λ (M : Network). rowsOf width (M .allows)) N ∙ rows-of-held r rows (R .still-rows));
+        becomes = record {
+          head-is = sym (ap headOf N ∙ head-of-held r rows (R .still-head));
+          rows-are = sym (ap (λ (M : Network). rowsOf width (M .allows)) N ∙ rows-of-held r rows (R .still-rows));
+        };
         steps-are = let k : steps ≡ told .steps = omega (arith, R .steps-left, ap (λ (a : Reduced). a .steps) stop) in k;
       }
 
 -- Of the full reduction: the leader is the lowest that has a legal follower.
 pub lowest-reduces : (h : Head) (before : List ℕ) (r : Reduction) (rows : List ℕ) → RanTo (runWithin (whoLeads leader.Lowest) (h .n) (held h before)) r rows
-    → ReducedTo h before r rows
+    → RanTo (reduce (held h before)) r rows
 unfolding reduce reduceWithin held whoLeads
-lowest-reduces h before r rows t = record { head-is = t .head-is; rows-are = t .rows-are; steps-are = t .steps-are }
+lowest-reduces h before r rows t = t

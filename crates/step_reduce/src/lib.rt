@@ -7,10 +7,10 @@ use step_choice::next_step;
 use step_rules::step;
 ghost use mathlib.Core.Bool.{true};
 ghost use mathlib.Core.Path.{_≡_};
-ghost use Rattle.network.specs.Reduction.{runWithin};
+ghost use Rattle.network.specs.Reduction.{runWithin, reduce};
 ghost use Rattle.head.specs.Held.{RowsShaped, held, soundIn};
 ghost use Rattle.step_choice.specs.Judging.{whoLeads};
-ghost use Rattle.step_reduce.specs.Reduced.{RanTo, ReducedTo};
+ghost use Rattle.step_reduce.specs.Reduced.{RanTo};
 
 // The head at the end of a run, and how many steps led there.
 pub struct Reduction {
@@ -39,7 +39,7 @@ fn run_sound(head: Head, rows: &mut Rows, leader: Leader) -> Reduction
 // The full reduction of a sound state: "repeats until no step is legal".
 pub fn reduce_sound(head: Head, rows: &mut Rows) -> Reduction
     requires { ⌜ RowsShaped (now rows) × (soundIn head (now rows) ≡ true) ⌝ }
-    ensures { λ r. ⌜ ReducedTo head (now (rows .entry)) r (now (rows .exit)) ⌝ }
+    ensures { λ r. ⌜ RanTo (reduce (held head (now (rows .entry)))) r (now (rows .exit)) ⌝ }
 {
     run_sound(head, rows, Leader::Lowest)
 }

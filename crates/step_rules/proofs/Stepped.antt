@@ -23,13 +23,12 @@ use Rattle.network.proofs.Step.{trimmed-domain, trimmed-e, trimmed-i, joined-e,
 use Rattle.pairs.specs.Pairs.{variables, allowsOf, rowsOf}
 use Rattle.pairs.proofs.Laws.{allows-alike, rows-rule}
 use Rattle.head.specs.declared.Head.{Head}
-use Rattle.head.specs.Held.{mostValues, RowsShaped, held, headOf, soundIn}
+use Rattle.head.specs.Held.{mostValues, RowsShaped, Represents, held, headOf, soundIn}
 use Rattle.head.proofs.Held.{HeadShaped, held-bounded, held-sound, held-n, held-size}
 use Rattle.step_compose.specs.Compose.{supportedAt, composedAt}
 use Rattle.step_parts.specs.StepParts.{leaderAfter, thirdOf, statedAfter, madeAt, MovedRows}
 use Rattle.step_trim.specs.Trimmed.{Led, trimmedAt}
 use Rattle.step_trim.proofs.Trimmed.{trimmable-led, leaders-led, network-trimmed}
-use Rattle.step_rules.specs.Stepped.{Stepped}
 
 module _ {h : Head} (rows : List ℕ) (S : HeadShaped h) (t : soundIn h rows ≡ true) (i j : ℕ) (l : legal (held h rows) i j ≡ true) where
   sound : Sound (held h rows)
@@ -187,7 +186,7 @@ module _ {h : Head} (rows : List ℕ) (S : HeadShaped h) (t : soundIn h rows ≡
       trimmed-after = network-trimmed (eliminate (held h rows) i j) fits can sound-trimmed few small head-after rows-after
 
       pub stepped : {short : List ℕ} → short ≡ tabulate variables (trimmedAt width after (set (h .domains) i ti) led)
-          → Stepped h rows i j (record { n = h .n; sizes = h .sizes; domains = short; leaders = led; stated = linked }) after
+          → Represents (followed (held h rows) i j) (record { n = h .n; sizes = h .sizes; domains = short; leaders = led; stated = linked }) after
       stepped q = record { head-is = trimmed-after q; rows-are = rows-after ∙ same-allows }
         where
           same-allows : rowsOf width (eliminate (held h rows) i j .allows) ≡ rowsOf width (followed (held h rows) i j .allows)

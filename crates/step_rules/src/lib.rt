@@ -8,14 +8,13 @@ use step_parts::thirds_of;
 use step_trim::trim_followers;
 ghost use mathlib.Core.Bool.{true};
 ghost use mathlib.Core.Path.{_≡_};
-ghost use Rattle.network.specs.Step.{legal};
-ghost use Rattle.head.specs.Held.{RowsShaped, held, soundIn};
-ghost use Rattle.step_rules.specs.Stepped.{Stepped};
+ghost use Rattle.network.specs.Step.{legal, followed};
+ghost use Rattle.head.specs.Held.{RowsShaped, Represents, held, soundIn};
 
 // Rules 1, 2 and 3, in order, and then the lists of all followers. The rows are worked on where they are; the head is built anew.
 pub fn step(head: Head, rows: &mut Rows, i: usize, j: usize) -> Head
     requires { ⌜ (soundIn head (now rows) ≡ true) × RowsShaped (now rows) × (legal (held head (now rows)) i j ≡ true) ⌝ }
-    ensures { λ r. ⌜ Stepped head (now (rows .entry)) i j r (now (rows .exit)) ⌝ }
+    ensures { λ r. ⌜ Represents (followed (held head (now (rows .entry))) i j) r (now (rows .exit)) ⌝ }
 {
     let sizes = head.sizes;
     let domains = head.domains;

@@ -10,7 +10,7 @@ use borrow.Author.Tests.{eq-eqb, ne-eqb}
 use Rattle.bounded.specs.Bool.{and}
 use Rattle.bounded.specs.Fold.{some}
 use Rattle.bounded.specs.Table.{tabulate}
-use Rattle.bounded.proofs.Bool.{bool-ext, and-i, and-l, and-r, if-true, if-false}
+use Rattle.bounded.proofs.Bool.{bool-ext, and-l, if-true, if-false}
 use Rattle.bounded.proofs.Fold.{some-i, some-e}
 use Rattle.bounded.proofs.Table.{is-table, tabulate-cong}
 use Rattle.words.specs.Word.{width, has, word}

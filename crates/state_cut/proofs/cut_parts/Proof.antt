@@ -30,7 +30,7 @@ verdict-of-requires c κs =
     let d = c .before .before in
     let t = d .before .before in
     let a = read t .read-parts in
-    cut-sound _ (a .result) _ (a .ensures) (read-as t) (reduction-told (d .reduce-sound .ensures))
+    cut-sound _ (a .result) _ (a .ensures) (read-as t) (reduction-told _ _ (read-as t .is-sound) (d .reduce-sound .ensures))
 
 returns-2 : tie.Need-returns-2
 unfolding cutPartsTold
@@ -38,7 +38,7 @@ returns-2 c =
     let d = c .before .before .before .before in
     let t = d .before .before in
     let a = read t .read-parts in
-    cut-accepted _ (a .result) _ (a .ensures) (read-as t) (reduction-told (d .reduce-sound .ensures)) (t .enum-told .given .1) (c .before .verdict-of .ensures)
+    cut-accepted _ (a .result) _ (a .ensures) (read-as t) (reduction-told _ _ (read-as t .is-sound) (d .reduce-sound .ensures)) (t .enum-told .given .1) (c .before .verdict-of .ensures)
 
 pub cut-parts-spec : {M : Type 1} → statement M
 cut-parts-spec =

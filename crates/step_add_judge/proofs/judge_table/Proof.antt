@@ -10,17 +10,17 @@ use Rattle.bounded.proofs.Bool.{or-l, or-r, if-true}
 use Rattle.network.specs.Step.{outside}
 use Rattle.network.specs.Added.{addRefusal}
 use Rattle.head.specs.Held.{held}
-use Rattle.step_add_judge.specs.Judging.{tableNumber}
+use Rattle.answers.specs.Answers.{outcomeNumber}
 use Rattle.step_add_judge.proofs.Judging.{rest-decides, numbered}
 use Rattle.step_add_judge.proofs.judge_table.Statement.{statement}
 use Rattle.step_add_judge.proofs.judge_table.Tie as tie
 
 returns : tie.Need-returns
-unfolding held outside tableNumber addRefusal
+unfolding held outside outcomeNumber addRefusal
 returns c rows = sym (if-true _ _ _ (or-l _ _ (sym (c .before .outside .ensures) ∙ c .if1 .taken)))
 
 returns-2 : tie.Need-returns-2
-unfolding held outside tableNumber addRefusal
+unfolding held outside outcomeNumber addRefusal
 returns-2 c rows = sym (if-true _ _ _ (or-r _ _ (sym (c .before .outside2 .ensures) ∙ c .if2 .taken)))
 
 -- Past these two both numbers name a variable.

@@ -4,25 +4,25 @@ use native.Mathlib.Omega.{arith}
 use borrow.Author.Needs.{needs}
 use Rattle.head.specs.Held.{held}
 use Rattle.head.proofs.Held.{HeadShaped, shape, held-n}
-use Rattle.step_judge.specs.Judging.{judgedNumber}
+use Rattle.answers.specs.Answers.{outcomeNumber}
 use Rattle.step_choice.proofs.Judging.{Named, leader-zero, leader-above, follower-zero, follower-above, same-variable, refusal-counted, stated-apart}
 use Rattle.step_choice.proofs.judge.Statement.{statement}
 use Rattle.step_choice.proofs.judge.Tie as tie
 
 returns : tie.Need-returns
-unfolding held judgedNumber
+unfolding held outcomeNumber
 returns c = sym (leader-zero _ _ _ (c .if1 .taken))
 
 returns-2 : tie.Need-returns-2
-unfolding held judgedNumber
+unfolding held outcomeNumber
 returns-2 c = sym (leader-above _ _ _ (c .if2 .taken))
 
 returns-3 : tie.Need-returns-3
-unfolding held judgedNumber
+unfolding held outcomeNumber
 returns-3 c = sym (follower-zero _ _ _ (c .if3 .taken))
 
 returns-4 : tie.Need-returns-4
-unfolding held judgedNumber
+unfolding held outcomeNumber
 returns-4 c = sym (follower-above _ _ _ (c .if4 .taken))
 
 named : (c : tie.Else4) → Named (c .before .before .before .before .args .head .n)
@@ -30,7 +30,7 @@ named : (c : tie.Else4) → Named (c .before .before .before .before .args .head
 named c = search needs
 
 returns-5 : tie.Need-returns-5
-unfolding held judgedNumber
+unfolding held outcomeNumber
 returns-5 c = sym (same-variable _ _ _ (named (c .before)) (c .if5 .taken))
 
 judge-pair-requires : tie.Need-judge-pair-requires

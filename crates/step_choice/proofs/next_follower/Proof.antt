@@ -6,7 +6,7 @@ use native.Mathlib.Omega.{arith}
 use borrow.Author.Count.{below-more}
 use borrow.Author.Needs.{needs}
 use Rattle.head.proofs.Held.{HeadShaped, shape, held-n}
-use Rattle.step_judge.specs.Judging.{judgedNumber}
+use Rattle.answers.specs.Answers.{outcomeNumber}
 use Rattle.step_choice.proofs.Judging.{legalAt, stated-apart}
 use Rattle.step_choice.proofs.Searching.{judged-legal, judged-refused, none-outside, follower-found, none-follows}
 use Rattle.step_choice.proofs.next_follower.Statement.{statement}
@@ -36,12 +36,12 @@ returns-2 c =
     let s = c .before .before .before .before .before .before .before .before .before in
     let h : HeadShaped (s .args .head) = search shape in
     follower-found _ h (s .pre) (omega arith) (omega arith)
-    (judged-legal _ (ap judgedNumber (sym (c .enum-told .given .1)) ∙ c .before .before .judge-pair .ensures)) (l .inv .1)
+    (judged-legal _ (ap outcomeNumber (sym (c .enum-told .given .1)) ∙ c .before .before .judge-pair .ensures)) (l .inv .1)
 
 loop-again : tie.Need-loop-again Inv-loop μ-loop
 loop-again c =
     let l = c .before .before .before .before .loop in
-    (omega arith, below-more _ _ (l .inv .1) (judged-refused _ _ (ap judgedNumber (sym (c .enum-told2 .given .1)) ∙ c .before .before .judge-pair .ensures)))
+    (omega arith, below-more _ _ (l .inv .1) (judged-refused _ _ (ap outcomeNumber (sym (c .enum-told2 .given .1)) ∙ c .before .before .judge-pair .ensures)))
 
 returns-3 : tie.Need-returns-3 Inv-loop μ-loop
 returns-3 c =

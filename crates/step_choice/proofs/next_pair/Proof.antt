@@ -6,7 +6,7 @@ use native.Mathlib.Omega.{arith}
 use borrow.Author.Count.{below-more}
 use borrow.Author.Needs.{needs}
 use Rattle.head.proofs.Held.{HeadShaped, shape, held-n}
-use Rattle.step_judge.specs.Judging.{judgedNumber}
+use Rattle.answers.specs.Answers.{outcomeNumber}
 use Rattle.step_choice.specs.declared.Pair.the-variants as pair
 use Rattle.step_choice.proofs.Judging.{legalAt, stated-apart}
 use Rattle.step_choice.proofs.Searching.{judged-legal, judged-refused, led-leads-none, next-found, next-none}
@@ -51,7 +51,7 @@ loop-again c =
     let l = c .before .before .before .before .loop in (
       omega arith,
       l .inv .1,
-      below-more _ _ (l .inv .2) (judged-refused _ _ (ap judgedNumber (sym (c .enum-told2 .given .1)) ∙ c .before .before .judge-pair .ensures)),
+      below-more _ _ (l .inv .2) (judged-refused _ _ (ap outcomeNumber (sym (c .enum-told2 .given .1)) ∙ c .before .before .judge-pair .ensures)),
     )
 
 search-again-2 : tie.Need-search-again-2 Inv-loop μ-loop Inv-search μ-search
@@ -74,7 +74,7 @@ returns-2 c =
     let b = a .before .before .before .before in
     let h : HeadShaped (b .args .head) = search shape in
     next-found _ h (b .pre) (omega arith) (omega arith)
-    (judged-legal _ (ap judgedNumber (sym (c .enum-told .given .1)) ∙ c .before .before .judge-pair .ensures)) (a .search .inv .2) (l .inv .2)
+    (judged-legal _ (ap outcomeNumber (sym (c .enum-told .given .1)) ∙ c .before .before .judge-pair .ensures)) (a .search .inv .2) (l .inv .2)
 
 pub next-pair-spec : {M : Type 1} → statement M
 next-pair-spec =

@@ -4,21 +4,21 @@ use mathlib.Core.Path.{_≡_, sym, _∙_}
 use borrow.Author.Needs.{needs}
 use borrow.Author.Tests.{eq-eqb, ne-eqb, not-true, not-false}
 use Rattle.words.specs.Word.{has}
-use Rattle.step_judge.specs.Judging.{judgedNumber}
+use Rattle.answers.specs.Answers.{outcomeNumber}
 use Rattle.step_judge.proofs.Judging.{leader-led, follower-led, not-stated, not-functional, step-legal}
 use Rattle.step_judge.proofs.judge_pair.Statement.{statement}
 use Rattle.step_judge.proofs.judge_pair.Tie as tie
 
 returns : tie.Need-returns
-unfolding judgedNumber
+unfolding outcomeNumber
 returns c = sym (leader-led _ _ _ (ne-eqb _ _ (c .if1 .taken)))
 
 returns-2 : tie.Need-returns-2
-unfolding judgedNumber
+unfolding outcomeNumber
 returns-2 c = sym (follower-led _ _ _ (ne-eqb _ _ (c .if2 .taken)))
 
 returns-3 : tie.Need-returns-3
-unfolding judgedNumber
+unfolding outcomeNumber
 returns-3 c =
     let e = c .before .before in
     sym (not-stated (eq-eqb _ _ (e .before .if1 .left)) (eq-eqb _ _ (e .if2 .left)) _ (sym (c .before .member .ensures) ∙ not-true _ (c .if3 .taken)))
@@ -34,7 +34,7 @@ partners-within-requires c κs =
     (p .0, p .1, p .2 (is-stated c))
 
 returns-4 : tie.Need-returns-4
-unfolding judgedNumber
+unfolding outcomeNumber
 returns-4 c =
     let d = c .before .before in
     let e = d .before .before in
@@ -42,7 +42,7 @@ returns-4 c =
     (sym (c .before .partners-within .ensures) ∙ not-true _ (c .if4 .taken)))
 
 returns-5 : tie.Need-returns-5
-unfolding judgedNumber
+unfolding outcomeNumber
 returns-5 c =
     let d = c .before .before in
     let e = d .before .before in

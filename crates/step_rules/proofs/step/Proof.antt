@@ -1,4 +1,4 @@
--- The two variables are apart, neither is a third one, and the three rules and the trimming make what `Stepped` says.
+-- The two variables are apart, neither is a third one, and the three rules and the trimming make the head and rows of the network after the step.
 use mathlib.Core.Bool.{false}
 use mathlib.Core.Path.{_≡_}
 use Prim.Native.Nat.{_^_, _<_}

@@ -1,9 +1,10 @@
--- What refuses the step decides: `refusal-told`, or `step-told` with the step itself.
+-- What refuses the step decides: `refusal-told`, or `taken-told` with the step itself.
+use mathlib.Core.Path.{refl}
 use borrow.Author.Needs.{needs}
 use Rattle.state.specs.View.{stateOf}
 use Rattle.state.specs.Calls.{called}
 use Rattle.state.proofs.Steps.{refusal-told}
-use Rattle.state.proofs.Worked.{StepTaken, not-refused-step, step-state, step-told}
+use Rattle.state.proofs.Worked.{taken-told, StepTaken, not-refused-step, step-made}
 use Rattle.state.proofs.reduction.eliminate_parts.Statement.{statement}
 use Rattle.state.proofs.reduction.eliminate_parts.Tie as tie
 
@@ -25,7 +26,7 @@ step-requires : tie.Need-step-requires
 step-requires c κs = let T = taken (c .before .before .before) in (T .of-sound, c .before .whole .ensures, T .is-legal)
 
 returns-2 : tie.Need-returns-2
-returns-2 c = let t = c .before .before .before .before in step-told (taken t) (t .enum-told .given .1) (step-state (c .step .ensures))
+returns-2 c = let t = c .before .before .before .before in taken-told _ _ (taken t .number-0) (t .enum-told .given .1) (step-made _ _ _) (c .step .ensures) refl
 
 pub eliminate-parts-spec : {M : Type 1} → statement M
 eliminate-parts-spec =

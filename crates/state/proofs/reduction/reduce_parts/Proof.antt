@@ -1,11 +1,10 @@
--- Soundness comes first: `reduce-unsound`, or `reduction-told` with the reduction itself.
+-- Soundness comes first: `unsound-told`, or `reduction-told` with the reduction itself.
 use mathlib.Core.Bool.{true}
 use mathlib.Core.Path.{_≡_, sym, _∙_}
 use borrow.Author.Needs.{needs}
 use borrow.Author.Tests.{not-true, not-false}
 use Rattle.head.specs.Held.{soundIn}
-use Rattle.state.proofs.Steps.{reduced-done}
-use Rattle.state.proofs.Worked.{reduction-told, reduce-unsound}
+use Rattle.state.proofs.Worked.{unsound-told, reduction-told}
 use Rattle.state.proofs.reduction.reduce_parts.Statement.{statement}
 use Rattle.state.proofs.reduction.reduce_parts.Tie as tie
 
@@ -13,13 +12,13 @@ sound : (c : tie.Else1) → soundIn (c .before .before .before .args .head) (c .
 sound c = sym (c .before .sound-parts .ensures) ∙ not-false _ (c .if1 .left)
 
 returns : tie.Need-returns
-returns c = reduce-unsound _ (sym (c .before .sound-parts .ensures) ∙ not-true _ (c .if1 .taken))
+returns c = unsound-told _ _ (sym (c .before .sound-parts .ensures) ∙ not-true _ (c .if1 .taken))
 
 reduce-sound-requires : tie.Need-reduce-sound-requires
 reduce-sound-requires c κs = let w = c .before in (w .whole .ensures, sound (w .before .before))
 
 returns-2 : tie.Need-returns-2
-returns-2 c = let r = c .before in reduction-told (r .reduce-sound .ensures) ∙ sym (reduced-done _ (sound (r .before .before .before .before)))
+returns-2 c = let r = c .before in reduction-told _ _ (sound (r .before .before .before .before)) (r .reduce-sound .ensures)
 
 pub reduce-parts-spec : {M : Type 1} → statement M
 reduce-parts-spec = tie.close (tie.spec (λ c κs. search needs) returns (λ c κs. search needs) reduce-sound-requires returns-2)

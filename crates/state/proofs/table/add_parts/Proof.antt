@@ -1,9 +1,11 @@
--- What refuses the table decides: `refusal-told`, or `addition-told` with the table itself.
+-- What refuses the table decides: `refusal-told`, or `taken-told` with the table itself.
+use mathlib.Core.Path.{refl}
 use borrow.Author.Needs.{needs}
 use Rattle.state.specs.View.{stateOf}
 use Rattle.state.specs.Calls.{called}
 use Rattle.state.proofs.Steps.{refusal-told}
-use Rattle.state.proofs.Tables.{TableTaken, not-refused-table, table-state, addition-told}
+use Rattle.state.proofs.Tables.{TableTaken, not-refused-table, table-made}
+use Rattle.state.proofs.Worked.{taken-told}
 use Rattle.state.proofs.table.add_parts.Statement.{statement}
 use Rattle.state.proofs.table.add_parts.Tie as tie
 
@@ -25,7 +27,7 @@ add-requires : tie.Need-add-requires
 add-requires c κs = let T = taken (c .before .before .before) in (T .for-sound, c .before .whole .ensures, T .fits)
 
 returns-2 : tie.Need-returns-2
-returns-2 c = let t = c .before .before .before .before in addition-told (taken t) (t .enum-told .given .1) (table-state (c .add .ensures))
+returns-2 c = let t = c .before .before .before .before in taken-told _ _ (taken t .number-0) (t .enum-told .given .1) (table-made _ _ _ _) (c .add .ensures) refl
 
 pub add-parts-spec : {M : Type 1} → statement M
 add-parts-spec =

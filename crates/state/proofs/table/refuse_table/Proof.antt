@@ -1,11 +1,11 @@
 -- Soundness comes first, and then the judgement.
 use mathlib.Core.Bool.{true}
-use mathlib.Core.Path.{_≡_, sym, ap, _∙_}
+use mathlib.Core.Path.{_≡_, sym, _∙_}
 use borrow.Author.Needs.{needs}
 use borrow.Author.Tests.{not-true, not-false}
 use Rattle.bounded.proofs.Bool.{if-true, if-false}
 use Rattle.answers.specs.Answers.{outcomeNumber}
-use Rattle.step_add_judge.specs.Judging.{tableNumber}
+use Rattle.answers.specs.Answers.{outcomeNumber}
 use Rattle.head.specs.Held.{soundIn}
 use Rattle.head.proofs.Held.{held-n, held-size, shape}
 use Rattle.network.specs.Calls.{refuses}
@@ -24,16 +24,8 @@ judge-table-requires : tie.Need-judge-table-requires
 judge-table-requires c κs = (held-n _ _ (sound c), held-size _ _ (search shape) (sound c))
 
 returns-2 : tie.Need-returns-2
-unfolding outcomeNumber tableNumber callRefusal refuses
-returns-2 c =
-    let j = c .before .before in
-    ap tableNumber (sym (c .enum-told .given .1)) ∙ j .judge-table .ensures _ ∙ sym (if-true _ _ _ (sound (j .before)))
-
-returns-3 : tie.Need-returns-3
-unfolding outcomeNumber tableNumber callRefusal refuses
-returns-3 c =
-    let j = c .before .before .before in
-    ap tableNumber (sym (c .before .cause .given .1)) ∙ j .judge-table .ensures _ ∙ sym (if-true _ _ _ (sound (j .before)))
+unfolding callRefusal refuses
+returns-2 c = c .judge-table .ensures _ ∙ sym (if-true _ _ _ (sound (c .before)))
 
 pub refuse-table-spec : {M : Type 1} → statement M
 refuse-table-spec =
@@ -42,7 +34,4 @@ refuse-table-spec =
     (λ c κs. search needs)
     returns
     judge-table-requires
-    (λ c. search needs)
-    (λ c. search needs)
-    returns-2
-    returns-3)
+    returns-2)

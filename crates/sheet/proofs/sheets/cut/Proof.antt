@@ -1,8 +1,8 @@
 use borrow.Author.Needs.{needs}
 use Rattle.state.specs.Cut.{cutTold}
 use Rattle.state_cut.specs.Parts.{cutPartsTold}
-use Rattle.sheet.proofs.bytes.cut.Statement.{statement}
-use Rattle.sheet.proofs.bytes.cut.Tie as tie
+use Rattle.sheet.proofs.sheets.cut.Statement.{statement}
+use Rattle.sheet.proofs.sheets.cut.Tie as tie
 
 returns : tie.Need-returns
 unfolding cutTold cutPartsTold

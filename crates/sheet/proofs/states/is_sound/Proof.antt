@@ -1,7 +1,7 @@
 -- The head and the rows are those of the state.
 use borrow.Author.Needs.{needs}
-use Rattle.sheet.proofs.solutions.is_sound.Statement.{statement}
-use Rattle.sheet.proofs.solutions.is_sound.Tie as tie
+use Rattle.sheet.proofs.states.is_sound.Statement.{statement}
+use Rattle.sheet.proofs.states.is_sound.Tie as tie
 
 returns : tie.Need-returns
 returns c =

@@ -1,8 +1,8 @@
 use borrow.Author.Needs.{needs}
 use Rattle.state.specs.Answers.{readTold}
 use Rattle.state_read.specs.Parts.{readPartsTold}
-use Rattle.sheet.proofs.bytes.read.Statement.{statement}
-use Rattle.sheet.proofs.bytes.read.Tie as tie
+use Rattle.sheet.proofs.sheets.read.Statement.{statement}
+use Rattle.sheet.proofs.sheets.read.Tie as tie
 
 returns : tie.Need-returns
 unfolding readTold readPartsTold

@@ -1,8 +1,8 @@
 -- The head and the rows are those of the state.
 use borrow.Author.Needs.{needs}
 use Rattle.state.proofs.View.{state-whole}
-use Rattle.sheet.proofs.solutions.verdict.Statement.{statement}
-use Rattle.sheet.proofs.solutions.verdict.Tie as tie
+use Rattle.sheet.proofs.states.verdict.Statement.{statement}
+use Rattle.sheet.proofs.states.verdict.Tie as tie
 
 returns : tie.Need-returns
 returns c =

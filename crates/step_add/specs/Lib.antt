@@ -1,2 +1,0 @@
--- What a table makes of a head and rows.
-pub mod Added
