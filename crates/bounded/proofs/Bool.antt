@@ -202,6 +202,11 @@ unfolding bit
 bit-le true = omega arith
 bit-le false = omega arith
 
+pub bit-fewer : (a b : Bool) → (a ≡ true → b ≡ true) → bit a ≤ bit b
+unfolding bit
+bit-fewer true b h = rw (h refl) (omega arith)
+bit-fewer false b h = omega arith
+
 pub bit-and : (a b : Bool) → bit (and a b) ≡ bit a * bit b
 unfolding bit and
 bit-and true true = refl

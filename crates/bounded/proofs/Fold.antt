@@ -10,7 +10,7 @@ use lib.Dec.{eqb, leb, ltb}
 use borrow.Author.Tests.{eq-eqb, eqb-true, eqb-false, leb-true, leb-false, ltb-true, ltb-false}
 use Rattle.bounded.specs.Bool.{and, or, bit, if, not}
 use Rattle.bounded.specs.Fold.{every, some, sum, product, count, first}
-use Rattle.bounded.proofs.Bool.{by-cases, clash, not-true→false, machine-and, and-comm, and-i, and-l, and-r, or-l, or-r, or-elim, bit-true, bit-false, bit-le, bit-split}
+use Rattle.bounded.proofs.Bool.{by-cases, clash, bool-ext, not-true→false, machine-and, and-comm, and-i, and-l, and-r, or-l, or-r, or-elim, not-i, not-e, bit-true, bit-false, bit-le, bit-split}
 
 lift-cmp : (n k : ℕ) → (k ≡ n) ⊎ (k < n) → (suc k ≡ suc n) ⊎ (suc k < suc n)
 lift-cmp n k (inl e) = inl (ap suc e)
@@ -42,6 +42,15 @@ every-e (suc n) p h k l =
     below-suc n k l
     (λ e. subst (λ (m : ℕ). p m ≡ true) (sym e) (and-l (p n) (every n p) h))
     (λ s. every-e n p (and-r (p n) (every n p) h) k s)
+
+-- Where not all pass, some one does not.
+pub every-not : {A : Type 0} (n : ℕ) (p : ℕ → Bool) → every n p ≡ false → ((k : ℕ) → k < n → p k ≡ false → A) → A
+unfolding every
+every-not zero p h f = clash refl h
+every-not (suc n) p h f =
+    by-cases (p n)
+    (λ t. every-not n p (by-cases (every n p) (λ e. clash (and-i _ _ t e) h) (λ e. e)) (λ k l e. f k (omega arith) e))
+    (λ t. f n (omega arith) t)
 
 pub some-i : (n : ℕ) (p : ℕ → Bool) (k : ℕ) → k < n → p k ≡ true → some n p ≡ true
 unfolding some
@@ -90,6 +99,21 @@ sum-cong (suc n) f g h = rw (h n (omega arith), sum-cong n f g (λ k l. h k (ome
 pub count-cong : (n : ℕ) (p q : ℕ → Bool) → ((k : ℕ) → k < n → p k ≡ q k) → count n p ≡ count n q
 unfolding count
 count-cong n p q h = sum-cong n _ _ (λ k l. ap bit (h k l))
+
+-- A sum of numbers that are no greater is no greater,
+pub sum-le : (n : ℕ) (f g : ℕ → ℕ) → ((k : ℕ) → f k ≤ g k) → sum n f ≤ sum n g
+unfolding sum
+sum-le zero f g h = omega arith
+sum-le (suc n) f g h = omega (arith, h n, sum-le n f g h)
+
+-- and less, where one of them is.
+pub sum-lt : (n : ℕ) (f g : ℕ → ℕ) → ((k : ℕ) → f k ≤ g k) → (k : ℕ) → k < n → f k < g k → sum n f < sum n g
+unfolding sum
+sum-lt zero f g h k l m = absurd (let x : ⊥ = omega arith in x)
+sum-lt (suc n) f g h k l m =
+    below-suc n k l
+    (λ e. let q : f n < g n = rw e at m in omega (arith, sum-le n f g h))
+    (λ b. omega (arith, h n, sum-lt n f g h k b m))
 
 pub sum-zero : (n : ℕ) (f : ℕ → ℕ) → ((k : ℕ) → k < n → f k ≡ 0) → sum n f ≡ 0
 unfolding sum
@@ -229,6 +253,42 @@ count-without n p k l h =
     let one : count n (λ (i : ℕ). and (p i) (eqb i k)) ≡ 1 =
     count-one n _ k l (and-i _ _ h (eq-eqb k k refl)) (λ i m t. eqb-true i k (and-r (p i) _ t)) in
     omega (arith, count-split n p (λ (i : ℕ). eqb i k))
+
+-- Where fewer pass, fewer are counted.
+pub count-fewer : (n : ℕ) (p q : ℕ → Bool) → ((k : ℕ) → k < n → p k ≡ true → q k ≡ true) → count n p ≤ count n q
+count-fewer n p q h =
+    let e : count n (λ (k : ℕ). and (q k) (p k)) ≡ count n p = count-cong n _ _ λ k l. bool-ext _ _ (and-r _ _) (λ t. and-i _ _ (h k l t) t) in
+    omega (arith, count-split n q p)
+
+-- Where all pass, all are counted,
+pub count-all : (n : ℕ) (p : ℕ → Bool) → ((k : ℕ) → k < n → p k ≡ true) → count n p ≡ n
+unfolding count sum
+count-all zero p h = refl
+count-all (suc n) p h = omega (arith, bit-true (p n) (h n (omega arith)), count-all n p (λ k l. h k (omega arith)))
+
+-- and a count that is not full leaves one out.
+pub count-room : {A : Type 0} (n : ℕ) (p : ℕ → Bool) → count n p < n → ((k : ℕ) → k < n → p k ≡ false → A) → A
+count-room n p l f =
+    by-cases (some n (λ (k : ℕ). not (p k)))
+    (λ t. some-e n _ t λ k m u. f k m (not-e _ u))
+    (λ t. absurd (let x : ⊥ = omega (arith, count-all n p λ k m. by-cases (p k) (λ u. u) (λ u. clash (not-i _ u) (none-of n _ t k m))) in x))
+
+-- n numbers of at most 1 add up to at most n,
+pub sum-most : (n : ℕ) (f : ℕ → ℕ) → ((k : ℕ) → k < n → f k ≤ 1) → sum n f ≤ n
+unfolding sum
+sum-most zero f h = omega arith
+sum-most (suc n) f h = omega (arith, h n (omega arith), sum-most n f λ k l. h k (omega arith))
+
+-- and where they add up to n they are 1.
+pub sum-full : (n : ℕ) (f : ℕ → ℕ) → ((k : ℕ) → k < n → f k ≤ 1) → sum n f ≡ n → (k : ℕ) → k < n → f k ≡ 1
+unfolding sum
+sum-full zero f h e k l = absurd (let x : ⊥ = omega arith in x)
+sum-full (suc n) f h e k l =
+    let a : f n ≤ 1 = h n (omega arith) in
+    let b : sum n f ≤ n = sum-most n f (λ i m. h i (omega arith)) in
+    below-suc n k l
+    (λ q. ap f q ∙ (let x : f n ≡ 1 = omega arith in x))
+    (λ s. sum-full n f (λ i m. h i (omega arith)) (omega arith) k s)
 
 -- The search: it stays within the bound, what it finds passes, and all below it fails.
 pub first-le : (n : ℕ) (p : ℕ → Bool) → first n p ≤ n

@@ -28,7 +28,7 @@ use Rattle.format.proofs.Lengths.{length-rows}
 use Rattle.format.proofs.RoundTrip.{FieldFits, count-stands, sizes-stand, table-count-stands, tables-stand, SheetRead, parsed}
 
 -- Tables that ascend are of different pairs.
-past-untabled : {previous : ℕ} {ts : List Table} → Ascend previous ts → (i j : ℕ) → suc i * 256 + suc j ≤ previous → tabled ts i j ≡ false
+pub past-untabled : {previous : ℕ} {ts : List Table} → Ascend previous ts → (i j : ℕ) → suc i * 256 + suc j ≤ previous → tabled ts i j ≡ false
 unfolding tabled pairOf
 past-untabled Ascend.none i j h = refl
 past-untabled (Ascend.more {t = t} l u) i j h =
@@ -72,7 +72,7 @@ module _ (bytes : List ℕ) where
       let p : b * 256 ^ suc k ≡ b * 256 ^ k * 256 = rw (pow-suc 256 k) (sym (mul-assoc b (256 ^ k) 256)) in
       omega (arith, ih, p, add-mul (b * 256 ^ k) (numberAt k bytes (suc at)) 256)
 
-  bigEndian-is : (k at : ℕ) → bigEndian bytes k at ≡ numberAt k bytes at
+  pub bigEndian-is : (k at : ℕ) → bigEndian bytes k at ≡ numberAt k bytes at
   unfolding bigEndian
   bigEndian-is zero at = unfold numberAt in refl
   bigEndian-is (suc k) at = rw (bigEndian-is k at) (sym (number-last k at))
@@ -81,36 +81,36 @@ module _ (bytes : List ℕ) where
 module _
     (L : Layout) (bytes : List ℕ) (v : layoutOf (getD bytes 0 0) ≡ found L) (s : Sheet) (end : ℕ) (h : Stands bytes 3 (printBody L s) end)
   where
-    options-stand : options bytes ≡ length (s .sizes)
+    pub options-stand : options bytes ≡ length (s .sizes)
     unfolding options byte
     options-stand = stands-at bytes 3 4 (length (s .sizes) ∷ []) (count-stands L bytes s end h) 0 (omega arith)
 
-    optionSize-is : (x : ℕ) → 1 ≤ x → x ≤ length (s .sizes) → optionSize bytes x ≡ sizeOf (s .sizes) x
+    pub optionSize-is : (x : ℕ) → 1 ≤ x → x ≤ length (s .sizes) → optionSize bytes x ≡ sizeOf (s .sizes) x
     unfolding optionSize byte sizeOf
     optionSize-is x l m =
         let e : 3 + x ≡ 4 + (x - 1) = omega arith in
         rw e (stands-at bytes 4 (4 + length (s .sizes)) (s .sizes) (sizes-stand L bytes s end h) (x - 1) (omega arith))
 
-    tables-counted : tables bytes ≡ length (s .tables)
+    pub tables-counted : tables bytes ≡ length (s .tables)
     unfolding tables byte
     tables-counted =
         rw (options-stand, ← add-zero (4 + length (s .sizes)))
         (stands-at bytes (4 + length (s .sizes)) _ (length (s .tables) ∷ []) (table-count-stands L bytes s end h) 0 (omega arith))
 
-    first-stands : firstTable bytes ≡ 4 + length (s .sizes) + 1
+    pub first-stands : firstTable bytes ≡ 4 + length (s .sizes) + 1
     unfolding firstTable
     first-stands = rw options-stand (omega arith)
 
-    rowWidth-is : rowWidth bytes ≡ L .rowBytes
+    pub rowWidth-is : rowWidth bytes ≡ L .rowBytes
     unfolding rowWidth byte widthIn
     rowWidth-is = rw v
 
     module _ (t : Table) (fits : TableFits L (s .sizes) t) (at next : ℕ) (k : Stands bytes at (printTable L t) next) where
-      first-byte : byte bytes at ≡ t .first
+      pub first-byte : byte bytes at ≡ t .first
       unfolding byte printTable
       first-byte = rw add-zero at (stands-at bytes at next (printTable L t) k 0 (omega arith))
 
-      second-byte : byte bytes (at + 1) ≡ t .second
+      pub second-byte : byte bytes (at + 1) ≡ t .second
       unfolding byte printTable
       second-byte = stands-at bytes at next (printTable L t) k 1 (omega arith)
 
@@ -118,15 +118,15 @@ module _
       unfolding printTable
       rows-stand = stands-back bytes at next (t .first ∷ (t .second ∷ [])) (printAll (bytesOf (L .rowBytes)) (t .rows)) k
 
-      rows-are : optionSize bytes (byte bytes at) ≡ length (t .rows)
+      pub rows-are : optionSize bytes (byte bytes at) ≡ length (t .rows)
       rows-are =
           rw first-byte (optionSize-is (t .first) (fits .first-in) (omega arith) ∙ sym (fits .row-count))
 
-      next-table : nextTable bytes at ≡ next
+      pub next-table : nextTable bytes at ≡ next
       unfolding nextTable
       next-table = rw (rowWidth-is, rows-are) (omega (arith, length-rows (L .rowBytes) (t .rows), rows-stand .ends))
 
-      table-row : (a : ℕ) → a < length (t .rows) → tableRow bytes at a ≡ getD (t .rows) a 0
+      pub table-row : (a : ℕ) → a < length (t .rows) → tableRow bytes at a ≡ getD (t .rows) a 0
       unfolding tableRow
       table-row a l = rw (rowWidth-is, bigEndian-is) (row-at bytes (L .rowBytes) _ (fits .rows-fit) (at + 2) next rows-stand a l)
 
@@ -134,11 +134,11 @@ module _
       unfolding tableAllows allowedBy
       table-allows f l = rw (first-byte, second-byte) (ap (λ (row : ℕ). has row (f (t .second - 1))) (table-row (f (t .first - 1)) l))
 
-      own-pair : (i j : ℕ) → and (eqb (byte bytes at) (suc i)) (eqb (byte bytes (at + 1)) (suc j)) ≡ isFor t i j
+      pub own-pair : (i j : ℕ) → and (eqb (byte bytes at) (suc i)) (eqb (byte bytes (at + 1)) (suc j)) ≡ isFor t i j
       unfolding isFor
       own-pair i j = rw (first-byte, second-byte)
 
-      own-rows : (i j a : ℕ) → isFor t i j ≡ true → a < getD (s .sizes) i 0 → a < length (t .rows)
+      pub own-rows : (i j a : ℕ) → isFor t i j ≡ true → a < getD (s .sizes) i 0 → a < length (t .rows)
       unfolding sizeOf
       own-rows i j a e b =
           let same : t .first - 1 ≡ i = omega (arith, isFor-e t i j e .0) in

@@ -13,3 +13,7 @@ pub mod Versions
 pub mod Writable
 pub mod Beside
 pub mod Examples
+pub mod Decided
+pub mod Named
+pub mod Profile
+pub mod Kits

@@ -6,3 +6,4 @@ pub mod WellFormed
 pub mod Writable
 pub mod Builds
 pub mod Examples
+pub mod Profile

@@ -38,8 +38,8 @@ module _ (p : ℕ → ℕ → Bool) where
   unfolding sets
   sets-array = table-array variables (2 ^ width) _ (pow-pos width) (λ i l. word-lt width (p i))
 
-  has-sets : ((i a : ℕ) → p i a ≡ true → (i < variables) × (a < width)) → (i a : ℕ) → has (getD (sets p) i 0) a ≡ p i a
-  unfolding sets
+  pub has-sets : ((i a : ℕ) → p i a ≡ true → (i < variables) × (a < width))
+      → (i a : ℕ) → has (getD (tabulate variables (λ (k : ℕ). word width (p k))) i 0) a ≡ p i a
   has-sets within i a =
       ap (λ (x : ℕ). has x a)
       (getD-table variables _ i λ m. sym (is-word width 0 (p i) (pow-pos width) λ v l. has-zero v ∙ sym (outside v λ b. omega arith)))

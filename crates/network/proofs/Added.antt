@@ -354,7 +354,7 @@ module _ (N : Network) (x y : ℕ) (rows : List ℕ) where
 
 -- ---- refusals
 
-denied : {P : Type 0} (b : Bool) → (b ≡ false) ↔ P → (b ≡ true) ↔ (P → ⊥)
+pub denied : {P : Type 0} (b : Bool) → (b ≡ false) ↔ P → (b ≡ true) ↔ (P → ⊥)
 denied b e = (λ t p. clash t (e .1 p), λ n. by-cases b (λ t. t) (λ t. absurd (n (e .0 t))))
 
 same-number : (a b : ℕ) → (eqb a b ≡ true) ↔ (a ≡ b)
@@ -400,14 +400,17 @@ module _ (N : Network) (x y : ℕ) (rows : List ℕ) where
   fitting : (not (rowsFit N x y rows) ≡ false) ↔ Fitting N x y rows
   fitting = (λ h. fitting-e (not-false-e _ h), λ F. not-false-i _ (fitting-i F))
 
+pub number-inside : (N : Network) (k : ℕ) → (outside N k ≡ false) ↔ Numbered N k
+number-inside N k = (
+  λ h. let e = outside-e N k h in record { from-1 = e .0; to-n = e .1 },
+  λ h. outside-i N k (h .from-1) (h .to-n),
+)
+
 numbered : (N : Network) (k l : ℕ) → (or (outside N k) (outside N l) ≡ false) ↔ (Numbered N k × Numbered N l)
 numbered N k l = (
-  λ h. (one k (or-false-l _ _ h), one l (or-false-r _ _ h)),
-  λ h. or-false-i _ _ (outside-i N k (h .0 .from-1) (h .0 .to-n)) (outside-i N l (h .1 .from-1) (h .1 .to-n)),
+  λ h. (number-inside N k .0 (or-false-l _ _ h), number-inside N l .0 (or-false-r _ _ h)),
+  λ h. or-false-i _ _ (number-inside N k .1 (h .0)) (number-inside N l .1 (h .1)),
 )
-  where
-    one : (k : ℕ) → outside N k ≡ false → Numbered N k
-    one k h = let e = outside-e N k h in record { from-1 = e .0; to-n = e .1 }
 
 pub add-refuses : (N : Network) (k l : ℕ) (rows : List ℕ) → Refuses N k l rows
 unfolding addRefusal

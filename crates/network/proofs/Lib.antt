@@ -7,6 +7,7 @@ pub mod Substitution
 pub mod Completion
 pub mod Count
 pub mod Reduction
+pub mod Trimming
 pub mod Calls
 pub mod Promise
 pub mod Tables
@@ -19,3 +20,9 @@ pub mod Lists
 pub mod Added
 pub mod Search
 pub mod Turns
+pub mod Reach
+pub mod Through
+pub mod Lead
+pub mod Order
+pub mod Paired
+pub mod Planned

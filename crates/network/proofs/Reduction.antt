@@ -86,14 +86,19 @@ pub run-count : {N M : Network} {k : ℕ} → Sound N → Run N M k → freeCoun
 run-count s done = omega arith
 run-count {N} s (next i j l r) = omega (arith, step-count N s i j l, run-count (followed-sound N s i j l) r)
 
+-- Where none is set free and k fewer are free, k were free before and are not now.
+pub taken : (N M : Network) (k : ℕ) → M .n ≡ N .n → ((x : ℕ) → free M x ≡ true → free N x ≡ true) → freeCount M + k ≡ freeCount N
+    → count (N .n) (λ (x : ℕ). and (free N x) (not (free M x))) ≡ k
+unfolding freeCount
+taken N M k n f c =
+    let still : count (N .n) (λ (x : ℕ). and (free N x) (free M x)) ≡ count (N .n) (free M) =
+    count-cong (N .n) _ _ (λ x l. bool-ext _ _ (and-r _ _) (λ h. and-i _ _ (f x h) h)) in
+    let same : count (M .n) (free M) ≡ count (N .n) (free M) = ap (λ (m : ℕ). count m (free M)) n in
+    omega (arith, count-split (N .n) (free N) (free M))
+
 -- "the number of steps, which equals the number of options that were live before and are not now,
 pub run-taken : {N M : Network} {k : ℕ} → Sound N → Run N M k → count (N .n) (λ (x : ℕ). and (free N x) (not (free M x))) ≡ k
-unfolding freeCount
-run-taken {N} {M} s r =
-    let still : count (N .n) (λ (x : ℕ). and (free N x) (free M x)) ≡ count (N .n) (free M) =
-    count-cong (N .n) _ _ (λ x l. bool-ext _ _ (and-r _ _) (λ h. and-i _ _ (run-free s r x h) h)) in
-    let same : count (M .n) (free M) ≡ count (N .n) (free M) = ap (λ (m : ℕ). count m (free M)) (run-keeps s r .same-n) in
-    omega (arith, count-split (N .n) (free N) (free M), run-count s r)
+run-taken {N} {M} {k} s r = taken N M k (run-keeps s r .same-n) (run-free s r) (run-count s r)
 
 -- and is at most n - 1"
 pub run-most : {N M : Network} {k : ℕ} → Sound N → Run N M k → suc k ≤ N .n
@@ -203,6 +208,10 @@ module _ (who : Network → ℕ) where
       not-true→false _ (λ t. let x : ⊥ = omega (arith, runWithin-full (N .n) N t, run-most s (runWithin-run (N .n) N)) in x)
 
 -- The reduction, case by case.
+pub reduceWithin-zero : (N : Network) → reduceWithin zero N ≡ record { network = N; steps = 0 }
+unfolding reduceWithin
+reduceWithin-zero N = runWithin-zero nextLeader N
+
 pub reduceWithin-stop : (most : ℕ) (N : Network) → reducible N ≡ false → reduceWithin most N ≡ record { network = N; steps = 0 }
 unfolding reduceWithin
 reduceWithin-stop most N h = runWithin-stop nextLeader most N (sym (reducible-leads N) ∙ h)

@@ -6,6 +6,7 @@ pub mod Substitution
 pub mod Step
 pub mod Rules
 pub mod Reduction
+pub mod Trimming
 pub mod Completion
 pub mod Count
 pub mod Calls
@@ -17,3 +18,7 @@ pub mod Lists
 pub mod Added
 pub mod Search
 pub mod Turns
+pub mod Reach
+pub mod Leader
+pub mod Order
+pub mod Paired

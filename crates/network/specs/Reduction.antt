@@ -1,11 +1,11 @@
 -- The full reduction.
 use mathlib.Core.Bool.{Bool, true}
 use mathlib.Core.Path.{_≡_}
-use Prim.Native.Nat.{ℕ, zero, suc}
-use Rattle.bounded.specs.Bool.{if}
+use Prim.Native.Nat.{ℕ, zero, suc, pred}
+use Rattle.bounded.specs.Bool.{not, if}
 use Rattle.bounded.specs.Fold.{some, count, first}
 use Rattle.network.specs.Network.{Network, free}
-use Rattle.network.specs.Step.{legal, followed}
+use Rattle.network.specs.Step.{outside, legal, followed}
 
 -- How many variables are free.
 unfoldable pub freeCount : Network → ℕ
@@ -57,6 +57,15 @@ reduceWithin most N = runWithin nextLeader most N
 -- "The full reduction .. repeats until no step is legal." Each step takes a free variable, so n steps are more than there can be.
 unfoldable pub reduce : Network → Reduced
 reduce N = reduceWithin (N .n) N
+
+-- Document 02: "I want to name the option that leads .. Only it takes followers, the lowest possible one each time, until none can follow. The state and
+-- the number of steps come back." The leader counts from 0.
+unfoldable pub lead : Network → ℕ → Reduced
+lead N l = runWithin (λ (M : Network). l) (N .n) N
+
+-- Its refusal, the leader counted from 1: "It refuses with 9, then 10, then 11 when the named option is not live", or 0.
+unfoldable pub leadRefusal : Network → ℕ → ℕ
+leadRefusal N l = if (outside N l) 10 (if (not (free N (pred l))) 11 0)
 
 -- A run of legal steps, whichever they are, and their number: what holds of any run holds of the reduction.
 pub data Run : Network → Network → ℕ → Type 0 where

@@ -1,7 +1,8 @@
--- The number in one byte, in two and in four.
+-- The number in one byte, in two and in four, and where rows of them stand.
 use mathlib.Core.List.{List}
 use mathlib.Core.Path.{_≡_}
-use Prim.Native.Nat.{ℕ, suc, _+_, _*_, _/_, _%_, _<_}
+use Prim.Native.Nat.{ℕ, suc, _+_, _*_, _/_, _%_, _≤_, _<_}
+use native.Mathlib.Nat.{mul-suc, mul-le-mul-left}
 use native.Mathlib.Numerals.{add-one}
 use native.Mathlib.Omega.{arith}
 use mir.Syntax.{w8, w16, w32, w64}
@@ -73,3 +74,7 @@ number-four bytes at known x e =
     let three : suc (at + 2) ≡ at + 3 = omega arith in
     rw (one, two, three)
     (omega (arith, digits x (known at) (known (at + 1)) (known (at + 2)) (known (at + 3)) e))
+
+-- Of so many rows of k bytes each ends at or before the end of all.
+pub row-inside : (k : ℕ) {count a : ℕ} → a < count → k * a + k ≤ k * count
+row-inside k {count} {a} l = let e : k * suc a ≤ k * count = mul-le-mul-left k l in omega (arith, mul-suc k a)

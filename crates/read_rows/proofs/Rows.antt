@@ -3,7 +3,7 @@ use mathlib.Core.Bool.{Bool, true, false, _&&_}
 use mathlib.Core.List.{List, [], _∷_, _++_}
 use mathlib.Core.Path.{_≡_, refl, sym, _∙_, ap}
 use Prim.Native.Nat.{ℕ, zero, suc, _+_, _-_, _*_, _^_, _≤_, _<_}
-use native.Mathlib.Nat.{mul-suc, mul-zero, mul-le-mul, mul-le-mul-left, pow-le-pow-right}
+use native.Mathlib.Nat.{mul-suc, mul-zero, mul-le-mul, pow-le-pow-right}
 use native.Mathlib.Numerals.{add-one}
 use native.Mathlib.Omega.{arith}
 use mir.Syntax.{w8}
@@ -25,6 +25,7 @@ use Rattle.format.specs.Layout.{Test, fine, rowTest}
 use Rattle.format.specs.Parse.{Octets, got, bad, numberAt, field, many, fields}
 use Rattle.format.proofs.Numbers.{number-below}
 use Rattle.format.proofs.Parse.{fine-row, row-of-fine}
+use Rattle.read_number.proofs.Numbers.{row-inside}
 use Rattle.read_field.specs.declared.field.Read.{Read}
 use Rattle.read_field.specs.declared.field.Read.the-variants.{Value, Refused}
 use Rattle.read_field.specs.Fields.{readAs, readOf}
@@ -36,10 +37,6 @@ tabulate-more : (n : ℕ) (f : ℕ → ℕ) → tabulate (suc n) f ≡ tabulate 
 unfolding tabulate
 tabulate-more zero f = refl
 tabulate-more (suc n) f = ap (λ l. f 0 ∷ l) (tabulate-more n (λ k. f (suc k)))
-
--- A row ends at or before the end of all.
-pub row-inside : (k : ℕ) {count a : ℕ} → a < count → k * a + k ≤ k * count
-row-inside k {count} {a} l = let e : k * suc a ≤ k * count = mul-le-mul-left k l in omega (arith, mul-suc k a)
 
 -- ---- one by one
 

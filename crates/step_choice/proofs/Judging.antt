@@ -1,27 +1,27 @@
--- Judging a step: each test that comes first decides its number, and the ones of row AND domain decide whether a pair is functional.
+-- Judging a step: each test that comes first decides its number.
 use mathlib.Core.Bool.{Bool, true, false}
 use mathlib.Core.List.{List}
 use mathlib.Core.Path.{_≡_, refl, sym, ap, _∙_}
 use Prim.Native.Nat.{ℕ, suc, pred, _-_, _≤_, _<_}
 use native.Mathlib.Numerals.{sub-one}
 use native.Mathlib.Omega.{arith}
-use lib.Dec.{eqb, leb}
+use lib.Dec.{eqb}
 use lib.ListN.{getD}
-use borrow.Author.Tests.{eqb-true, eqb-false, eq-eqb, ne-eqb, lt-ltb, le-ltb, le-leb}
-use Rattle.bounded.specs.Bool.{and, or, if}
-use Rattle.bounded.specs.Fold.{count}
-use Rattle.bounded.proofs.Bool.{by-cases, bool-ext, true-and, and-l, or-l, or-r, or-false-i, implies-i, implies-e, not-true→false}
-use Rattle.bounded.proofs.Fold.{every-i, every-e, count-widen}
+use borrow.Author.Tests.{eqb-true, eqb-false, eq-eqb, ne-eqb, lt-ltb, le-ltb}
+use Rattle.bounded.specs.Bool.{and, or, not, if}
+use Rattle.bounded.proofs.Bool.{by-cases, or-l, or-r, or-false-i, not-true→false, if-true}
 use Rattle.words.specs.Word.{width, has}
-use Rattle.network.specs.Network.{Network, free, partner, functional}
+use Rattle.network.specs.Network.{Network, free, functional}
 use Rattle.network.specs.Sound.{Sound}
 use Rattle.network.specs.Step.{outside, refusal, legal}
+use Rattle.network.specs.Reduction.{leadRefusal}
 use Rattle.network.proofs.Sound.{stated-distinct}
 use Rattle.network.proofs.Step.{refusal-10, refusal-11, badNumber, legal-e}
-use Rattle.pairs.specs.Pairs.{partnersAt, partnersWithin}
+use Rattle.pairs.specs.Pairs.{partnersWithin}
 use Rattle.head.specs.declared.Head.{Head}
 use Rattle.head.specs.Held.{HeadShaped, held, soundIn}
-use Rattle.head.proofs.Held.{held-sound, held-size}
+use Rattle.head.proofs.Held.{held-sound}
+use Rattle.head.proofs.Functional.{functional-counted}
 use Rattle.step_judge.specs.Judging.{pairNumber}
 use Rattle.step_judge.proofs.Judging.{leader-led, not-stated}
 use Rattle.step_choice.specs.Judging.{pairRefusal}
@@ -53,6 +53,32 @@ module _ (N : Network) (l f : ℕ) where
 
   pub follower-above : N .n < f → refusal N l f ≡ 10
   follower-above h = refusal-10 N l f .1 (or-r _ _ (above-outside N f h))
+
+-- What refuses a leader that is named.
+module _ (h : Head) (rows : List ℕ) (l : ℕ) where
+  unnamed : outside (held h rows) l ≡ true → leadRefusal (held h rows) l ≡ 10
+  unfolding leadRefusal
+  unnamed t = if-true _ _ _ t
+
+  pub zero-leads : l ≡ 0 → leadRefusal (held h rows) l ≡ 10
+  zero-leads e = unnamed (zero-outside (held h rows) l e)
+
+  pub above-leads : h .n < l → leadRefusal (held h rows) l ≡ 10
+  unfolding held
+  above-leads m = unnamed (above-outside (held h rows) l m)
+
+  module _ (some : 1 ≤ l) (most : l ≤ h .n) where
+    named-inside : outside (held h rows) l ≡ false
+    unfolding held
+    named-inside = inside (held h rows) l some most
+
+    pub led-leads : (getD (h .leaders) (l - 1) 0 ≡ 0 → ⊥) → leadRefusal (held h rows) l ≡ 11
+    unfolding leadRefusal free not if held
+    led-leads d = rw (named-inside, sym (sub-one l), ne-eqb _ 0 d)
+
+    pub free-leads : getD (h .leaders) (l - 1) 0 ≡ 0 → leadRefusal (held h rows) l ≡ 0
+    unfolding leadRefusal free not if held
+    free-leads e = rw (named-inside, sym (sub-one l), eq-eqb _ 0 e)
 
 -- Two numbers that name variables.
 pub record Named (n l f : ℕ) : Type 0 where
@@ -103,32 +129,13 @@ module _ (N : Network) (S : Sound N) where
       ap (λ (r : ℕ). eqb r 0)
       (sym (pair-decides N (suc i) (suc j) (record { l-some = omega arith; l-in = omega arith; f-some = omega arith; f-in = omega arith }) (λ e. d (ap pred e)))))
 
--- The ones of row AND domain decide: in a sound network each domain lies within its size, so that counting all the values of a word counts no other.
+-- On the words of a sound head and rows, where the ones of row AND domain decide whether a pair is functional.
 module _ {h : Head} (rows : List ℕ) (S : HeadShaped h) (t : soundIn h rows ≡ true) where
-  size-fits : (i : ℕ) → getD (h .sizes) i 0 ≤ width
-  size-fits i = omega (arith, held-size h rows S t i)
-
-  partners-counted : (i j a : ℕ) → partnersAt width rows i j (getD (h .domains) j 0) a ≡ count (held h rows .size j) (partner (held h rows) i j a)
-  unfolding held partner partnersAt
-  partners-counted i j a =
-      count-widen _ width _ (size-fits j) (λ b l. not-true→false _ (λ u.
-      let m = held-sound h rows S t .domain-in j b (and-l _ _ u) in let z : ⊥ = omega arith in z))
-
-  functional-counted : (i j : ℕ) → partnersWithin width rows i j (getD (h .domains) i 0) (getD (h .domains) j 0) 0 1 ≡ functional (held h rows) i j
-  unfolding functional partnersWithin held
-  functional-counted i j =
-      let one : (a : ℕ) → and (leb 0 (partnersAt width rows i j (getD (h .domains) j 0) a)) (leb (partnersAt width rows i j (getD (h .domains) j 0) a) 1)
-      ≡ leb (count (getD (h .sizes) j 0) (partner (held h rows) i j a)) 1 =
-      λ a. rw (le-leb 0 (partnersAt width rows i j (getD (h .domains) j 0) a) (omega arith)) (true-and _ ∙ ap (λ (k : ℕ). leb k 1) (partners-counted i j a)) in
-      bool-ext _ _
-      (λ e. every-i _ _ (λ a l. implies-i _ _ (λ d. sym (one a) ∙ implies-e _ _ (every-e width _ e a (omega (arith, size-fits i))) d)))
-      (λ e. every-i width _ (λ a l. implies-i _ _ (λ d. one a ∙ implies-e _ _ (every-e _ _ e a (held-sound h rows S t .domain-in i a d)) d)))
-
-  -- So the words of a pair say what refuses it,
+  -- The words of a pair say what refuses it,
   number-counted : (i j : ℕ) → numberAt (h .leaders) (h .domains) (h .stated) rows i j ≡ pairRefusal (held h rows) i j
   unfolding pairRefusal free held
   number-counted i j =
-      ap (pairNumber (eqb (getD (h .leaders) i 0) 0) (eqb (getD (h .leaders) j 0) 0) (has (getD (h .stated) i 0) j)) (functional-counted i j)
+      ap (pairNumber (eqb (getD (h .leaders) i 0) 0) (eqb (getD (h .leaders) j 0) 0) (has (getD (h .stated) i 0) j)) (functional-counted rows S t i j)
 
   pub refusal-counted : {l f : ℕ} → Named (h .n) l f → (l ≡ f → ⊥)
       → numberAt (h .leaders) (h .domains) (h .stated) rows (l - 1) (f - 1) ≡ refusal (held h rows) l f

@@ -4,10 +4,14 @@ use cause::Cause;
 use head::Head;
 use pairs::Rows;
 use step_judge::judge_pair;
+ghost use mathlib.Core.List.{List};
 ghost use mathlib.Core.Path.{_≡_};
 ghost use mathlib.Core.Bool.{true};
 ghost use Rattle.head.specs.Held.{held, soundIn};
+ghost use Prim.Native.Nat.{ℕ, _≤_};
+ghost use Rattle.pairs.specs.Pairs.{variables};
 ghost use Rattle.network.specs.Step.{refusal};
+ghost use Rattle.network.specs.Reduction.{leadRefusal};
 ghost use Rattle.answers.specs.Answers.{outcomeNumber};
 ghost use Rattle.step_choice.specs.Judging.{followerPair, nextPair, whoLeads};
 
@@ -59,6 +63,24 @@ pub fn judge(head: Head, rows: &Rows, leader: usize, follower: usize) -> Outcome
         i,
         j,
     )
+}
+
+// What refuses a run that `leader` is to lead, counted from 1: "then 10, then 11 when the named option is not live".
+pub fn judge_leader(head: Head, leader: usize) -> Outcome
+    requires { ⌜ head .n ≤ variables ⌝ }
+    ensures { λ r. ⌜ ((rows : List ℕ) → outcomeNumber r ≡ leadRefusal (held head rows) leader) ⌝ }
+{
+    if leader == 0 {
+        return Outcome::Refused(Cause::VariableNumber);
+    }
+    if head.n < leader {
+        return Outcome::Refused(Cause::VariableNumber);
+    }
+    let leaders = head.leaders;
+    if leaders[leader - 1] != 0 {
+        return Outcome::Refused(Cause::NotTwoFree);
+    }
+    Outcome::Done
 }
 
 // The step that the reduction takes next: "the lowest i that has a legal j, with the lowest such j".

@@ -9,7 +9,7 @@ use Rattle.bounded.proofs.Fold.{count-le}
 use Rattle.words.specs.Word.{width}
 use Rattle.network.specs.Network.{Network}
 use Rattle.network.specs.Step.{legal, followed}
-use Rattle.network.specs.Reduction.{Reduced, freeCount, leading, lowestFollower, oneMore, runWithin, reduceWithin, reduce}
+use Rattle.network.specs.Reduction.{Reduced, freeCount, leading, lowestFollower, oneMore, runWithin, reduceWithin, reduce, lead}
 use Rattle.network.proofs.Reduction.{step-keeps, step-count, follower-legal, runWithin-step, runWithin-stop}
 use Rattle.pairs.specs.Pairs.{variables, rowsOf}
 use Rattle.head.specs.declared.Head.{Head}
@@ -141,8 +141,12 @@ module _ {who : Network → ℕ} {h r : Head} {before rows : List ℕ} {steps : 
         steps-are = let k : steps ≡ told .steps = omega (arith, R .steps-left, ap (λ (a : Reduced). a .steps) stop) in k;
       }
 
--- Of the full reduction: the leader is the lowest that has a legal follower.
-pub lowest-reduces : (h : Head) (before : List ℕ) (r : Reduction) (rows : List ℕ) → RanTo (runWithin (whoLeads leader.Lowest) (h .n) (held h before)) r rows
-    → RanTo (reduce (held h before)) r rows
-unfolding reduce reduceWithin held whoLeads
-lowest-reduces h before r rows t = t
+-- Of the full reduction: the leader is the lowest that has a legal follower. Of a leader that is named it is that one.
+module _ (h : Head) (before : List ℕ) (r : Reduction) (rows : List ℕ) where
+  pub lowest-reduces : RanTo (runWithin (whoLeads leader.Lowest) (h .n) (held h before)) r rows → RanTo (reduce (held h before)) r rows
+  unfolding reduce reduceWithin held whoLeads
+  lowest-reduces t = t
+
+  pub named-leads : (l : ℕ) → RanTo (runWithin (whoLeads (leader.Named l)) (h .n) (held h before)) r rows → RanTo (lead (held h before) l) r rows
+  unfolding lead held whoLeads
+  named-leads l t = t

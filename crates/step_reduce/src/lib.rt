@@ -7,7 +7,7 @@ use step_choice::next_step;
 use step_rules::step;
 ghost use mathlib.Core.Bool.{true};
 ghost use mathlib.Core.Path.{_≡_};
-ghost use Rattle.network.specs.Reduction.{runWithin, reduce};
+ghost use Rattle.network.specs.Reduction.{runWithin, reduce, lead};
 ghost use Rattle.head.specs.Held.{RowsShaped, held, soundIn};
 ghost use Rattle.step_choice.specs.Judging.{whoLeads};
 ghost use Rattle.step_reduce.specs.Reduced.{RanTo};
@@ -42,4 +42,12 @@ pub fn reduce_sound(head: Head, rows: &mut Rows) -> Reduction
     ensures { λ r. ⌜ RanTo (reduce (held head (now (rows .entry)))) r (now (rows .exit)) ⌝ }
 {
     run_sound(head, rows, Leader::Lowest)
+}
+
+// The run that `l` leads, counted from 0: "Only it takes followers, the lowest possible one each time, until none can follow."
+pub fn lead_sound(head: Head, rows: &mut Rows, l: usize) -> Reduction
+    requires { ⌜ RowsShaped (now rows) × (soundIn head (now rows) ≡ true) ⌝ }
+    ensures { λ r. ⌜ RanTo (lead (held head (now (rows .entry))) l) r (now (rows .exit)) ⌝ }
+{
+    run_sound(head, rows, Leader::Named(l))
 }

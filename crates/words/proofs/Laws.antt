@@ -1,6 +1,7 @@
 -- Laws of words as sets of values, for any width: a word of w bits is below 2 ^ w.
 -- All rest on `has-digit`, `word-zero` and `word-suc`, which alone look into the definitions.
 use mathlib.Core.Bool.{Bool, true, false}
+use mathlib.Core.Bool as machine
 use mathlib.Core.Path.{_≡_, refl, sym, ap, ap₂, _∙_}
 use Prim.Native.Nat.{ℕ, zero, suc, _+_, _-_, _*_, _/_, _%_, _^_, _≤_, _<_, min, max}
 use native.Mathlib.Nat.{mod-one, div-one, mod-lt, mod-eq-of-lt, div-eq-of-lt, sub-add-cancel, pow-suc, mul-le-mul-right, add-mul-div-right, add-mul-mod-self-right, mul-add-mod-self-right}
@@ -8,13 +9,13 @@ use native.Mathlib.Numerals.{one-add}
 use native.Mathlib.Omega.{arith}
 use lib.Bits.{bitAnd, bitOr, and-step, or-step, and-shr, or-shr, and-le-l}
 use lib.Count.{ones, ones-cat, trailingZeros, under}
-use lib.Dec.{eqb, ltb}
+use lib.Dec.{eqb, leb, ltb}
 use lib.Pow.{pow-pos, pow-mono, pow-add, high, mod-pow-add, shr-shr}
-use borrow.Author.Tests.{ltb-true, ltb-false, lt-ltb, le-ltb, eq-eqb, eqb-true, ne-eqb}
+use borrow.Author.Tests.{ltb-true, ltb-false, lt-ltb, le-ltb, le-leb, lt-leb, eq-eqb, eqb-true, eqb-false, ne-eqb}
 use Rattle.bounded.specs.Bool.{and, or, implies, not, bit, if}
 use Rattle.bounded.specs.Fold.{every, some, sum, count, first}
 use Rattle.bounded.proofs.Bool.{by-cases, clash, bool-ext, not-true→false, implies-i, implies-e, false-and, bit-le, bit-true, bit-false}
-use Rattle.bounded.proofs.Fold.{below-suc, every-i, every-e, none-of, count-two, count-unique, first-cong}
+use Rattle.bounded.proofs.Fold.{below-suc, every-i, every-e, some-e, some-none, none-of, count-cong, count-none, count-pos, count-two, count-unique, count-without, first-some, first-passes, first-cong}
 use Rattle.words.specs.Word.{has, word}
 
 -- ---- the definitions
@@ -347,3 +348,27 @@ drop-lowest (suc w) x v h p =
 -- `x & (x - 1)` is x without its lowest member.
 pub dropped-is : (w x : ℕ) → x < 2 ^ w → 0 < x → bitAnd x (x - 1) ≡ word w (λ (u : ℕ). and (has x u) (not (eqb u (first w (has x)))))
 dropped-is w x h p = is-word w (bitAnd x (x - 1)) _ (omega (arith, and-le-l x (x - 1))) (λ v l. has-and x (x - 1) v ∙ drop-lowest w x v h p)
+
+-- A word of no members is 0.
+pub word-none : (w : ℕ) (p : ℕ → Bool) → ((v : ℕ) → v < w → p v ≡ false) → word w p ≡ 0
+word-none w p h = sym (is-word w 0 p (omega (arith, word-lt w p)) λ v l. has-zero v ∙ sym (h v l))
+
+-- ---- two members or more
+
+count-zero : (w : ℕ) → count w (has 0) ≡ 0
+count-zero w = count-none w (has 0) (some-none w (has 0) λ v l. has-zero v)
+
+pub crowded-none : (w : ℕ) {x : ℕ} → x ≡ 0 → false ≡ leb 2 (count w (has x))
+crowded-none w e = rw (e, count-zero w) refl
+
+-- Without its lowest member a word with a second one is not 0.
+pub crowded-dropped : (w x : ℕ) {d : ℕ} → x < 2 ^ w → (x ≡ 0 → ⊥) → d ≡ word w (λ (u : ℕ). and (has x u) (not (eqb u (first w (has x)))))
+    → machine.not (eqb d 0) ≡ leb 2 (count w (has x))
+crowded-dropped w x {d} h n e =
+    let low = first-some w (has x) (nonempty w x h n) in
+    let less = count-without w (has x) (first w (has x)) low (first-passes w (has x) low) in
+    let same : count w (has d) ≡ count w (λ (u : ℕ). and (has x u) (not (eqb u (first w (has x))))) = count-cong w _ _ (has-ruled w _ e) in
+    by-cases (eqb d 0)
+    (λ t. let z : count w (has d) ≡ 0 = rw (eqb-true d 0 t) (count-zero w) in rw t (sym (lt-leb 2 (count w (has x)) (omega arith))))
+    (λ t. some-e w _ (nonempty w d (rw e (word-lt w _)) (eqb-false d 0 t)) λ u l m.
+    rw t (sym (le-leb 2 (count w (has x)) (omega (arith, count-pos w (has d) u l m)))))

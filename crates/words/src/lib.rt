@@ -1,7 +1,7 @@
 // A `u32` as a set of values below 32.
 ghost use mathlib.Core.Path.{_≡_};
 ghost use Prim.Native.Nat.{ℕ, _<_, _≤_};
-ghost use lib.Dec.{eqb, ltb};
+ghost use lib.Dec.{eqb, leb, ltb};
 ghost use Rattle.bounded.specs.Bool.{and, or, implies, not};
 ghost use Rattle.bounded.specs.Fold.{every, count, first};
 ghost use Rattle.words.specs.Word.{width, has, word};
@@ -89,4 +89,14 @@ pub fn dropped(x: u32) -> u32
     ensures { λ r. ⌜ r ≡ word width (λ (u : ℕ). and (has x u) (not (eqb u (first width (has x))))) ⌝ }
 {
     x & (x - 1)
+}
+
+// `x` has two members or more.
+pub fn crowded(x: u32) -> bool
+    ensures { λ r. ⌜ r ≡ leb 2 (count width (has x)) ⌝ }
+{
+    if x == 0 {
+        return false;
+    }
+    dropped(x) != 0
 }

@@ -4,7 +4,8 @@ use Prim.Native.Nat.{_-_, _≤_}
 use native.Mathlib.Omega.{arith}
 use borrow.Author.Needs.{needs}
 use Rattle.read_rows.specs.Rows.{RowsJoined}
-use Rattle.read_rows.proofs.Rows.{row-inside, joined-none, joined-more}
+use Rattle.read_number.proofs.Numbers.{row-inside}
+use Rattle.read_rows.proofs.Rows.{joined-none, joined-more}
 use Rattle.read_rows.proofs.store_rows.Statement.{statement}
 use Rattle.read_rows.proofs.store_rows.Tie as tie
 use Rattle.read_rows.proofs.store_rows.Reads as reads

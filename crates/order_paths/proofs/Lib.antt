@@ -1,0 +1,3 @@
+pub mod Crowded
+pub mod Members
+pub mod Reached

@@ -1,0 +1,3 @@
+-- Who reaches and who governs whom, as words.
+pub mod Crowded
+pub mod Paths

@@ -1,0 +1,2 @@
+-- A sheet that was accepted.
+pub mod Accepted

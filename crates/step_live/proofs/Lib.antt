@@ -1,0 +1,3 @@
+pub mod Live
+pub mod Revising
+pub mod Turn
