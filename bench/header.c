@@ -153,6 +153,48 @@ static void check_steps(void) {
     CHECK(answer.number == SHEET_CAUSE_NOT_SOUND && answer.steps == 0 && same(&s, &zero));
 }
 
+/* A sheet of n options, trimmed: the steps, the lists and the leaders that are left, and the verdict. Trimmed again it stays. */
+static struct sheet_verdict_answer trimmed(const uint8_t *sheet, size_t length, size_t n, size_t steps, const uint32_t *lists,
+                                           const uint8_t *leaders) {
+    struct sheet_state s, again;
+    CHECK(sheet_read(sheet, length, &s).number == 0 && s.n == n);
+    struct sheet_step_answer answer = sheet_trim(&s);
+    CHECK(answer.number == 0 && answer.steps == steps);
+    CHECK(memcmp(s.lists, lists, n * sizeof *lists) == 0 && memcmp(s.leaders, leaders, n) == 0 && sheet_is_sound(&s));
+    again = s;
+    answer = sheet_trim(&again);
+    CHECK(answer.number == 0 && answer.steps == 0 && same(&again, &s));
+    return sheet_verdict(&s);
+}
+
+/* Live lists against each other: no step is legal before it and two are after it; one step, and still OPEN; an empty list empties those that
+ * it is stated with, and theirs, and no others. Then a sheet that a plain reduction decides and this does not, and case A, which both leave
+ * the same. */
+static void check_trimming(void) {
+    static const uint8_t built[] = {1, 0, 17, 3, 2, 2, 3, 2, 1, 3, 0, 6, 0, 2, 2, 3, 0, 5, 0, 1};
+    static const uint8_t open[] = {1, 0, 23, 3, 2, 2, 3, 3, 1, 2, 0, 2, 0, 3, 1, 3, 0, 6, 0, 1, 2, 3, 0, 3, 0, 5};
+    static const uint8_t none[] = {1, 0, 18, 4, 2, 2, 2, 2, 2, 1, 2, 0, 3, 0, 3, 2, 3, 0, 0, 0, 0};
+    static const uint8_t left[] = {1, 0, 44, 4, 4, 3, 4, 3, 4, 1, 3, 0, 13, 0, 6, 0, 2, 0, 8, 1, 4, 0, 2, 0,
+                                   0, 0, 1, 0, 3, 2, 4, 0, 6, 0, 5, 0, 1, 3, 4, 0, 1, 0, 2, 0, 1, 0, 1};
+    static const uint32_t built_lists[] = {0x0001, 0x0001, 0x0004}, open_lists[] = {0x0003, 0x0003, 0x0005};
+    static const uint32_t none_lists[] = {0, 0, 0, 0x0003};
+    static const uint8_t built_leaders[] = {0, 1, 1}, open_leaders[] = {3, 0, 0}, none_leaders[] = {0, 1, 1, 0};
+    struct sheet_verdict_answer answer = trimmed(built, sizeof built, 3, 2, built_lists, built_leaders);
+    CHECK(answer.kind == SHEET_BUILT && all_zero(answer.build, 2) && answer.build[2] == 2);
+    CHECK(trimmed(open, sizeof open, 3, 1, open_lists, open_leaders).kind == SHEET_OPEN);
+    CHECK(trimmed(none, sizeof none, 4, 2, none_lists, none_leaders).kind == SHEET_NONE);
+    struct sheet_state s, plain;
+    CHECK(sheet_read(left, sizeof left, &s).number == 0);
+    plain = s;
+    CHECK(sheet_trim(&s).steps == 1 && sheet_verdict(&s).kind == SHEET_OPEN);
+    CHECK(sheet_reduce(&plain).steps == 3 && sheet_verdict(&plain).kind == SHEET_BUILT);
+    s = fresh;
+    CHECK(sheet_trim(&s).steps == 2 && same(&s, &reduced));
+    s = zero;
+    struct sheet_step_answer refused = sheet_trim(&s);
+    CHECK(refused.number == SHEET_CAUSE_NOT_SOUND && refused.steps == 0 && same(&s, &zero));
+}
+
 static void refused_table(const struct sheet_state *given, size_t first, size_t second, const uint32_t *table, size_t length, int number) {
     struct sheet_state state = *given;
     struct sheet_step_answer answer = sheet_add_table(&state, first, second, table, length);
@@ -420,6 +462,7 @@ static void check_read_only(void) {
     CHECK(sheet_eliminate(&held->fresh, 1, 3).number == SHEET_CAUSE_NOT_STATED);
     CHECK(sheet_eliminate(&held->fresh, 3, 2).number == SHEET_CAUSE_NOT_FUNCTIONAL);
     CHECK(sheet_reduce(&held->zero).number == SHEET_CAUSE_NOT_SOUND);
+    CHECK(sheet_trim(&held->zero).number == SHEET_CAUSE_NOT_SOUND);
     CHECK(sheet_add_table(&held->zero, 1, 2, NULL, 0).number == SHEET_CAUSE_NOT_SOUND);
     CHECK(sheet_add_table(&held->fresh, 0, 2, NULL, 0).number == SHEET_CAUSE_OPTION_NUMBER);
     CHECK(sheet_add_table(&held->fresh, 2, 2, NULL, 0).number == SHEET_CAUSE_SAME_OPTIONS);
@@ -472,6 +515,7 @@ static void add_it(void) {
 }
 static void meter_it(void) { held = flat, bytes[0] = meter_fit(&held).kind; }
 static void reduce_it(void) { held = fresh, sheet_reduce(&held); }
+static void trim_it(void) { held = fresh, sheet_trim(&held); }
 static void test_it(void) { bytes[0] = sheet_test(&reduced, bytes, 3).number; }
 static void complete_it(void) { memset(bytes, 0, 3), sheet_complete(&reduced, bytes, 3); }
 static void verdict_it(void) { bytes[0] = sheet_verdict(&reduced).kind; }
@@ -497,8 +541,8 @@ static void check_stack(void) {
     for (int k = 1; k < 4; k++) {
         for (int b = 0; b < 31; b++) allow(&deep, k, 30, k + 1, b);
     }
-    static void (*const calls[])(void) = {read_it, write_it,    sound_it,   follow_it, reduce_it, add_it,
-                                          test_it, complete_it, verdict_it, search_it, cut_it,    text_it,   meter_it};
+    static void (*const calls[])(void) = {read_it, write_it,    sound_it,   follow_it, reduce_it, trim_it, add_it,
+                                          test_it, complete_it, verdict_it, search_it, cut_it,    text_it, meter_it};
     for (size_t k = 0; k < sizeof calls / sizeof *calls; k++) {
         size_t untouched = 0;
         run_on_own_stack(calls[k]);
@@ -511,6 +555,7 @@ int main(void) {
     make_states();
     check_bytes();
     check_steps();
+    check_trimming();
     check_tables();
     check_meter();
     check_sound_and_verdict();

@@ -1,9 +1,9 @@
 /* Option sheets: the proved library for C (C99 or newer) and C++ (C++11 or newer).
  *
  * Words. This header speaks the words of the trade and of document 01: option, value, list, table, live, leader, follower,
- * build. The library's code and proofs have other words for some of them, and so have the names of two calls: `eliminate` is
- * the follow step, `reduce` the full reduction. docs/GLOSSARY.md maps the two. Options count from 1 in calls and in `leaders`,
- * and from 0 as indices of arrays; values count from 0.
+ * build. The library's code and proofs have other words for some of them, and so have the names of three calls: `eliminate` is
+ * the follow step, `reduce` the full reduction, `trim` the trimming of live lists in turn with it. docs/GLOSSARY.md maps the two. Options count
+ * from 1 in calls and in `leaders`, and from 0 as indices of arrays; values count from 0.
  *
  * Promises. A call takes any bytes and any state, does what its comment says, and ends. That is proved of the library's
  * source, call by call, as an equation with the definitions that docs/PROMISES.md names. The compiler, and what a caller owes
@@ -42,7 +42,7 @@
 /* The version of these declarations: MAJOR rises where a caller has to be changed or compiled anew, or a state that he has kept may
  * now be refused, MINOR where something is added. The version in byte 0 of a sheet is another number. */
 #define SHEET_VERSION_MAJOR 5
-#define SHEET_VERSION_MINOR 0
+#define SHEET_VERSION_MINOR 1
 
 #define SHEET_LARGEST_BYTES 15621 /* "The largest version 2 sheet has 15,621 bytes, which is the limit in number 1" */
 #define SHEET_MOST_OPTIONS 16    /* length of the arrays that hold something for each option */
@@ -209,6 +209,9 @@ struct sheet_step_answer sheet_eliminate_parts(size_t n, const uint8_t sizes[SHE
 struct sheet_step_answer sheet_reduce_parts(size_t n, const uint8_t sizes[SHEET_MOST_OPTIONS],
                                             uint32_t lists[SHEET_MOST_OPTIONS], uint8_t leaders[SHEET_MOST_OPTIONS],
                                             uint32_t stated[SHEET_MOST_OPTIONS], uint32_t rows[SHEET_ROWS]);
+struct sheet_step_answer sheet_trim_parts(size_t n, const uint8_t sizes[SHEET_MOST_OPTIONS],
+                                          uint32_t lists[SHEET_MOST_OPTIONS], uint8_t leaders[SHEET_MOST_OPTIONS],
+                                          uint32_t stated[SHEET_MOST_OPTIONS], uint32_t rows[SHEET_ROWS]);
 struct sheet_step_answer sheet_add_table_parts(size_t n, const uint8_t sizes[SHEET_MOST_OPTIONS],
                                                uint32_t lists[SHEET_MOST_OPTIONS], uint8_t leaders[SHEET_MOST_OPTIONS],
                                                uint32_t stated[SHEET_MOST_OPTIONS], uint32_t rows[SHEET_ROWS], size_t first,
@@ -279,6 +282,20 @@ static inline struct sheet_step_answer sheet_eliminate(struct sheet_state *state
  * The builds of the state stay the same. */
 static inline struct sheet_step_answer sheet_reduce(struct sheet_state *state) {
     return sheet_reduce_parts(state->n, state->sizes, state->lists, state->leaders, state->stated, state->rows);
+}
+
+/* Trims the live lists against each other, in place: "A value of a live option that has no partner in some live neighbour should
+ * vanish .. Remove such values until none is left. What remains is the largest choice of lists within the given ones in which every
+ * value has a partner in each stated live pair." A neighbour is a live option that it is stated with, and a partner one in its list.
+ * The followers of an option whose list became shorter are trimmed as in a follow step; rows stay as they are. "This trimming comes
+ * first; then reduce fully, and alternate until neither changes anything." Answers how many steps all reductions took together, at
+ * most n - 1.
+ * Number 9. A refusal leaves the state as it was and answers 0 steps.
+ * The builds of the state stay the same. An empty list empties those of all live options that stated live pairs lead to from it; it
+ * reaches no others. It does not decide all that sheet_reduce does: with shorter lists the reduction goes another way, and may end OPEN
+ * where that ends BUILT. */
+static inline struct sheet_step_answer sheet_trim(struct sheet_state *state) {
+    return sheet_trim_parts(state->n, state->sizes, state->lists, state->leaders, state->stated, state->rows);
 }
 
 /* Adds a table for the options `first` and `second`, live or not, in place: `length` rows, one for each value of the first, value 0

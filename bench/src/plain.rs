@@ -444,6 +444,46 @@ pub fn reduce(s: &mut State) -> Stepped {
     }
 }
 
+/// Live lists trimmed against each other, and the lists of followers with those of their leaders: a list that became shorter is one that its neighbours are
+/// held against once more. Whether a list changed.
+fn trim_live(s: &mut State) -> bool {
+    let live = live(s);
+    let (mut left, mut shorter) = (live, 0);
+    while left != 0 {
+        let j = left.trailing_zeros() as usize & 15;
+        left &= left - 1;
+        for i in members(s.stated[j] & live) {
+            let i = i & 15;
+            let list = s.lists[i] & partners(s, j, i, s.lists[j]);
+            if list != s.lists[i] {
+                s.lists[i] = list;
+                left |= 1 << i;
+                shorter |= 1 << i;
+            }
+        }
+    }
+    for i in members(shorter) {
+        trim_followers(s, i & 15);
+    }
+    shorter != 0
+}
+
+/// Live lists trimmed, then the full reduction, and so on until neither changes anything, in place.
+pub fn trim(s: &mut State) -> Stepped {
+    if !is_sound(s) {
+        return Stepped { number: 9, steps: 0 };
+    }
+    trim_live(s);
+    let mut steps = 0;
+    loop {
+        let more = reduce_sound(s);
+        steps += more;
+        if more == 0 || !trim_live(s) {
+            return Stepped { number: 0, steps };
+        }
+    }
+}
+
 /// The number that refuses a table on a sound state, options counted from 1.
 fn table_refusal(s: &State, first: usize, second: usize, table: &[u32]) -> u8 {
     if first == 0 || first > s.n || second == 0 || second > s.n {

@@ -11,7 +11,7 @@ struct Counts {
     differences: usize,
 }
 
-const CALLS: [&str; 12] = [
+const CALLS: [&str; 13] = [
     "read",
     "write",
     "sound",
@@ -24,6 +24,7 @@ const CALLS: [&str; 12] = [
     "text",
     "add_table",
     "search",
+    "trim",
 ];
 /// The numbers that a call can answer: 0, which stands for "not refused", and those of the causes.
 const NUMBERS: usize = Cause::GREATEST as usize + 1;
@@ -117,6 +118,16 @@ fn reduce(state: &State, counts: &mut Counts) -> State {
     here
 }
 
+/// Live lists trimmed in turn with full reductions; the state left, which after a refusal is the one given.
+fn trim(state: &State, counts: &mut Counts) -> State {
+    let (mut here, mut there) = (*state, *state);
+    let one = proved::trim(&mut here);
+    let other = plain::trim(&mut there);
+    let kept = one.number == 0 || here == *state;
+    counts.note(12, one.number, &(one, here, kept), &(other, there, true));
+    here
+}
+
 /// A table added; the state left, which after a refusal is the one given.
 fn add_table(state: &State, table: &Table, counts: &mut Counts) -> State {
     let (mut here, mut there) = (*state, *state);
@@ -153,6 +164,7 @@ fn calls(state: &State, build: &[u8], random: &mut Random, counts: &mut Counts) 
         eliminate(state, random.next() as usize, random.next() as usize, counts);
     }
     reduce(state, counts);
+    trim(state, counts);
     for _ in 0..2 {
         add_table(state, &any_table(state, random), counts);
     }
@@ -188,9 +200,10 @@ fn from_sheet(sheet: &Sheet, random: &mut Random, counts: &mut Counts) {
     }
     for _ in 0..1 + random.below(6) {
         let n = state.n;
-        state = match random.below(8) {
+        state = match random.below(9) {
             0 => reduce(&state, counts),
-            1 | 2 => add_table(&state, &any_table(&state, random), counts),
+            1 => trim(&state, counts),
+            2 | 3 => add_table(&state, &any_table(&state, random), counts),
             _ => eliminate(&state, 1 + random.below(n), 1 + random.below(n), counts),
         };
         counts.input(STEPPED_STATE);

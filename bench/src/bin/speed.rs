@@ -67,7 +67,7 @@ const REDUCED: Start = |case| &case.reduced;
 
 /// Each call in the proved library and in plain Rust. Both are lent the state, and work in place. "led" adds a table to a reduced state, whose options may
 /// follow others.
-const CALLS: [(&str, Start, Call, Call); 13] = [
+const CALLS: [(&str, Start, Call, Call); 14] = [
     (
         "read",
         AS_READ,
@@ -91,6 +91,12 @@ const CALLS: [(&str, Start, Call, Call); 13] = [
         AS_READ,
         |_, s, _| look(proved::reduce(s)),
         |_, s, _| look(plain::reduce(s)),
+    ),
+    (
+        "trim",
+        AS_READ,
+        |_, s, _| look(proved::trim(s)),
+        |_, s, _| look(plain::trim(s)),
     ),
     (
         "add",

@@ -80,6 +80,14 @@ extern "C" {
         stated: &mut [u32; MOST_OPTIONS],
         rows: &mut Rows,
     ) -> Stepped;
+    fn sheet_trim_parts(
+        n: usize,
+        sizes: &[u8; MOST_OPTIONS],
+        lists: &mut [u32; MOST_OPTIONS],
+        leaders: &mut [u8; MOST_OPTIONS],
+        stated: &mut [u32; MOST_OPTIONS],
+        rows: &mut Rows,
+    ) -> Stepped;
     fn sheet_add_table_parts(
         n: usize,
         sizes: &[u8; MOST_OPTIONS],
@@ -238,6 +246,21 @@ pub fn eliminate(state: &mut State, leader: usize, follower: usize) -> Stepped {
 pub fn reduce(state: &mut State) -> Stepped {
     let s = state;
     unsafe { sheet_reduce_parts(s.n, &s.sizes, &mut s.lists, &mut s.leaders, &mut s.stated, &mut s.rows) }
+}
+
+/// Trims the live lists against each other: "A value of a live option that has no partner in some live neighbour should vanish ..
+/// Remove such values until none is left. What remains is the largest choice of lists within the given ones in which every value has a
+/// partner in each stated live pair." A neighbour is a live option that it is stated with, and a partner one in its list. The followers
+/// of an option whose list became shorter are trimmed as in a follow step; rows stay as they are. "This trimming comes first; then
+/// reduce fully, and alternate until neither changes anything." Answers how many steps all reductions took together, at most n - 1.
+///
+/// Number 9. A refusal leaves the state as it was and answers 0 steps. The builds of the state stay the same. An empty list empties
+/// those of all live options that stated live pairs lead to from it; it reaches no others. It does not decide all that [`reduce`] does:
+/// with shorter lists the reduction goes another way, and may end OPEN where that ends BUILT.
+#[inline]
+pub fn trim(state: &mut State) -> Stepped {
+    let s = state;
+    unsafe { sheet_trim_parts(s.n, &s.sizes, &mut s.lists, &mut s.leaders, &mut s.stated, &mut s.rows) }
 }
 
 /// Adds a table for the options `first` and `second`, live or not: a row for each value of the first, value 0 first; bit v of a row

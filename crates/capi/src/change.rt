@@ -7,8 +7,9 @@ use head::VARIABLES;
 use state::add_parts;
 use state::eliminate_parts;
 use state::reduce_parts;
+use state::trim_parts;
 ghost use mathlib.Core.Path.{_≡_};
-ghost use Rattle.state.specs.Steps.{stepped, reduced};
+ghost use Rattle.state.specs.Steps.{stepped, reduced, trimmed};
 ghost use Rattle.state.specs.Tables.{tableAdded};
 ghost use Rattle.capi_lent.specs.Lent.{stateWith, leftAs};
 
@@ -54,6 +55,25 @@ pub extern "C" fn sheet_reduce_parts(
         ⌝ }
 {
     let worked = reduce_parts(head_of(n, sizes, lists, leaders, stated), rows);
+    left(worked, lists, leaders, stated)
+}
+
+// Trimming the live lists against each other, in turn with the full reduction, in place.
+#[no_mangle]
+pub extern "C" fn sheet_trim_parts(
+    n: usize,
+    sizes: &[u8; VARIABLES],
+    lists: &mut [u32; VARIABLES],
+    leaders: &mut [u8; VARIABLES],
+    stated: &mut [u32; VARIABLES],
+    rows: &mut Rows,
+) -> SheetStepped
+    ensures { λ r. ⌜
+        leftAs (stateWith n (now (sizes .entry)) (now (lists .exit)) (now (leaders .exit)) (now (stated .exit)) (now (rows .exit))) r
+        ≡ trimmed (stateWith n (now (sizes .entry)) (now (lists .entry)) (now (leaders .entry)) (now (stated .entry)) (now (rows .entry)))
+        ⌝ }
+{
+    let worked = trim_parts(head_of(n, sizes, lists, leaders, stated), rows);
     left(worked, lists, leaders, stated)
 }
 

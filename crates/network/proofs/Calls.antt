@@ -13,11 +13,13 @@ use Rattle.network.specs.Network.{Network}
 use Rattle.network.specs.Sound.{Sound}
 use Rattle.network.specs.Step.{outside, refusal, legal}
 use Rattle.network.specs.Reduction.{reduce}
+use Rattle.network.specs.Trimming.{alternate}
 use Rattle.network.specs.Sheet.{Table}
 use Rattle.network.specs.Added.{meetsTable, addRefusal, added}
-use Rattle.network.specs.Calls.{Call, follow-step, full-reduction, add-table, refuses, made, answer, after, tablesOf, adds, addedBy, keepsTo, tableless}
+use Rattle.network.specs.Calls.{Call, follow-step, full-reduction, trimmed-reduction, add-table, refuses, made, answer, after, tablesOf, adds, addedBy, keepsTo, tableless}
 use Rattle.network.specs.Promise.{Keeps}
 use Rattle.network.proofs.Reduction.{keeps-refl, keeps-then, keeps-cong, step-keeps, run-keeps, reduce-run}
+use Rattle.network.proofs.Trimming.{alternate-keeps}
 use Rattle.network.proofs.Added.{not-refused, table-keeps}
 
 zero-outside : (N : Network) → outside N 0 ≡ true
@@ -76,6 +78,7 @@ made-keeps : (N : Network) → Sound N → (c : Call) → eqb (refuses N c) 0 �
 unfolding refuses made tablesOf
 made-keeps N s (follow-step l f) t = keeps-none N _ (step-keeps N s (pred l) (pred f) (not-refused-legal N l f t))
 made-keeps N s full-reduction t = keeps-none N _ (run-keeps s (reduce-run N))
+made-keeps N s trimmed-reduction t = keeps-none N _ (alternate-keeps N s)
 made-keeps N s (add-table x y rows) t =
     let inside = not-refused N x y rows (eqb-true _ 0 t) in
     keeps-cong N _ _ _ (λ f. sym (keeps-to-one x y rows f)) (table-keeps N (pred x) (pred y) rows s (inside .0) (inside .1))
@@ -99,7 +102,7 @@ after-keeps N s (c ∷ cs) =
 pub adds-none : (N : Network) (c : Call) → tablesOf c ≡ [] → adds N c ≡ []
 adds-none N c e = by-cases (eqb (refuses N c) 0) (λ t. adds-taken N c t ∙ e) (λ t. adds-refused N c t)
 
--- Follow steps and full reductions add nothing.
+-- Follow steps and reductions add nothing.
 pub tableless-adds : (N : Network) (cs : List Call) → tableless cs ≡ true → addedBy N cs ≡ []
 unfolding tableless addedBy
 tableless-adds N [] h = refl
@@ -108,3 +111,16 @@ tableless-adds N (c ∷ cs) h = ap₂ (λ (ts us : List Table). ts ++ us) (adds-
     empty : (ts : List Table) → length ts ≡ 0 → ts ≡ []
     empty [] z = refl
     empty (t ∷ ts) z = absurd (let b : ⊥ = omega arith in b)
+
+-- Which refusal and which count each call has: `made-keeps` holds of any.
+pub step-call : (N : Network) (l f : ℕ) → (refuses N (follow-step l f) ≡ refusal N l f) × (made N (follow-step l f) .steps ≡ 1)
+unfolding refuses made
+step-call N l f = (refl, refl)
+
+pub full-call : (N : Network) → (refuses N full-reduction ≡ 0) × (made N full-reduction ≡ reduce N)
+unfolding refuses made
+full-call N = (refl, refl)
+
+pub trimmed-call : (N : Network) → (refuses N trimmed-reduction ≡ 0) × (made N trimmed-reduction ≡ alternate N)
+unfolding refuses made
+trimmed-call N = (refl, refl)

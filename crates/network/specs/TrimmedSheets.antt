@@ -1,4 +1,4 @@
--- Sheets whose followers' lists are trimmed (L8). One table, and a test for one row of it.
+-- Sheets whose lists are trimmed: of followers (L8) and of free variables against each other (L9). One table, and a test for one row of it.
 use mathlib.Core.Bool.{Bool, true}
 use mathlib.Core.List.{List, [], _∷_}
 use Prim.Native.Nat.{ℕ, _+_}
@@ -9,10 +9,10 @@ use Rattle.bounded.specs.Fold.{every}
 use Rattle.words.specs.Word.{word}
 use Rattle.network.specs.Network.{Network}
 use Rattle.network.specs.Reduction.{freeCount}
-use Rattle.network.specs.Completion.{Verdict, NONE, BUILT, verdict, shown}
+use Rattle.network.specs.Completion.{Verdict, NONE, BUILT, OPEN, verdict, shown}
 use Rattle.network.specs.Sheet.{Table, Sheet, networkOf}
 use Rattle.network.specs.Sheets.{sameVerdict}
-use Rattle.network.specs.Calls.{Call, follow-step, full-reduction, add-table, after}
+use Rattle.network.specs.Calls.{Call, follow-step, full-reduction, trimmed-reduction, add-table, after}
 
 -- A sheet, calls, and what they leave: the steps taken, each variable's list and leader, the verdict and the build shown.
 pub record Trial : Type 0 where
@@ -93,4 +93,25 @@ followerLists =
     (table 1 2 (1 ∷ 2 ∷ 4 ∷ []) ∷ table 1 3 (1 ∷ 2 ∷ 4 ∷ []) ∷ table 2 4 (1 ∷ 4 ∷ 2 ∷ []) ∷ table 3 4 (1 ∷ 4 ∷ 2 ∷ []) ∷ [])
     (full-reduction ∷ add-table 4 1 (2 ∷ 1 ∷ 4 ∷ []) ∷ [])
     3 (0 ∷ 0 ∷ 0 ∷ 0 ∷ []) (0 ∷ 1 ∷ 1 ∷ 1 ∷ []) NONE []
+    ∷ []
+
+-- L9.
+unfoldable pub liveLists : List Trial
+unfolding table trial
+liveLists =
+    -- no step is legal at first, and after trimming two are
+    trial (2 ∷ 2 ∷ 3 ∷ [])
+    (table 1 3 (0x0006 ∷ 0x0002 ∷ []) ∷ table 2 3 (0x0005 ∷ 0x0001 ∷ []) ∷ [])
+    (full-reduction ∷ trimmed-reduction ∷ [])
+    2 (0x0001 ∷ 0x0001 ∷ 0x0004 ∷ []) (0 ∷ 1 ∷ 1 ∷ []) BUILT (0 ∷ 0 ∷ 2 ∷ [])
+    -- one step, and open
+    ∷ trial (2 ∷ 2 ∷ 3 ∷ [])
+    (table 1 2 (0x0002 ∷ 0x0003 ∷ []) ∷ table 1 3 (0x0006 ∷ 0x0001 ∷ []) ∷ table 2 3 (0x0003 ∷ 0x0005 ∷ []) ∷ [])
+    (trimmed-reduction ∷ [])
+    1 (0x0003 ∷ 0x0003 ∷ 0x0005 ∷ []) (3 ∷ 0 ∷ 0 ∷ []) OPEN []
+    -- an empty list empties those that it is stated with, and theirs
+    ∷ trial (2 ∷ 2 ∷ 2 ∷ 2 ∷ [])
+    (table 1 2 (0x0003 ∷ 0x0003 ∷ []) ∷ table 2 3 (0x0000 ∷ 0x0000 ∷ []) ∷ [])
+    (trimmed-reduction ∷ [])
+    2 (0 ∷ 0 ∷ 0 ∷ 0x0003 ∷ []) (0 ∷ 1 ∷ 1 ∷ 0 ∷ []) NONE []
     ∷ []

@@ -77,6 +77,15 @@ module _ (s : State) (h : Shaped s) (t : soundState s ≡ true) (c : Call) where
   pub answer-packed : Packed (answer (view s) c)
   answer-packed = kept-packed _ (h .head-shaped) t (answer (view s) c) (answer-keeps (view s) (state-sound s h t) c)
 
+  -- One that is not refused hands back the state of the network that it makes, and counts its steps.
+  module _ (e : refuses (view s) c ≡ 0) where
+    pub made-view : view (called s c .state) ≡ made (view s) c .network
+    made-view =
+        ap view call-answers ∙ packed-view answer-packed ∙ answer-taken (view s) c (eq-eqb _ 0 e)
+
+    pub made-steps : called s c .steps ≡ made (view s) c .steps
+    made-steps = ap (λ (a : Told). a .steps) (call-taken s c (call-sound s c t ∙ e))
+
 -- What every call keeps of a state, refused or not.
 pub record StateKept (s t : State) (p : (ℕ → ℕ) → Bool) : Type 0 where
   pub kept-shaped : Shaped t

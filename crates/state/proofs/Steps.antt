@@ -14,7 +14,9 @@ use Rattle.cause.specs.declared.Cause.{Cause}
 use Rattle.network.specs.Network.{Network, free}
 use Rattle.network.specs.Step.{refusal, followed}
 use Rattle.network.specs.Reduction.{freeCount, reducible, reduce}
-use Rattle.network.specs.Calls.{follow-step, full-reduction, refuses, made, tablesOf}
+use Rattle.network.specs.Calls.{follow-step, full-reduction, trimmed-reduction, refuses, made, tablesOf}
+use Rattle.network.specs.Trimming.{alternate}
+use Rattle.network.proofs.Trimming.{alternate-at-rest, alternate-taken, alternate-most}
 use Rattle.network.proofs.Reduction.{reduce-count, reduce-taken, reduce-most, reduce-stops}
 use Rattle.answers.specs.declared.Outcome.{Outcome}
 use Rattle.answers.specs.declared.Outcome.the-variants as outcome
@@ -23,11 +25,11 @@ use Rattle.state.specs.declared.state.State.{State}
 use Rattle.state.specs.View.{view, pack, soundState}
 use Rattle.state.specs.Answers.{Told}
 use Rattle.state.specs.Calls.{refused}
-use Rattle.state.specs.Steps.{stepRefusal, stepped, reducedAs, reduced}
+use Rattle.state.specs.Steps.{stepRefusal, stepped, reducedAs, reduced, trimmed}
+use Rattle.state.specs.Rested.{Rested}
 use Rattle.head.specs.Held.{held}
-use Rattle.state.proofs.View.{Shaped, state-sound, packed-view}
-use Rattle.state.proofs.Keep.{reduced-packed}
-use Rattle.state.proofs.Calls.{StateKept, call-sound, call-taken, call-9, call-keeps-all}
+use Rattle.state.proofs.View.{Shaped, state-sound}
+use Rattle.state.proofs.Calls.{StateKept, call-sound, call-taken, made-view, made-steps, call-keeps-all}
 
 -- The follow step.
 module _ (s : State) (l f : ℕ) where
@@ -53,9 +55,6 @@ module _ (s : State) where
   unfolding reducedAs refuses made
   reduced-done t = call-taken s full-reduction (call-sound s full-reduction t)
 
-  pub reduced-refused : soundState s ≡ false → reduced s ≡ refused 9 s
-  reduced-refused t = call-9 s full-reduction t
-
 -- A step and a reduction keep every solution.
 pub step-keeps : (s : State) → Shaped s → (l f : ℕ) → StateKept s (stepped s l f .state) (λ (g : ℕ → ℕ). true)
 unfolding tablesOf
@@ -68,12 +67,12 @@ reduced-keeps s h = call-keeps-all s h full-reduction refl
 -- The full reduction of a sound state.
 module _ (s : State) (h : Shaped s) (t : soundState s ≡ true) where
   reduced-view : view (reduced s .state) ≡ reduce (view s) .network
-  unfolding reducedAs
-  reduced-view = ap (λ (a : Told). view (a .state)) (reduced-done s t) ∙ packed-view (reduced-packed s h t)
+  unfolding refuses made
+  reduced-view = made-view s h t full-reduction refl
 
   reduced-steps : reduced s .steps ≡ reduce (view s) .steps
-  unfolding reducedAs
-  reduced-steps = ap (λ (a : Told). a .steps) (reduced-done s t)
+  unfolding refuses made
+  reduced-steps = made-steps s h t full-reduction refl
 
   -- "repeats until no step is legal"
   pub reduced-stops : reducible (view (reduced s .state)) ≡ false
@@ -94,3 +93,24 @@ module _ (s : State) (h : Shaped s) (t : soundState s ≡ true) where
   pub reduced-most : suc (reduced s .steps) ≤ s .n
   unfolding held
   reduced-most = rw reduced-steps (reduce-most (view s) (state-sound s h t))
+
+-- The reduction that alternates with the trimming of live lists, of a sound state.
+module _ (s : State) (h : Shaped s) (t : soundState s ≡ true) where
+  trimmed-view : view (trimmed s .state) ≡ alternate (view s) .network
+  unfolding refuses made
+  trimmed-view = made-view s h t trimmed-reduction refl
+
+  trimmed-steps : trimmed s .steps ≡ alternate (view s) .steps
+  unfolding refuses made
+  trimmed-steps = made-steps s h t trimmed-reduction refl
+
+  pub rested : Rested s
+  unfolding held
+  rested =
+      record {
+        at-rest = rw trimmed-view (alternate-at-rest (view s) (state-sound s h t));
+        steps-taken =
+            ap (λ (N : Network). count (s .n) (λ (x : ℕ). and (free (view s) x) (not (free N x)))) trimmed-view
+            ∙ alternate-taken (view s) (state-sound s h t) ∙ sym trimmed-steps;
+        steps-most = rw trimmed-steps (alternate-most (view s) (state-sound s h t));
+      }

@@ -8,6 +8,7 @@ use Rattle.cause.specs.declared.Cause.the-variants as cause
 use Rattle.network.specs.Step.{legal, followed}
 use Rattle.network.specs.Network.{Network}
 use Rattle.network.specs.Reduction.{Reduced, reduce}
+use Rattle.network.specs.Trimming.{alternate}
 use Rattle.network.proofs.Step.{refusal-0, legal-i}
 use Rattle.answers.specs.declared.Outcome.{Outcome}
 use Rattle.answers.specs.declared.Outcome.the-variants as outcome
@@ -19,8 +20,8 @@ use Rattle.head.specs.Held.{Represents, held, soundIn}
 use Rattle.state.specs.declared.state.State.{State}
 use Rattle.state.specs.View.{stateOf, view, pack, soundState}
 use Rattle.state.specs.Calls.{refused, callRefusal, called}
-use Rattle.state.specs.Steps.{stepRefusal, reduced}
-use Rattle.network.specs.Calls.{Call, follow-step, full-reduction, refuses, made}
+use Rattle.state.specs.Steps.{stepRefusal, reduced, trimmed}
+use Rattle.network.specs.Calls.{Call, follow-step, full-reduction, trimmed-reduction, refuses, made}
 use Rattle.state.proofs.Calls.{call-sound, call-taken, call-9, taken-sound}
 use Rattle.state.proofs.Steps.{sound-step}
 
@@ -83,9 +84,14 @@ step-made N l f = ap₂ (λ (x y : ℕ). record { network = followed N x y; step
 
 -- ---- the runs
 
--- The full reduction of a sound state.
-pub reduction-told : (h : Head) (before : List ℕ) {r : Reduction} {after : List ℕ} → soundIn h before ≡ true → RanTo (reduce (held h before)) r after
-    → record { number = outcomeNumber outcome.Done; state = stateOf (r .head) after; steps = r .steps } ≡ reduced (stateOf h before)
-unfolding made refuses
-reduction-told h before t R =
-    let s = stateOf h before in ran-told s full-reduction (call-sound s full-reduction t) refl R
+-- The full reduction of a sound state, and the one that alternates with the trimming of live lists.
+module _ (h : Head) (before : List ℕ) {r : Reduction} {after : List ℕ} (t : soundIn h before ≡ true) where
+  pub reduction-told : RanTo (reduce (held h before)) r after
+      → record { number = outcomeNumber outcome.Done; state = stateOf (r .head) after; steps = r .steps } ≡ reduced (stateOf h before)
+  unfolding made refuses
+  reduction-told R = let s = stateOf h before in ran-told s full-reduction (call-sound s full-reduction t) refl R
+
+  pub alternation-told : RanTo (alternate (held h before)) r after
+      → record { number = outcomeNumber outcome.Done; state = stateOf (r .head) after; steps = r .steps } ≡ trimmed (stateOf h before)
+  unfolding made refuses
+  alternation-told R = let s = stateOf h before in ran-told s trimmed-reduction (call-sound s trimmed-reduction t) refl R

@@ -5,6 +5,7 @@ pub mod Read
 pub mod Write
 pub mod Calls
 pub mod Steps
+pub mod Rested
 pub mod Rules
 pub mod Tables
 pub mod Worked

@@ -1,7 +1,7 @@
 -- The follow step and the full reduction on states: the calls by their names.
 use Prim.Native.Nat.{ℕ}
 use Rattle.network.specs.Reduction.{Reduced}
-use Rattle.network.specs.Calls.{follow-step, full-reduction}
+use Rattle.network.specs.Calls.{follow-step, full-reduction, trimmed-reduction}
 use Rattle.state.specs.declared.state.State.{State}
 use Rattle.state.specs.View.{pack}
 use Rattle.state.specs.Answers.{Told}
@@ -21,3 +21,8 @@ reducedAs r = record { number = 0; state = pack (r .network); steps = r .steps }
 -- "It hands back the state and the number of steps". It refuses with 9 alone.
 abbrev pub reduced : State → Told
 reduced s = called s full-reduction
+
+-- "This trimming comes first; then reduce fully, and alternate until neither changes anything. The state and the total number of follow steps come back. ..
+-- It refuses only with 9" (document 02).
+abbrev pub trimmed : State → Told
+trimmed s = called s trimmed-reduction

@@ -3,6 +3,7 @@ mod answer;
 mod reduction;
 mod state;
 mod table;
+mod trim;
 
 pub use answer::Answer;
 pub use answer::CutAnswer;
@@ -14,3 +15,4 @@ pub use state::State;
 pub use state::head_in;
 pub use state::state_of;
 pub use table::add_parts;
+pub use trim::trim_parts;

@@ -49,6 +49,7 @@ pub fn eliminate_parts(head: Head, rows: &mut Rows, leader: usize, follower: usi
             head,
         };
     };
+    // What the type of lent rows says is learnt from a copy, which the compiler drops.
     let given = *rows;
     whole(given);
     let after = step(head, rows, leader - 1, follower - 1);
@@ -70,6 +71,7 @@ pub fn reduce_parts(head: Head, rows: &mut Rows) -> Worked
             head,
         };
     }
+    // What the type of lent rows says is learnt from a copy, which the compiler drops.
     let given = *rows;
     whole(given);
     let cut = reduce_sound(head, rows);

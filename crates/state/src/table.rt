@@ -41,6 +41,7 @@ pub fn add_parts(head: Head, rows: &mut Rows, first: usize, second: usize, table
             head,
         };
     };
+    // What the type of lent rows says is learnt from a copy, which the compiler drops.
     let given = *rows;
     whole(given);
     let after = add(head, rows, first - 1, second - 1, table);

@@ -26,7 +26,7 @@ pub struct Reading {
     pub state: State,
 }
 
-// What a step, a reduction or an added table answers.
+// What a step, a reduction, a trimming or an added table answers.
 pub struct Stepping {
     pub number: u8,
     pub steps: usize,
@@ -89,6 +89,11 @@ pub fn is_refused(state: State, answer: Stepping, number: u8) -> bool {
 // The full reduction.
 pub fn reduce(state: State) -> Stepping {
     stepped(state.reduce())
+}
+
+// The live lists trimmed against each other, in turn with the full reduction.
+pub fn trim(state: State) -> Stepping {
+    stepped(state.trim())
 }
 
 // The reader, on all the bytes.

@@ -1,7 +1,7 @@
 // How often each thing was tried, how often it came out wrong, and where the random numbers are.
 
 // One more than the greatest of the kinds that are counted.
-pub const KINDS: usize = 49;
+pub const KINDS: usize = 57;
 
 // The counts, and the seed of the number that is drawn next. It goes by value, as loans make proofs longer.
 pub struct Tally {
@@ -85,6 +85,23 @@ pub const LISTS_CHANGED: usize = 46;
 pub const DEAD_VALUES: usize = 47;
 
 pub const DEAD_CALLS: usize = 48;
+// Trimmings: all that are not refused, those of them that made a list shorter before any step, that took a step, and that changed the state again once a
+// full reduction was done; and the refused ones.
+pub const TRIMS: usize = 49;
+
+pub const TRIMS_SHORTER: usize = 50;
+
+pub const TRIMS_STEPPED: usize = 51;
+
+pub const TRIMS_AGAIN: usize = 52;
+
+pub const TRIMS_REFUSED: usize = 53;
+// Lists of calls that have trimmings among them, the other calls of these, and what was asked of the states that they came to.
+pub const TRIM_LISTS: usize = 54;
+
+pub const TRIM_CALLS: usize = 55;
+
+pub const TRIM_ANSWERS: usize = 56;
 
 // Nothing is counted yet.
 pub fn start(seed: u64) -> Tally {
@@ -133,6 +150,30 @@ pub fn with_unsound(tally: Tally, k: usize, other: Tally) -> Tally {
     let mut after = add(tally, k, counts[UNSOUND]);
     after = add(after, k, counts[WRITES_REFUSED]);
     after = add(after, k, counts[TABLES_UNSOUND]);
+    after = add(after, k, counts[TRIMS_REFUSED]);
+    add(after, DIFFERENCES, counts[DIFFERENCES])
+}
+
+// What another tally counted of a list of calls that has trimmings among them, and what came out wrong there.
+pub fn with_trims(tally: Tally, other: Tally) -> Tally {
+    let counts = other.counts;
+    let mut after = count(tally, TRIM_LISTS);
+    after = add(after, TRIMS, counts[TRIMS]);
+    after = add(after, TRIMS_SHORTER, counts[TRIMS_SHORTER]);
+    after = add(after, TRIMS_STEPPED, counts[TRIMS_STEPPED]);
+    after = add(after, TRIMS_AGAIN, counts[TRIMS_AGAIN]);
+    after = add(after, TRIM_CALLS, counts[STEPS]);
+    after = add(after, TRIM_CALLS, counts[STEPS_REFUSED]);
+    after = add(after, TRIM_CALLS, counts[REDUCTIONS]);
+    after = add(after, TRIM_CALLS, counts[TABLES]);
+    after = add(after, TRIM_CALLS, counts[TABLES_NUMBER]);
+    after = add(after, TRIM_CALLS, counts[TABLES_SAME]);
+    after = add(after, TRIM_CALLS, counts[TABLES_ROWS]);
+    after = add(after, TRIM_ANSWERS, counts[TESTS]);
+    after = add(after, TRIM_ANSWERS, counts[COMPLETIONS]);
+    after = add(after, TRIM_ANSWERS, counts[COMPLETIONS_REFUSED]);
+    after = add(after, TRIM_ANSWERS, counts[VERDICTS]);
+    after = add(after, TRIM_ANSWERS, counts[SEARCHES]);
     add(after, DIFFERENCES, counts[DIFFERENCES])
 }
 
@@ -175,7 +216,11 @@ pub fn print_checks(counts: &[u64; KINDS]) {
         tables added for two followers of one leader\ntables added for a follower and its leader\n\
         tables refused with 9\ntables refused with 10\ntables refused with 21\ntables refused with 22\nsearches\n\
         calls after which the lists of followers were tried\ncalls that changed the list of a follower\n\
-        states with a dead value in the list of a follower\ncalls on such states\n",
+        states with a dead value in the list of a follower\ncalls on such states\n\
+        trimmings\ntrimmings that made a list shorter before any step\ntrimmings that took a step\n\
+        trimmings that changed the state again after a full reduction\ntrimmings refused with 9\n\
+        lists of calls with trimmings among them\nother calls in these\n\
+        tests, completions, verdicts and searches after these\n",
         DAMAGED_STATES,
         counts,
     );

@@ -2,7 +2,7 @@
 
 // The tester, the completer, the verdict and the search, on every tuple of a small sheet and on some of a large one.
 pub mod builds;
-// Lists of calls: follow steps with any two option numbers, full reductions, and added tables.
+// Lists of calls: follow steps with any two option numbers, full reductions, added tables, and trimmings.
 pub mod lists;
 // What was read is written in every version and read again.
 pub mod reads;

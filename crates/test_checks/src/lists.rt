@@ -1,4 +1,4 @@
-// Lists of calls: follow steps with any two option numbers, full reductions, and tables added for any two options.
+// Lists of calls: follow steps with any two option numbers, full reductions, tables added for any two options, and trimmings.
 use state::State;
 use test_calls::calls;
 use test_calls::calls::Stepping;
@@ -16,6 +16,7 @@ use test_oracle::tables::with;
 use test_rules::added;
 use test_rules::added::Sides;
 use test_rules::followers;
+use test_rules::live;
 use test_rules::refusals;
 use test_rules::rules;
 
@@ -101,6 +102,35 @@ fn check_reduction_to(run: Run, expected: State) -> Run {
 pub fn check_reduction(run: Run) -> Run {
     let first = check_reduction_to(run, rules::reduced(run.state));
     check_reduction_to(first, first.state)
+}
+
+// A trimming that must come to `expected`.
+fn check_trim_to(run: Run, expected: State) -> Run {
+    let answer = calls::trim(run.state);
+    let is_counted = states::is_counted(run.state, answer.state, answer.steps);
+    let is_stepped = answer.steps != 0;
+    let after = done(run, tally::TRIMS, answer, is_counted, expected);
+    counted(
+        after,
+        tally::add(after.tally, tally::TRIMS_STEPPED, is_stepped as u64),
+    )
+}
+
+// Counts whether the trimming of `before` makes a list shorter at once, and whether a round of trimming and full reduction is not all.
+fn count_rounds(before: State, once: State, last: State, tally: Tally) -> Tally {
+    let is_shorter = live::are_other_lists(before, live::trimmed(before));
+    let is_again = !states::same(once, last);
+    let shorter = tally::add(tally, tally::TRIMS_SHORTER, is_shorter as u64);
+    tally::add(shorter, tally::TRIMS_AGAIN, is_again as u64)
+}
+
+// The live lists trimmed against each other, in turn with the full reduction; and again, which changes nothing and takes no step.
+pub fn check_trim(run: Run) -> Run {
+    let once = live::round(run.state);
+    let last = live::alternated(once);
+    let first = check_trim_to(run, last);
+    let tally = count_rounds(run.state, once, last, first.tally);
+    check_trim_to(counted(first, tally), last)
 }
 
 // A table for a follower is counted by the leaders of its two options.
@@ -204,4 +234,23 @@ pub fn check_list(state: State, calls: usize, tally: Tally) -> Run {
         run = check_call(run);
     }
     run
+}
+
+// A call of a list that has trimmings among the others: one in three.
+fn check_call_or_trim(run: Run) -> Run {
+    let tally = run.tally;
+    let mut seed = tally.seed;
+    if random::once_in(&mut seed, 3) {
+        return check_trim(with_seed(run, seed));
+    }
+    check_call(with_seed(run, seed))
+}
+
+// So many calls, some of them trimmings, and a trimming at the end.
+pub fn check_trims(state: State, calls: usize, tally: Tally) -> Run {
+    let mut run = start(state, tally);
+    for _ in 0..calls {
+        run = check_call_or_trim(run);
+    }
+    check_trim(run)
 }

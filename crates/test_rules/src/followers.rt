@@ -62,6 +62,16 @@ pub(crate) fn trimmed(
     after
 }
 
+// The lists with those of all followers trimmed, each by its own leader.
+pub(crate) fn all_trimmed(domains: [u32; 16], leaders: [u8; 16], rows: &[u32; 3840]) -> [u32; 16] {
+    let mut after = [0u32; 16];
+    for x in 0..16 {
+        let l = index_of(byte_at(leaders, x));
+        after[x] = list_after(domains, leaders, rows, l, x);
+    }
+    after
+}
+
 // Value `b` goes with no value in the list of the leader of `x`; no value does so where `x` is live.
 fn is_dead(domains: [u32; 16], leaders: [u8; 16], rows: &[u32; 3840], x: usize, b: usize) -> bool {
     let leader = byte_at(leaders, x);

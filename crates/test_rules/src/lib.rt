@@ -1,4 +1,4 @@
-// What a follow step and an added table make of a state, and states with a fault, by code of its own. Of the library only the type of a state is known here.
+// What a follow step, an added table and trimming make of a state, and states with a fault, by code of its own. Of the library only the type of a state is known here.
 
 // What an added table is to be refused with, and what it makes of a state.
 pub mod added;
@@ -6,6 +6,8 @@ pub mod added;
 pub mod faults;
 // The lists of followers.
 pub mod followers;
+// Trimming the live lists against each other, in turn with the full reduction.
+pub mod live;
 // What a follow step is to be refused with.
 pub mod refusals;
 // The rules of a legal follow step, and the full reduction by them.

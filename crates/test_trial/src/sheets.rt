@@ -13,6 +13,7 @@ use test_checks::lists::Run;
 use test_checks::reads;
 use test_inputs::families;
 use test_inputs::random;
+use test_rules::live;
 
 // A state that a step led to is not written.
 fn check_unwritten(state: State, tally: Tally) -> Tally {
@@ -50,12 +51,34 @@ fn check_last(bytes: &[u8], run: Run) -> Tally {
     unsound::check(run.state, check_writer(bytes, run, refused))
 }
 
-// A list of calls on a sheet that was read, and all that is claimed of the state handed back last.
+// The writer takes a state back where no option follows and no list became shorter.
+fn check_trimmed_writer(before: State, run: Run) -> Tally {
+    if (run.steps != 0) | live::are_other_lists(before, run.state) {
+        return check_unwritten(run.state, run.tally);
+    }
+    reads::check_with_tables(run.state, run.tally)
+}
+
+// What the seed of the lists below differs by.
+const APART: u64 = 13787848793156543929;
+
+// A list of calls with trimmings among them, and all that is claimed of the state handed back last. It is drawn from a seed of its own, as other inputs are
+// not to hang on what it draws.
+fn check_trims(family: u8, bytes: &[u8], state: State, tally: Tally) -> Tally {
+    let mut seed = tally.seed ^ APART;
+    let calls = random::index(&mut seed, 6);
+    let run = lists::check_trims(state, calls, tally::start(seed));
+    let written = check_trimmed_writer(state, run);
+    tally::with_trims(tally, check_builds(family, bytes, run, written))
+}
+
+// Two lists of calls on a sheet that was read, and all that is claimed of the state handed back last.
 fn check_run(family: u8, bytes: &[u8], state: State, tally: Tally) -> Tally {
     let mut seed = tally.seed;
     let calls = random::index(&mut seed, 8);
     let run = lists::check_list(state, calls, tally::with_seed(tally, seed));
-    check_builds(family, bytes, run, check_last(bytes, run))
+    let checked = check_builds(family, bytes, run, check_last(bytes, run));
+    check_trims(family, bytes, state, checked)
 }
 
 // Bytes that were read, and a list of calls where they are a sheet.

@@ -46,6 +46,12 @@ fn check_steps(state: State, tally: Tally) -> Tally {
     tally::expect(stepped, tally::UNSOUND, is_left)
 }
 
+// Trimming, which draws nothing.
+fn check_trim(state: State, tally: Tally) -> Tally {
+    let is_refused = calls::is_refused(state, calls::trim(state), 9);
+    tally::expect(tally, tally::TRIMS_REFUSED, is_refused)
+}
+
 // Whatever the table is.
 fn check_table(state: State, tally: Tally) -> Tally {
     let mut seed = tally.seed;
@@ -72,6 +78,7 @@ fn check_calls(state: State, tally: Tally) -> Tally {
     let mut after = check_solving(state, tally);
     after = check_write(state, after);
     after = check_steps(state, after);
+    after = check_trim(state, after);
     check_table(state, after)
 }
 
