@@ -5,7 +5,7 @@ use Prim.Native.Nat.{ℕ, _-_, _≤_}
 use native.Mathlib.Omega.{arith}
 use lib.ListN.{getD}
 use Rattle.cause.specs.declared.Cause.{Cause}
-use Rattle.cause.specs.declared.Cause.the-variants.{Length, Version, VariableCount, Size, ConstraintCount, Extent, PairRange, PairOrder, PairRepeated, RowRange, Unsound, VariableNumber, NotTwoFree, NotStated, NotFunctional, SolutionLength, ValueRange, ValuesForbidden, BufferLength, NotFresh, SameVariables, TableRows, TooManyChoices, NotInVersion, NotFlatMeter, BlankRow}
+use Rattle.cause.specs.declared.Cause.the-variants.{Length, Version, VariableCount, Size, ConstraintCount, Extent, PairRange, PairOrder, PairRepeated, RowRange, Unsound, VariableNumber, NotTwoFree, NotStated, NotFunctional, SolutionLength, ValueRange, ValuesForbidden, BufferLength, NotFresh, SameVariables, TableRows, TooManyChoices, NotInVersion, NotFlatMeter, BlankRow, BinRecords, NotInStock, BinTooLow, OrderNumbers, NotPaired}
 use Rattle.cause.specs.Number.{numberOf, greatest}
 
 -- The cause of a number, from the causes in the order of their numbers.
@@ -14,7 +14,8 @@ causeOf k =
     getD
     (Length ∷ Version ∷ VariableCount ∷ Size ∷ ConstraintCount ∷ Extent ∷ PairRange ∷ RowRange ∷ Unsound ∷ VariableNumber
     ∷ NotTwoFree ∷ NotStated ∷ NotFunctional ∷ SolutionLength ∷ ValueRange ∷ ValuesForbidden ∷ BufferLength ∷ NotFresh
-    ∷ PairOrder ∷ PairRepeated ∷ SameVariables ∷ TableRows ∷ TooManyChoices ∷ NotInVersion ∷ NotFlatMeter ∷ BlankRow ∷ [])
+    ∷ PairOrder ∷ PairRepeated ∷ SameVariables ∷ TableRows ∷ TooManyChoices ∷ NotInVersion ∷ NotFlatMeter ∷ BlankRow
+    ∷ BinRecords ∷ NotInStock ∷ BinTooLow ∷ OrderNumbers ∷ NotPaired ∷ [])
     (k - 1) Length
 
 -- Each cause: its number is one of the table's, and gives the cause back.
@@ -45,6 +46,11 @@ numbered TooManyChoices = (omega arith, refl)
 numbered NotInVersion = (omega arith, refl)
 numbered NotFlatMeter = (omega arith, refl)
 numbered BlankRow = (omega arith, refl)
+numbered BinRecords = (omega arith, refl)
+numbered NotInStock = (omega arith, refl)
+numbered BinTooLow = (omega arith, refl)
+numbered OrderNumbers = (omega arith, refl)
+numbered NotPaired = (omega arith, refl)
 
 -- "Causes and their numbers": from 1 on. No cause has number 0, which stands for "not refused".
 pub number-range : (c : Cause) → (1 ≤ numberOf c) × (numberOf c ≤ greatest)

@@ -1,7 +1,7 @@
--- Document 01, "Causes and their numbers"; 7, 19 and 20 are those of document 02, L1, 21 and 22 those of L3, 23 is that of L4, 24 that of L6, 25 that of L7, and 26 that of L10.
+-- Document 01, "Causes and their numbers"; 7, 19 and 20 are those of document 02, L1, 21 and 22 those of L3, 23 is that of L4, 24 that of L6, 25 that of L7, 26 that of L10, 27 to 29 those of L11, 30 that of L13, and 31 that of L14.
 use Prim.Native.Nat.{ℕ}
 use Rattle.cause.specs.declared.Cause.{Cause}
-use Rattle.cause.specs.declared.Cause.the-variants.{Length, Version, VariableCount, Size, ConstraintCount, Extent, PairRange, PairOrder, PairRepeated, RowRange, Unsound, VariableNumber, NotTwoFree, NotStated, NotFunctional, SolutionLength, ValueRange, ValuesForbidden, BufferLength, NotFresh, SameVariables, TableRows, TooManyChoices, NotInVersion, NotFlatMeter, BlankRow}
+use Rattle.cause.specs.declared.Cause.the-variants.{Length, Version, VariableCount, Size, ConstraintCount, Extent, PairRange, PairOrder, PairRepeated, RowRange, Unsound, VariableNumber, NotTwoFree, NotStated, NotFunctional, SolutionLength, ValueRange, ValuesForbidden, BufferLength, NotFresh, SameVariables, TableRows, TooManyChoices, NotInVersion, NotFlatMeter, BlankRow, BinRecords, NotInStock, BinTooLow, OrderNumbers, NotPaired}
 
 abbrev pub numberOf : Cause → ℕ
 numberOf Length = 1  -- under 3 bytes, over 15,621, or not 3 plus the count
@@ -30,7 +30,12 @@ numberOf TooManyChoices = 23  -- the product of the live list sizes exceeds 1,00
 numberOf NotInVersion = 24  -- writer: an unknown version or a size above 16 in version 1
 numberOf NotFlatMeter = 25  -- fewer than two options, or option 1 or 2 not of size four
 numberOf BlankRow = 26  -- version 3: an all-zero row; writer: a stated table has one for its lower-numbered option
+numberOf BinRecords = 27  -- the records aren't exactly those options and values in that order
+numberOf NotInStock = 28  -- a non-build, an option number 0 or above n, a value at or above the size, or a count that would exceed 32 bits
+numberOf BinTooLow = 29  -- a bin too low
+numberOf OrderNumbers = 30  -- the order does not hold each option exactly once and nothing else
+numberOf NotPaired = 31  -- a table that is not functional both ways on the full lists
 
 -- The greatest of these numbers.
 abbrev pub greatest : ℕ
-greatest = 26
+greatest = 31

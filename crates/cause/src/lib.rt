@@ -41,6 +41,14 @@ pub enum Cause {
     NotFlatMeter,
     // Version 3: a row of no values, read or to be written.
     BlankRow,
+    // Stock: the records are not those of the options and values in order; no build, no such value, or a count past 32 bits; a bin too low.
+    BinRecords,
+    NotInStock,
+    BinTooLow,
+    // An order to plan in that does not hold each option exactly once and nothing else.
+    OrderNumbers,
+    // The paired profile: a table that is not functional both ways.
+    NotPaired,
 }
 
 // The number of the table of causes.
@@ -74,5 +82,10 @@ pub fn number(cause: Cause) -> u8
         Cause::NotInVersion => 24,
         Cause::NotFlatMeter => 25,
         Cause::BlankRow => 26,
+        Cause::BinRecords => 27,
+        Cause::NotInStock => 28,
+        Cause::BinTooLow => 29,
+        Cause::OrderNumbers => 30,
+        Cause::NotPaired => 31,
     }
 }
