@@ -483,7 +483,7 @@ static void check_read_only(void) {
 
 /* Each number that a cause has, and 0, has a text of its own. */
 static void check_texts(void) {
-    CHECK(SHEET_GREATEST_CAUSE == 26);
+    CHECK(SHEET_GREATEST_CAUSE == 31);
     const char *none = sheet_cause_text(255);
     unsigned causes = 0;
     for (unsigned one = 0; one <= SHEET_GREATEST_CAUSE + 1; one++) {
@@ -493,7 +493,7 @@ static void check_texts(void) {
             CHECK(strcmp(sheet_cause_text(one), sheet_cause_text(other)) != 0);
         }
     }
-    CHECK(causes == 27);
+    CHECK(causes == 32);
     CHECK(strcmp(sheet_cause_text(SHEET_CAUSE_NOT_SOUND), "the state is not sound") == 0);
     CHECK(strcmp(sheet_cause_text(255), sheet_cause_text(SHEET_GREATEST_CAUSE + 1)) == 0);
 }

@@ -56,7 +56,8 @@
 extern "C" {
 #endif
 
-/* The causes of a refusal by their numbers, each in the words of document 01, or of document 02 where that changed it. */
+/* The causes of a refusal by their numbers, each in the words of document 01, or of document 02 where that changed it. No call of this
+ * version answers 27 to 31. */
 enum sheet_cause {
     SHEET_NOT_REFUSED = 0,
     SHEET_CAUSE_LENGTH = 1,             /* "under 3 bytes, over 4,101, or not 3 plus the count", with 15,621 for 4,101 */
@@ -84,10 +85,16 @@ enum sheet_cause {
     SHEET_CAUSE_TOO_MANY_CHOICES = 23,  /* search: "the product of the live list sizes exceeds 1,000,000" */
     SHEET_CAUSE_NOT_IN_VERSION = 24,    /* writer: "an unknown version or a size above 16 in version 1" */
     SHEET_CAUSE_NOT_FLAT_METER = 25,    /* page nine: "fewer than two options or where option 1 or 2 is not of size four" */
-    SHEET_CAUSE_BLANK_ROW = 26          /* version 3 "forbids an all-zero row": in a sheet, or in a state to be written */
+    SHEET_CAUSE_BLANK_ROW = 26,         /* version 3 "forbids an all-zero row": in a sheet, or in a state to be written */
+    SHEET_CAUSE_BIN_RECORDS = 27,       /* stock: "the records aren't exactly those options and values in that order" */
+    SHEET_CAUSE_NOT_IN_STOCK = 28,      /* stock: "a non-build (a wrong number of bytes included), an option number 0 or above n, a value at or
+                                         * above the size, or a count that would exceed 32 bits" */
+    SHEET_CAUSE_BIN_TOO_LOW = 29,       /* stock: "a bin too low" */
+    SHEET_CAUSE_ORDER_NUMBERS = 30,     /* planning: "the order does not hold each option exactly once and nothing else" */
+    SHEET_CAUSE_NOT_PAIRED = 31         /* paired profile: a table that is not "functional both ways on the full lists" */
 };
 
-#define SHEET_GREATEST_CAUSE SHEET_CAUSE_BLANK_ROW
+#define SHEET_GREATEST_CAUSE SHEET_CAUSE_NOT_PAIRED
 
 /* The cause in English, for any number; never NULL. */
 static inline const char *sheet_cause_text(unsigned number) {
@@ -119,6 +126,11 @@ static inline const char *sheet_cause_text(unsigned number) {
     case SHEET_CAUSE_NOT_IN_VERSION: return "the version to write is unknown, or a size is above what it can hold";
     case SHEET_CAUSE_NOT_FLAT_METER: return "there are fewer than two options, or option 1 or 2 does not have four values";
     case SHEET_CAUSE_BLANK_ROW: return "a row is all-zero, which version 3 forbids";
+    case SHEET_CAUSE_BIN_RECORDS: return "the bins are not one for each value of each option, in their order";
+    case SHEET_CAUSE_NOT_IN_STOCK: return "there is no such build or value, or a count would exceed 32 bits";
+    case SHEET_CAUSE_BIN_TOO_LOW: return "a bin holds too few";
+    case SHEET_CAUSE_ORDER_NUMBERS: return "the order does not hold each option exactly once and nothing else";
+    case SHEET_CAUSE_NOT_PAIRED: return "a table is not functional both ways";
     default: return "no cause has this number";
     }
 }

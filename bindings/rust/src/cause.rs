@@ -1,7 +1,8 @@
 use std::error::Error;
 use std::fmt;
 
-/// The causes of a refusal, each with its number and in the words of document 01, or of document 02 where that changed it.
+/// The causes of a refusal, each with its number and in the words of document 01, or of document 02 where that changed it. No call of
+/// this version answers 27 to 31.
 #[derive(Clone, Copy, PartialEq, Eq, Hash, Debug)]
 #[non_exhaustive]
 #[repr(u8)]
@@ -58,13 +59,24 @@ pub enum Cause {
     NotFlatMeter = 25,
     /// version 3 "forbids an all-zero row": in a sheet, or in a state to be written
     BlankRow = 26,
+    /// stock: "the records aren't exactly those options and values in that order"
+    BinRecords = 27,
+    /// stock: "a non-build (a wrong number of bytes included), an option number 0 or above n, a value at or above the size, or a count
+    /// that would exceed 32 bits"
+    NotInStock = 28,
+    /// stock: "a bin too low"
+    BinTooLow = 29,
+    /// planning: "the order does not hold each option exactly once and nothing else"
+    OrderNumbers = 30,
+    /// paired profile: a table that is not "functional both ways on the full lists"
+    NotPaired = 31,
 }
 
 use Cause::*;
 
 impl Cause {
     /// All causes, in the order of their numbers.
-    pub const ALL: [Cause; 26] = [
+    pub const ALL: [Cause; 31] = [
         Length,
         Version,
         OptionCount,
@@ -91,10 +103,15 @@ impl Cause {
         NotInVersion,
         NotFlatMeter,
         BlankRow,
+        BinRecords,
+        NotInStock,
+        BinTooLow,
+        OrderNumbers,
+        NotPaired,
     ];
 
-    /// The greatest number that a call answers.
-    pub const GREATEST: u8 = BlankRow as u8;
+    /// The greatest number that a cause has.
+    pub const GREATEST: u8 = NotPaired as u8;
 
     /// The cause that has this number; none for 0, which stands for "not refused", and for a number that no cause has.
     pub fn of(number: u8) -> Option<Cause> {
@@ -136,6 +153,11 @@ impl fmt::Display for Cause {
             NotInVersion => "the version to write is unknown, or a size is above what it can hold",
             NotFlatMeter => "there are fewer than two options, or option 1 or 2 does not have four values",
             BlankRow => "a row is all-zero, which version 3 forbids",
+            BinRecords => "the bins are not one for each value of each option, in their order",
+            NotInStock => "there is no such build or value, or a count would exceed 32 bits",
+            BinTooLow => "a bin holds too few",
+            OrderNumbers => "the order does not hold each option exactly once and nothing else",
+            NotPaired => "a table is not functional both ways",
         })
     }
 }
