@@ -195,6 +195,57 @@ static void check_trimming(void) {
     CHECK(refused.number == SHEET_CAUSE_NOT_SOUND && refused.steps == 0 && same(&s, &zero));
 }
 
+static void refused_lead(const struct sheet_state *given, size_t leader, int number) {
+    struct sheet_state state = *given;
+    struct sheet_step_answer answer = sheet_lead(&state, leader);
+    CHECK(answer.number == number && answer.steps == 0 && same(&state, given));
+}
+
+/* Cases B, C, F, H and K with a leader that is named, and a sheet more. In K and in that one option 3 follows 1 first, and makes the lower
+ * option 2 possible. */
+static void check_lead(void) {
+    static const struct {
+        uint8_t sheet[41];
+        size_t length, leader, steps;
+        uint8_t leaders[4];
+        uint32_t list; /* of the leader */
+        int kind;
+        uint8_t build[4];
+    } cases[] = {
+        {{1, 0, 17, 3, 2, 2, 2, 2, 1, 3, 0, 1, 0, 2, 2, 3, 0, 1, 0, 2}, 20, 1, 2, {0, 1, 1}, 0x3, SHEET_BUILT, {0, 0, 0}},
+        {{1, 0, 13, 3, 1, 1, 3, 2, 1, 3, 0, 4, 2, 3, 0, 7}, 16, 1, 2, {0, 1, 1}, 0x1, SHEET_BUILT, {0, 0, 2}},
+        {{1, 0, 19, 3, 2, 3, 2, 2, 1, 2, 0, 1, 0, 6, 2, 3, 0, 1, 0, 2, 0, 2}, 22, 1, 0, {0, 0, 0}, 0x3, SHEET_OPEN, {0}},
+        {{1, 0, 19, 3, 2, 3, 2, 2, 1, 2, 0, 1, 0, 6, 2, 3, 0, 1, 0, 2, 0, 2}, 22, 2, 2, {2, 0, 2}, 0x7, SHEET_BUILT, {0, 0, 0}},
+        {{1, 0, 38, 4, 3, 3, 3, 3, 4, 1, 2, 0, 1, 0, 2, 0, 4, 1, 3, 0, 1, 0, 2, 0, 4, 2, 4, 0, 1, 0, 4, 0, 2, 3, 4, 0, 1, 0, 4, 0, 2},
+         41, 4, 3, {4, 4, 4, 0}, 0x7, SHEET_BUILT, {0, 0, 0, 0}},
+        {{1, 0, 38, 4, 3, 3, 3, 3, 4, 1, 2, 0, 1, 0, 2, 0, 4, 1, 3, 0, 1, 0, 2, 0, 4, 2, 4, 0, 2, 0, 1, 0, 4, 3, 4, 0, 1, 0, 4, 0, 2},
+         41, 4, 3, {4, 4, 4, 0}, 0x0, SHEET_NONE, {0}},
+        {{1, 0, 4, 2, 2, 2, 0}, 7, 2, 0, {0, 0}, 0x3, SHEET_BUILT, {0, 0}},
+    };
+    for (size_t k = 0; k < sizeof cases / sizeof *cases; k++) {
+        struct sheet_state s, again;
+        CHECK(sheet_read(cases[k].sheet, cases[k].length, &s).number == 0);
+        struct sheet_step_answer answer = sheet_lead(&s, cases[k].leader);
+        CHECK(answer.number == 0 && answer.steps == cases[k].steps && memcmp(s.leaders, cases[k].leaders, s.n) == 0);
+        CHECK(s.lists[cases[k].leader - 1] == cases[k].list && sheet_is_sound(&s));
+        struct sheet_verdict_answer verdict = sheet_verdict(&s);
+        CHECK(verdict.kind == cases[k].kind && memcmp(verdict.build, cases[k].build, s.n) == 0);
+        again = s;
+        answer = sheet_lead(&again, cases[k].leader);
+        CHECK(answer.number == 0 && answer.steps == 0 && same(&again, &s));
+    }
+    /* 3 follows 2 and comes along when 2 is taken: two new followers, one step */
+    struct sheet_state s = fresh;
+    CHECK(sheet_eliminate(&s, 2, 3).steps == 1 && sheet_lead(&s, 1).steps == 1 && same(&s, &reduced));
+    s = fresh;
+    CHECK(sheet_lead(&s, 1).steps == 2 && same(&s, &reduced));
+    refused_lead(&zero, 0, SHEET_CAUSE_NOT_SOUND);
+    refused_lead(&fresh, 0, SHEET_CAUSE_OPTION_NUMBER);
+    refused_lead(&fresh, 4, SHEET_CAUSE_OPTION_NUMBER);
+    refused_lead(&reduced, SIZE_MAX, SHEET_CAUSE_OPTION_NUMBER);
+    refused_lead(&reduced, 2, SHEET_CAUSE_NOT_LIVE);
+}
+
 static void refused_table(const struct sheet_state *given, size_t first, size_t second, const uint32_t *table, size_t length, int number) {
     struct sheet_state state = *given;
     struct sheet_step_answer answer = sheet_add_table(&state, first, second, table, length);
@@ -463,6 +514,9 @@ static void check_read_only(void) {
     CHECK(sheet_eliminate(&held->fresh, 3, 2).number == SHEET_CAUSE_NOT_FUNCTIONAL);
     CHECK(sheet_reduce(&held->zero).number == SHEET_CAUSE_NOT_SOUND);
     CHECK(sheet_trim(&held->zero).number == SHEET_CAUSE_NOT_SOUND);
+    CHECK(sheet_lead(&held->zero, 1).number == SHEET_CAUSE_NOT_SOUND);
+    CHECK(sheet_lead(&held->fresh, 4).number == SHEET_CAUSE_OPTION_NUMBER);
+    CHECK(sheet_lead(&held->stepped, 2).number == SHEET_CAUSE_NOT_LIVE);
     CHECK(sheet_add_table(&held->zero, 1, 2, NULL, 0).number == SHEET_CAUSE_NOT_SOUND);
     CHECK(sheet_add_table(&held->fresh, 0, 2, NULL, 0).number == SHEET_CAUSE_OPTION_NUMBER);
     CHECK(sheet_add_table(&held->fresh, 2, 2, NULL, 0).number == SHEET_CAUSE_SAME_OPTIONS);
@@ -516,6 +570,7 @@ static void add_it(void) {
 static void meter_it(void) { held = flat, bytes[0] = meter_fit(&held).kind; }
 static void reduce_it(void) { held = fresh, sheet_reduce(&held); }
 static void trim_it(void) { held = fresh, sheet_trim(&held); }
+static void lead_it(void) { held = fresh, sheet_lead(&held, 1); }
 static void test_it(void) { bytes[0] = sheet_test(&reduced, bytes, 3).number; }
 static void complete_it(void) { memset(bytes, 0, 3), sheet_complete(&reduced, bytes, 3); }
 static void verdict_it(void) { bytes[0] = sheet_verdict(&reduced).kind; }
@@ -541,7 +596,7 @@ static void check_stack(void) {
     for (int k = 1; k < 4; k++) {
         for (int b = 0; b < 31; b++) allow(&deep, k, 30, k + 1, b);
     }
-    static void (*const calls[])(void) = {read_it, write_it,    sound_it,   follow_it, reduce_it, trim_it, add_it,
+    static void (*const calls[])(void) = {read_it, write_it,    sound_it,   follow_it, reduce_it, trim_it, lead_it, add_it,
                                           test_it, complete_it, verdict_it, search_it, cut_it,    text_it, meter_it};
     for (size_t k = 0; k < sizeof calls / sizeof *calls; k++) {
         size_t untouched = 0;
@@ -556,6 +611,7 @@ int main(void) {
     check_bytes();
     check_steps();
     check_trimming();
+    check_lead();
     check_tables();
     check_meter();
     check_sound_and_verdict();

@@ -1,9 +1,9 @@
 /* Option sheets: the proved library for C (C99 or newer) and C++ (C++11 or newer).
  *
  * Words. This header speaks the words of the trade and of document 01: option, value, list, table, live, leader, follower,
- * build. The library's code and proofs have other words for some of them, and so have the names of three calls: `eliminate` is
- * the follow step, `reduce` the full reduction, `trim` the trimming of live lists in turn with it. docs/GLOSSARY.md maps the two. Options count
- * from 1 in calls and in `leaders`, and from 0 as indices of arrays; values count from 0.
+ * build. The library's code and proofs have other words for some of them, and so have the names of four calls: `eliminate` is
+ * the follow step, `reduce` the full reduction, `trim` the trimming of live lists in turn with it, `lead` the run of steps of one option.
+ * docs/GLOSSARY.md maps the two. Options count from 1 in calls and in `leaders`, and from 0 as indices of arrays; values count from 0.
  *
  * Promises. A call takes any bytes and any state, does what its comment says, and ends. That is proved of the library's
  * source, call by call, as an equation with the definitions that docs/PROMISES.md names. The compiler, and what a caller owes
@@ -42,7 +42,7 @@
 /* The version of these declarations: MAJOR rises where a caller has to be changed or compiled anew, or a state that he has kept may
  * now be refused, MINOR where something is added. The version in byte 0 of a sheet is another number. */
 #define SHEET_VERSION_MAJOR 5
-#define SHEET_VERSION_MINOR 1
+#define SHEET_VERSION_MINOR 2
 
 #define SHEET_LARGEST_BYTES 15621 /* "The largest version 2 sheet has 15,621 bytes, which is the limit in number 1" */
 #define SHEET_MOST_OPTIONS 16    /* length of the arrays that hold something for each option */
@@ -70,7 +70,7 @@ enum sheet_cause {
     SHEET_CAUSE_ROW = 8,                /* "row has a bit at or above the size of b" */
     SHEET_CAUSE_NOT_SOUND = 9,          /* "state not sound" */
     SHEET_CAUSE_OPTION_NUMBER = 10,     /* "option number 0 or above n" */
-    SHEET_CAUSE_NOT_LIVE = 11,          /* "the two options equal, or one not live" */
+    SHEET_CAUSE_NOT_LIVE = 11,          /* "the two options equal, or one not live"; leader: "the named option is not live" */
     SHEET_CAUSE_NOT_STATED = 12,        /* "pair not stated" */
     SHEET_CAUSE_NOT_FUNCTIONAL = 13,    /* "not functional from leader to follower" */
     SHEET_CAUSE_BUILD_LENGTH = 14,      /* "build buffer not n bytes" */
@@ -110,7 +110,7 @@ static inline const char *sheet_cause_text(unsigned number) {
     case SHEET_CAUSE_ROW: return "a row allows a value at or above the size of its option";
     case SHEET_CAUSE_NOT_SOUND: return "the state is not sound";
     case SHEET_CAUSE_OPTION_NUMBER: return "an option number is 0 or above the number of options";
-    case SHEET_CAUSE_NOT_LIVE: return "the two options are equal, or one is not live";
+    case SHEET_CAUSE_NOT_LIVE: return "the two options are equal, or an option named is not live";
     case SHEET_CAUSE_NOT_STATED: return "the two options have no table";
     case SHEET_CAUSE_NOT_FUNCTIONAL: return "the table is not functional from leader to follower";
     case SHEET_CAUSE_BUILD_LENGTH: return "the build does not have one byte for each option";
@@ -166,7 +166,7 @@ struct sheet_read_answer {
     size_t place;  /* the byte that a refusal is about, counted from 0; 0 where nothing is refused */
 };
 
-/* A follow step, a full reduction or a table added; the state is changed where it is. */
+/* A follow step, a run of them or a table added; the state is changed where it is. */
 struct sheet_step_answer {
     uint8_t number;
     size_t steps;  /* how many options were live before and are not now */
@@ -224,6 +224,9 @@ struct sheet_step_answer sheet_reduce_parts(size_t n, const uint8_t sizes[SHEET_
 struct sheet_step_answer sheet_trim_parts(size_t n, const uint8_t sizes[SHEET_MOST_OPTIONS],
                                           uint32_t lists[SHEET_MOST_OPTIONS], uint8_t leaders[SHEET_MOST_OPTIONS],
                                           uint32_t stated[SHEET_MOST_OPTIONS], uint32_t rows[SHEET_ROWS]);
+struct sheet_step_answer sheet_lead_parts(size_t n, const uint8_t sizes[SHEET_MOST_OPTIONS],
+                                          uint32_t lists[SHEET_MOST_OPTIONS], uint8_t leaders[SHEET_MOST_OPTIONS],
+                                          uint32_t stated[SHEET_MOST_OPTIONS], uint32_t rows[SHEET_ROWS], size_t leader);
 struct sheet_step_answer sheet_add_table_parts(size_t n, const uint8_t sizes[SHEET_MOST_OPTIONS],
                                                uint32_t lists[SHEET_MOST_OPTIONS], uint8_t leaders[SHEET_MOST_OPTIONS],
                                                uint32_t stated[SHEET_MOST_OPTIONS], uint32_t rows[SHEET_ROWS], size_t first,
@@ -308,6 +311,19 @@ static inline struct sheet_step_answer sheet_reduce(struct sheet_state *state) {
  * where that ends BUILT. */
 static inline struct sheet_step_answer sheet_trim(struct sheet_state *state) {
     return sheet_trim_parts(state->n, state->sizes, state->lists, state->leaders, state->stated, state->rows);
+}
+
+/* The option `leader` leads, in place: "Only it takes followers, the lowest possible one each time, until none can follow"; each step
+ * as in sheet_eliminate, and after each the lowest is sought anew, since a follower may make a lower one possible. Whoever had
+ * another leader keeps it, unless that one comes to follow `leader`: then it follows `leader` too. Answers how many steps it took, at
+ * most n - 1; those that come along are no steps.
+ * Numbers 9, 10, 11, tested in this order: 11 "when the named option is not live". A refusal leaves the state as it was and answers 0
+ * steps.
+ * The builds of the state stay the same. "On a sheet just accepted, if every other option can be reached from it through tables
+ * functional along the way, it ends as the only live option and the verdict is never OPEN": it is then SHEET_NONE exactly when the sheet
+ * has no build, and else shows one. */
+static inline struct sheet_step_answer sheet_lead(struct sheet_state *state, size_t leader) {
+    return sheet_lead_parts(state->n, state->sizes, state->lists, state->leaders, state->stated, state->rows, leader);
 }
 
 /* Adds a table for the options `first` and `second`, live or not, in place: `length` rows, one for each value of the first, value 0

@@ -484,6 +484,29 @@ pub fn trim(s: &mut State) -> Stepped {
     }
 }
 
+/// The run of steps that one option leads, counted from 1, in place: of those that can follow it the lowest, and again.
+pub fn lead(s: &mut State, leader: usize) -> Stepped {
+    let refused = |number| Stepped { number, steps: 0 };
+    if !is_sound(s) {
+        return refused(9);
+    }
+    if leader == 0 || leader > s.n {
+        return refused(10);
+    }
+    let l = (leader - 1) & 15;
+    if s.leaders[l] != 0 {
+        return refused(11);
+    }
+    let mut live = live(s);
+    let mut steps = 0;
+    while let Some(j) = members(s.stated[l] & live).find(|&j| functional(s, l, j & 15)) {
+        step(s, l, j);
+        live &= !(1 << j);
+        steps += 1;
+    }
+    Stepped { number: 0, steps }
+}
+
 /// The number that refuses a table on a sound state, options counted from 1.
 fn table_refusal(s: &State, first: usize, second: usize, table: &[u32]) -> u8 {
     if first == 0 || first > s.n || second == 0 || second > s.n {

@@ -11,7 +11,7 @@ struct Counts {
     differences: usize,
 }
 
-const CALLS: [&str; 13] = [
+const CALLS: [&str; 14] = [
     "read",
     "write",
     "sound",
@@ -25,6 +25,7 @@ const CALLS: [&str; 13] = [
     "add_table",
     "search",
     "trim",
+    "lead",
 ];
 /// The numbers that a call can answer: 0, which stands for "not refused", and those of the causes.
 const NUMBERS: usize = Cause::GREATEST as usize + 1;
@@ -128,6 +129,16 @@ fn trim(state: &State, counts: &mut Counts) -> State {
     here
 }
 
+/// One option leads; the state left, which after a refusal is the one given.
+fn lead(state: &State, leader: usize, counts: &mut Counts) -> State {
+    let (mut here, mut there) = (*state, *state);
+    let one = proved::lead(&mut here, leader);
+    let other = plain::lead(&mut there, leader);
+    let kept = one.number == 0 || here == *state;
+    counts.note(13, one.number, &(one, here, kept), &(other, there, true));
+    here
+}
+
 /// A table added; the state left, which after a refusal is the one given.
 fn add_table(state: &State, table: &Table, counts: &mut Counts) -> State {
     let (mut here, mut there) = (*state, *state);
@@ -162,9 +173,11 @@ fn calls(state: &State, build: &[u8], random: &mut Random, counts: &mut Counts) 
     }
     if random.chance(16) {
         eliminate(state, random.next() as usize, random.next() as usize, counts);
+        lead(state, random.next() as usize, counts);
     }
     reduce(state, counts);
     trim(state, counts);
+    lead(state, random.below(n + 2), counts);
     for _ in 0..2 {
         add_table(state, &any_table(state, random), counts);
     }
@@ -200,10 +213,11 @@ fn from_sheet(sheet: &Sheet, random: &mut Random, counts: &mut Counts) {
     }
     for _ in 0..1 + random.below(6) {
         let n = state.n;
-        state = match random.below(9) {
+        state = match random.below(10) {
             0 => reduce(&state, counts),
             1 => trim(&state, counts),
-            2 | 3 => add_table(&state, &any_table(&state, random), counts),
+            2 => lead(&state, 1 + random.below(n), counts),
+            3 | 4 => add_table(&state, &any_table(&state, random), counts),
             _ => eliminate(&state, 1 + random.below(n), 1 + random.below(n), counts),
         };
         counts.input(STEPPED_STATE);

@@ -65,9 +65,9 @@ type Start = fn(&Case) -> &State;
 const AS_READ: Start = |case| &case.fresh;
 const REDUCED: Start = |case| &case.reduced;
 
-/// Each call in the proved library and in plain Rust. Both are lent the state, and work in place. "led" adds a table to a reduced state, whose options may
-/// follow others.
-const CALLS: [(&str, Start, Call, Call); 14] = [
+/// Each call in the proved library and in plain Rust. Both are lent the state, and work in place. "lead" has option 1 lead; "led" adds a table to a reduced
+/// state, whose options may follow others.
+const CALLS: [(&str, Start, Call, Call); 15] = [
     (
         "read",
         AS_READ,
@@ -97,6 +97,12 @@ const CALLS: [(&str, Start, Call, Call); 14] = [
         AS_READ,
         |_, s, _| look(proved::trim(s)),
         |_, s, _| look(plain::trim(s)),
+    ),
+    (
+        "lead",
+        AS_READ,
+        |_, s, _| look(proved::lead(s, 1)),
+        |_, s, _| look(plain::lead(s, 1)),
     ),
     (
         "add",

@@ -27,7 +27,7 @@ pub enum Cause {
     NotSound = 9,
     /// "option number 0 or above n"
     OptionNumber = 10,
-    /// "the two options equal, or one not live"
+    /// "the two options equal, or one not live"; leader: "the named option is not live"
     NotLive = 11,
     /// "pair not stated"
     NotStated = 12,
@@ -137,7 +137,7 @@ impl fmt::Display for Cause {
             Row => "a row allows a value at or above the size of its option",
             NotSound => "the state is not sound",
             OptionNumber => "an option number is 0 or above the number of options",
-            NotLive => "the two options are equal, or one is not live",
+            NotLive => "the two options are equal, or an option named is not live",
             NotStated => "the two options have no table",
             NotFunctional => "the table is not functional from leader to follower",
             BuildLength => "the build does not have one byte for each option",

@@ -14,6 +14,7 @@
 //! assert_eq!(verdict.kind, sheet::BUILT);
 //! assert_eq!(verdict.build[..3], [0, 0, 1]);
 //! assert_eq!(state.lists[1], 0x0005); // option 2 follows, and value 1 is the partner of no value of its leader
+//! assert_eq!(sheet::lead(&mut state, 2).number, sheet::Cause::NotLive.number());
 //! assert_eq!(sheet::add_table(&mut state, 3, 2, &[0x0004, 0x0006]).number, 0);
 //! assert_eq!(sheet::verdict(&state).build[..3], [1, 2, 0]);
 //!
@@ -87,6 +88,15 @@ extern "C" {
         leaders: &mut [u8; MOST_OPTIONS],
         stated: &mut [u32; MOST_OPTIONS],
         rows: &mut Rows,
+    ) -> Stepped;
+    fn sheet_lead_parts(
+        n: usize,
+        sizes: &[u8; MOST_OPTIONS],
+        lists: &mut [u32; MOST_OPTIONS],
+        leaders: &mut [u8; MOST_OPTIONS],
+        stated: &mut [u32; MOST_OPTIONS],
+        rows: &mut Rows,
+        leader: usize,
     ) -> Stepped;
     fn sheet_add_table_parts(
         n: usize,
@@ -261,6 +271,42 @@ pub fn reduce(state: &mut State) -> Stepped {
 pub fn trim(state: &mut State) -> Stepped {
     let s = state;
     unsafe { sheet_trim_parts(s.n, &s.sizes, &mut s.lists, &mut s.leaders, &mut s.stated, &mut s.rows) }
+}
+
+/// The option `leader`, counted from 1, leads: "Only it takes followers, the lowest possible one each time, until none can follow"; each
+/// step as in [`eliminate`], and after each the lowest is sought anew, since a follower may make a lower one possible. Whoever had
+/// another leader keeps it, unless that one comes to follow `leader`: then it follows `leader` too. Answers how many steps it took, at
+/// most n - 1; those that come along are no steps.
+///
+/// Numbers 9, 10, 11, tested in this order: 11 "when the named option is not live". A refusal leaves the state as it was and answers 0
+/// steps. The builds of the state stay the same. "On a sheet just accepted, if every other option can be reached from it through tables
+/// functional along the way, it ends as the only live option and the verdict is never OPEN": it is then [`NONE`] exactly when the sheet
+/// has no build, and else shows one.
+///
+/// ```
+/// let case_b = [1, 0, 19, 3, 2, 3, 2, 2, 1, 2, 0, 1, 0, 6, 2, 3, 0, 1, 0, 2, 0, 2];
+/// let mut state = sheet::State::ZERO;
+/// assert_eq!(sheet::read(&case_b, &mut state).number, 0);
+/// assert_eq!(sheet::lead(&mut state, 1).steps, 0); // nobody can follow option 1
+/// assert_eq!(sheet::lead(&mut state, 2).steps, 2);
+/// assert_eq!(state.leaders[..3], [2, 0, 2]);
+/// assert_eq!(sheet::lead(&mut state, 4).number, sheet::Cause::OptionNumber.number());
+/// assert_eq!(sheet::lead(&mut state, 3).number, sheet::Cause::NotLive.number());
+/// ```
+#[inline]
+pub fn lead(state: &mut State, leader: usize) -> Stepped {
+    let s = state;
+    unsafe {
+        sheet_lead_parts(
+            s.n,
+            &s.sizes,
+            &mut s.lists,
+            &mut s.leaders,
+            &mut s.stated,
+            &mut s.rows,
+            leader,
+        )
+    }
 }
 
 /// Adds a table for the options `first` and `second`, live or not: a row for each value of the first, value 0 first; bit v of a row

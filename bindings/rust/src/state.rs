@@ -70,7 +70,7 @@ pub struct Read {
     pub place: usize,
 }
 
-/// What a follow step or a full reduction answers.
+/// What a follow step, a run of them or a table added answers.
 #[repr(C)]
 #[derive(Clone, Copy, PartialEq, Eq, Debug)]
 pub struct Stepped {

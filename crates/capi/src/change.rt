@@ -6,10 +6,11 @@ use head::Rows;
 use head::VARIABLES;
 use state::add_parts;
 use state::eliminate_parts;
+use state::lead_parts;
 use state::reduce_parts;
 use state::trim_parts;
 ghost use mathlib.Core.Path.{_≡_};
-ghost use Rattle.state.specs.Steps.{stepped, reduced, trimmed};
+ghost use Rattle.state.specs.Steps.{stepped, reduced, trimmed, led};
 ghost use Rattle.state.specs.Tables.{tableAdded};
 ghost use Rattle.capi_lent.specs.Lent.{stateWith, leftAs};
 
@@ -74,6 +75,26 @@ pub extern "C" fn sheet_trim_parts(
         ⌝ }
 {
     let worked = trim_parts(head_of(n, sizes, lists, leaders, stated), rows);
+    left(worked, lists, leaders, stated)
+}
+
+// The run that one option leads, in place, the option counted from 1.
+#[no_mangle]
+pub extern "C" fn sheet_lead_parts(
+    n: usize,
+    sizes: &[u8; VARIABLES],
+    lists: &mut [u32; VARIABLES],
+    leaders: &mut [u8; VARIABLES],
+    stated: &mut [u32; VARIABLES],
+    rows: &mut Rows,
+    leader: usize,
+) -> SheetStepped
+    ensures { λ r. ⌜
+        leftAs (stateWith n (now (sizes .entry)) (now (lists .exit)) (now (leaders .exit)) (now (stated .exit)) (now (rows .exit))) r
+        ≡ led (stateWith n (now (sizes .entry)) (now (lists .entry)) (now (leaders .entry)) (now (stated .entry)) (now (rows .entry))) leader
+        ⌝ }
+{
+    let worked = lead_parts(head_of(n, sizes, lists, leaders, stated), rows, leader);
     left(worked, lists, leaders, stated)
 }
 

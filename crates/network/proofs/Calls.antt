@@ -12,14 +12,15 @@ use Rattle.bounded.proofs.Bool.{by-cases, clash, and-l, and-r, and-assoc, and-t
 use Rattle.network.specs.Network.{Network}
 use Rattle.network.specs.Sound.{Sound}
 use Rattle.network.specs.Step.{outside, refusal, legal}
-use Rattle.network.specs.Reduction.{reduce}
+use Rattle.network.specs.Reduction.{reduce, lead, leadRefusal}
 use Rattle.network.specs.Trimming.{alternate}
 use Rattle.network.specs.Sheet.{Table}
 use Rattle.network.specs.Added.{meetsTable, addRefusal, added}
-use Rattle.network.specs.Calls.{Call, follow-step, full-reduction, trimmed-reduction, add-table, refuses, made, answer, after, tablesOf, adds, addedBy, keepsTo, tableless}
+use Rattle.network.specs.Calls.{Call, follow-step, full-reduction, trimmed-reduction, led-reduction, add-table, refuses, made, answer, after, tablesOf, adds, addedBy, keepsTo, tableless}
 use Rattle.network.specs.Promise.{Keeps}
 use Rattle.network.proofs.Reduction.{keeps-refl, keeps-then, keeps-cong, step-keeps, run-keeps, reduce-run}
 use Rattle.network.proofs.Trimming.{alternate-keeps}
+use Rattle.network.proofs.Lead.{lead-keeps}
 use Rattle.network.proofs.Added.{not-refused, table-keeps}
 
 zero-outside : (N : Network) → outside N 0 ≡ true
@@ -79,6 +80,7 @@ unfolding refuses made tablesOf
 made-keeps N s (follow-step l f) t = keeps-none N _ (step-keeps N s (pred l) (pred f) (not-refused-legal N l f t))
 made-keeps N s full-reduction t = keeps-none N _ (run-keeps s (reduce-run N))
 made-keeps N s trimmed-reduction t = keeps-none N _ (alternate-keeps N s)
+made-keeps N s (led-reduction l) t = keeps-none N _ (lead-keeps N s (pred l))
 made-keeps N s (add-table x y rows) t =
     let inside = not-refused N x y rows (eqb-true _ 0 t) in
     keeps-cong N _ _ _ (λ f. sym (keeps-to-one x y rows f)) (table-keeps N (pred x) (pred y) rows s (inside .0) (inside .1))
@@ -124,3 +126,7 @@ full-call N = (refl, refl)
 pub trimmed-call : (N : Network) → (refuses N trimmed-reduction ≡ 0) × (made N trimmed-reduction ≡ alternate N)
 unfolding refuses made
 trimmed-call N = (refl, refl)
+
+pub led-call : (N : Network) (l : ℕ) → (refuses N (led-reduction l) ≡ leadRefusal N l) × (made N (led-reduction l) ≡ lead N (pred l))
+unfolding refuses made
+led-call N l = (refl, refl)

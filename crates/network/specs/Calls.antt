@@ -9,7 +9,7 @@ use lib.ListN.{length}
 use Rattle.bounded.specs.Bool.{and, if}
 use Rattle.network.specs.Network.{Network}
 use Rattle.network.specs.Step.{refusal, followed}
-use Rattle.network.specs.Reduction.{Reduced, reduce}
+use Rattle.network.specs.Reduction.{Reduced, reduce, lead, leadRefusal}
 use Rattle.network.specs.Trimming.{alternate}
 use Rattle.network.specs.Sheet.{Table}
 use Rattle.network.specs.Added.{meetsTable, addRefusal, added}
@@ -18,6 +18,7 @@ pub data Call : Type 0 where
   follow-step : ℕ → ℕ → Call  -- leader and follower, variables counted from 1
   full-reduction : Call
   trimmed-reduction : Call  -- trimming and reducing in turn
+  led-reduction : ℕ → Call  -- the leader that is named, counted from 1: only it takes followers
   add-table : ℕ → ℕ → List ℕ → Call  -- the first and the second variable named, counted from 1, and a row for each value of the first
 
 -- The number that refuses a call, or 0. (9 goes by the state.)
@@ -25,6 +26,7 @@ unfoldable pub refuses : Network → Call → ℕ
 refuses N (follow-step l f) = refusal N l f
 refuses N full-reduction = 0
 refuses N trimmed-reduction = 0
+refuses N (led-reduction l) = leadRefusal N l
 refuses N (add-table x y rows) = addRefusal N x y rows
 
 -- What a call that is not refused makes, and the number of its steps.
@@ -32,6 +34,7 @@ unfoldable pub made : Network → Call → Reduced
 made N (follow-step l f) = record { network = followed N (pred l) (pred f); steps = 1 }
 made N full-reduction = reduce N
 made N trimmed-reduction = alternate N
+made N (led-reduction l) = lead N (pred l)
 made N (add-table x y rows) = record { network = added N (pred x) (pred y) rows; steps = 0 }
 
 -- What a call hands back: "a refused call hands back what it was given".
@@ -48,6 +51,7 @@ unfoldable pub tablesOf : Call → List Table
 tablesOf (follow-step l f) = []
 tablesOf full-reduction = []
 tablesOf trimmed-reduction = []
+tablesOf (led-reduction l) = []
 tablesOf (add-table x y rows) = record { first = x; second = y; rows = rows } ∷ []
 
 -- and adds where it is not refused.

@@ -1,3 +1,4 @@
 pub mod Calls
 pub mod Promise
 pub mod Laws
+pub mod Settled

@@ -188,7 +188,7 @@ module _ (bytes : List ℕ) (octets : Octets bytes) (h : readSheet bytes .number
   unfolding networkRead
   network-read = rw (A .got-sheet)
 
-  last-network : lastNetwork bytes cs ≡ after (networkOf s) cs
+  pub last-network : lastNetwork bytes cs ≡ after (networkOf s) cs
   unfolding lastNetwork
   last-network = ap (λ (N : Network). after N cs) network-read
 

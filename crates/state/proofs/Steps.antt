@@ -1,5 +1,6 @@
 -- The follow step and the full reduction on states: what the laws of every call (`Calls`) say of them.
 use mathlib.Core.Bool.{true, false}
+use mathlib.Core.Logic.{inl, inr, ⊎-elim}
 use mathlib.Core.Path.{_≡_, refl, sym, ap, _∙_}
 use Prim.Native.Nat.{ℕ, suc, pred, _+_, _≤_}
 use native.Mathlib.Omega.{arith}
@@ -13,10 +14,12 @@ use Rattle.cause.specs.Number.{numberOf}
 use Rattle.cause.specs.declared.Cause.{Cause}
 use Rattle.network.specs.Network.{Network, free}
 use Rattle.network.specs.Step.{refusal, followed}
-use Rattle.network.specs.Reduction.{freeCount, reducible, reduce}
-use Rattle.network.specs.Calls.{follow-step, full-reduction, trimmed-reduction, refuses, made, tablesOf}
+use Rattle.network.specs.Reduction.{freeCount, reducible, reduce, lead, leadRefusal}
+use Rattle.network.specs.Calls.{follow-step, full-reduction, trimmed-reduction, led-reduction, refuses, made, tablesOf}
 use Rattle.network.specs.Trimming.{alternate}
 use Rattle.network.proofs.Trimming.{alternate-at-rest, alternate-taken, alternate-most}
+use Rattle.network.proofs.Sound.{free-e}
+use Rattle.network.proofs.Lead.{lead-taken, lead-most, lead-stops, lead-only, lead-free, lead-refuses}
 use Rattle.network.proofs.Reduction.{reduce-count, reduce-taken, reduce-most, reduce-stops}
 use Rattle.answers.specs.declared.Outcome.{Outcome}
 use Rattle.answers.specs.declared.Outcome.the-variants as outcome
@@ -25,11 +28,12 @@ use Rattle.state.specs.declared.state.State.{State}
 use Rattle.state.specs.View.{view, pack, soundState}
 use Rattle.state.specs.Answers.{Told}
 use Rattle.state.specs.Calls.{refused}
-use Rattle.state.specs.Steps.{stepRefusal, stepped, reducedAs, reduced, trimmed}
+use Rattle.state.specs.Steps.{stepRefusal, stepped, reducedAs, reduced, trimmed, led}
 use Rattle.state.specs.Rested.{Rested}
+use Rattle.state.specs.Led.{Led}
 use Rattle.head.specs.Held.{held}
 use Rattle.state.proofs.View.{Shaped, state-sound}
-use Rattle.state.proofs.Calls.{StateKept, call-sound, call-taken, made-view, made-steps, call-keeps-all}
+use Rattle.state.proofs.Calls.{StateKept, call-sound, call-number, call-taken, taken-sound, made-view, made-steps, call-keeps-all}
 
 -- The follow step.
 module _ (s : State) (l f : ℕ) where
@@ -113,4 +117,44 @@ module _ (s : State) (h : Shaped s) (t : soundState s ≡ true) where
             ap (λ (N : Network). count (s .n) (λ (x : ℕ). and (free (view s) x) (not (free N x)))) trimmed-view
             ∙ alternate-taken (view s) (state-sound s h t) ∙ sym trimmed-steps;
         steps-most = rw trimmed-steps (alternate-most (view s) (state-sound s h t));
+      }
+
+-- A leader that is named, in the words of `network` `LeadRefuses`: the numbers after 9,
+pub led-number : (s : State) (l : ℕ) → soundState s ≡ true → led s l .number ≡ leadRefusal (view s) l
+unfolding refuses
+led-number s l t = call-number s (led-reduction l) ∙ call-sound s (led-reduction l) t
+
+-- and what it answers where none refuses it.
+module _ (s : State) (h : Shaped s) (l : ℕ) (e : led s l .number ≡ 0) where
+  led-sound : soundState s ≡ true
+  led-sound = taken-sound s (led-reduction l) (sym (call-number s (led-reduction l)) ∙ e)
+
+  named : leadRefusal (view s) l ≡ 0
+  named = sym (led-number s l led-sound) ∙ e
+
+  led-view : view (led s l .state) ≡ lead (view s) (pred l) .network
+  unfolding refuses made
+  led-view = made-view s h led-sound (led-reduction l) named
+
+  led-steps : led s l .steps ≡ lead (view s) (pred l) .steps
+  unfolding refuses made
+  led-steps = made-steps s h led-sound (led-reduction l) named
+
+  pub leads-alone : Led s l
+  unfolding held
+  leads-alone =
+      let S = state-sound s h led-sound in
+      let (inside, live) = lead-refuses (view s) l .number-0 .0 named in
+      let counted : suc (pred l) ≡ l = omega (arith, inside .from-1) in
+      record {
+        only-it = λ x. ⊎-elim
+            (λ same. inl (ap (λ (N : Network). N .leader x) led-view ∙ same))
+            (λ new. inr (ap (λ (N : Network). N .leader x) led-view ∙ new ∙ counted))
+            (lead-only (view s) (pred l) x);
+        stays-live = ap (λ (N : Network). N .leader (pred l)) led-view ∙ free-e _ _ (lead-free (view s) (pred l) live);
+        none-can-follow = rw led-view (lead-stops (view s) S (pred l));
+        steps-taken =
+            ap (λ (N : Network). count (s .n) (λ (x : ℕ). and (free (view s) x) (not (free N x)))) led-view
+            ∙ lead-taken (view s) S (pred l) ∙ sym led-steps;
+        steps-most = rw led-steps (lead-most (view s) S (pred l));
       }

@@ -7,9 +7,10 @@ use native.Mathlib.Numerals.{sub-one}
 use Rattle.cause.specs.declared.Cause.the-variants as cause
 use Rattle.network.specs.Step.{legal, followed}
 use Rattle.network.specs.Network.{Network}
-use Rattle.network.specs.Reduction.{Reduced, reduce}
+use Rattle.network.specs.Reduction.{Reduced, reduce, lead}
 use Rattle.network.specs.Trimming.{alternate}
 use Rattle.network.proofs.Step.{refusal-0, legal-i}
+use Rattle.network.proofs.Lead.{lead-refuses}
 use Rattle.answers.specs.declared.Outcome.{Outcome}
 use Rattle.answers.specs.declared.Outcome.the-variants as outcome
 use Rattle.answers.specs.Answers.{outcomeNumber}
@@ -20,8 +21,8 @@ use Rattle.head.specs.Held.{Represents, held, soundIn}
 use Rattle.state.specs.declared.state.State.{State}
 use Rattle.state.specs.View.{stateOf, view, pack, soundState}
 use Rattle.state.specs.Calls.{refused, callRefusal, called}
-use Rattle.state.specs.Steps.{stepRefusal, reduced, trimmed}
-use Rattle.network.specs.Calls.{Call, follow-step, full-reduction, trimmed-reduction, refuses, made}
+use Rattle.state.specs.Steps.{stepRefusal, reduced, trimmed, leadNumber}
+use Rattle.network.specs.Calls.{Call, follow-step, full-reduction, trimmed-reduction, led-reduction, refuses, made}
 use Rattle.state.proofs.Calls.{call-sound, call-taken, call-9, taken-sound}
 use Rattle.state.proofs.Steps.{sound-step}
 
@@ -95,3 +96,24 @@ module _ (h : Head) (before : List ℕ) {r : Reduction} {after : List ℕ} (t : 
       → record { number = outcomeNumber outcome.Done; state = stateOf (r .head) after; steps = r .steps } ≡ trimmed (stateOf h before)
   unfolding made refuses
   alternation-told R = let s = stateOf h before in ran-told s trimmed-reduction (call-sound s trimmed-reduction t) refl R
+
+-- A run of a leader that is named, which nothing refuses, is one of a sound state. The code counts the leader from 0.
+pub record LeadTaken (s : State) (l : ℕ) : Type 0 where
+  pub number-0 : leadNumber s l ≡ 0
+  pub of-sound : soundState s ≡ true
+  pub leader-some : 1 ≤ l
+
+pub not-refused-lead : {s : State} {l : ℕ} {o : Outcome} → o ≡ outcome.Done → outcomeNumber o ≡ leadNumber s l → LeadTaken s l
+unfolding outcomeNumber refuses
+not-refused-lead {s} {l} e q =
+    let taken : leadNumber s l ≡ 0 = sym q ∙ ap outcomeNumber e in
+    let sound = taken-sound s (led-reduction l) taken in
+    record {
+      number-0 = taken;
+      of-sound = sound;
+      leader-some = lead-refuses (view s) l .number-0 .0 (sym (call-sound s (led-reduction l) sound) ∙ taken) .0 .from-1;
+    }
+
+pub lead-made : (N : Network) (l : ℕ) → lead N (l - 1) ≡ made N (led-reduction l)
+unfolding made
+lead-made N l = ap (lead N) (sub-one l)

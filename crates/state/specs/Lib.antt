@@ -6,6 +6,7 @@ pub mod Write
 pub mod Calls
 pub mod Steps
 pub mod Rested
+pub mod Led
 pub mod Rules
 pub mod Tables
 pub mod Worked

@@ -1,7 +1,7 @@
 -- The follow step and the full reduction on states: the calls by their names.
 use Prim.Native.Nat.{ℕ}
 use Rattle.network.specs.Reduction.{Reduced}
-use Rattle.network.specs.Calls.{follow-step, full-reduction, trimmed-reduction}
+use Rattle.network.specs.Calls.{follow-step, full-reduction, trimmed-reduction, led-reduction}
 use Rattle.state.specs.declared.state.State.{State}
 use Rattle.state.specs.View.{pack}
 use Rattle.state.specs.Answers.{Told}
@@ -26,3 +26,11 @@ reduced s = called s full-reduction
 -- It refuses only with 9" (document 02).
 abbrev pub trimmed : State → Told
 trimmed s = called s trimmed-reduction
+
+-- "Only it takes followers .. The state and the number of steps come back. .. It refuses with 9, then 10, then 11 when the named option is not live"
+-- (document 02). The leader counts from 1.
+abbrev pub leadNumber : State → ℕ → ℕ
+leadNumber s l = callRefusal s (led-reduction l)
+
+abbrev pub led : State → ℕ → Told
+led s l = called s (led-reduction l)

@@ -1,5 +1,6 @@
 // The state of a sheet, what each public call on it answers, and those that hand a state back changed.
 mod answer;
+mod lead;
 mod reduction;
 mod state;
 mod table;
@@ -8,6 +9,7 @@ mod trim;
 pub use answer::Answer;
 pub use answer::CutAnswer;
 pub use answer::ReadAnswer;
+pub use lead::lead_parts;
 pub use reduction::Worked;
 pub use reduction::eliminate_parts;
 pub use reduction::reduce_parts;

@@ -26,7 +26,7 @@ pub struct Reading {
     pub state: State,
 }
 
-// What a step, a reduction, a trimming or an added table answers.
+// What a step, a reduction, a trimming, a run that a named option leads or an added table answers.
 pub struct Stepping {
     pub number: u8,
     pub steps: usize,
@@ -94,6 +94,11 @@ pub fn reduce(state: State) -> Stepping {
 // The live lists trimmed against each other, in turn with the full reduction.
 pub fn trim(state: State) -> Stepping {
     stepped(state.trim())
+}
+
+// The run that a named option leads, counted from 1.
+pub fn lead(state: State, leader: usize) -> Stepping {
+    stepped(state.lead(leader))
 }
 
 // The reader, on all the bytes.

@@ -1,7 +1,7 @@
 // How often each thing was tried, how often it came out wrong, and where the random numbers are.
 
 // One more than the greatest of the kinds that are counted.
-pub const KINDS: usize = 57;
+pub const KINDS: usize = 67;
 
 // The counts, and the seed of the number that is drawn next. It goes by value, as loans make proofs longer.
 pub struct Tally {
@@ -102,6 +102,27 @@ pub const TRIM_LISTS: usize = 54;
 pub const TRIM_CALLS: usize = 55;
 
 pub const TRIM_ANSWERS: usize = 56;
+// Runs that a named option leads: all that are not refused, those of them that took a step, that took an option after a higher one, and that took an option
+// with followers, so that they have more new followers than steps.
+pub const LEADS: usize = 57;
+
+pub const LEADS_STEPPED: usize = 58;
+
+pub const LEADS_AGAIN: usize = 59;
+
+pub const LEADS_BROUGHT: usize = 60;
+// Refused ones, by number.
+pub const LEADS_UNSOUND: usize = 61;
+
+pub const LEADS_NUMBER: usize = 62;
+
+pub const LEADS_FOLLOWER: usize = 63;
+// Lists of calls that have such runs among them, the other calls of these, and what was asked of the states that they came to.
+pub const LEAD_LISTS: usize = 64;
+
+pub const LEAD_CALLS: usize = 65;
+
+pub const LEAD_ANSWERS: usize = 66;
 
 // Nothing is counted yet.
 pub fn start(seed: u64) -> Tally {
@@ -151,30 +172,52 @@ pub fn with_unsound(tally: Tally, k: usize, other: Tally) -> Tally {
     after = add(after, k, counts[WRITES_REFUSED]);
     after = add(after, k, counts[TABLES_UNSOUND]);
     after = add(after, k, counts[TRIMS_REFUSED]);
+    after = add(after, k, counts[LEADS_UNSOUND]);
     add(after, DIFFERENCES, counts[DIFFERENCES])
 }
 
-// What another tally counted of a list of calls that has trimmings among them, and what came out wrong there.
+// What another tally counted of a list of calls, and what came out wrong there: a list, its calls and what was asked after them, as of the kind `k` and the
+// two after it.
+fn with_list(tally: Tally, k: usize, other: Tally) -> Tally {
+    let counts = other.counts;
+    let calls = std::num::wrapping_add_usize(k, 1);
+    let answers = std::num::wrapping_add_usize(k, 2);
+    let mut after = count(tally, k);
+    after = add(after, calls, counts[STEPS]);
+    after = add(after, calls, counts[STEPS_REFUSED]);
+    after = add(after, calls, counts[REDUCTIONS]);
+    after = add(after, calls, counts[TABLES]);
+    after = add(after, calls, counts[TABLES_NUMBER]);
+    after = add(after, calls, counts[TABLES_SAME]);
+    after = add(after, calls, counts[TABLES_ROWS]);
+    after = add(after, answers, counts[TESTS]);
+    after = add(after, answers, counts[COMPLETIONS]);
+    after = add(after, answers, counts[COMPLETIONS_REFUSED]);
+    after = add(after, answers, counts[VERDICTS]);
+    after = add(after, answers, counts[SEARCHES]);
+    add(after, DIFFERENCES, counts[DIFFERENCES])
+}
+
+// The same of a list that has trimmings among its calls.
 pub fn with_trims(tally: Tally, other: Tally) -> Tally {
     let counts = other.counts;
-    let mut after = count(tally, TRIM_LISTS);
+    let mut after = with_list(tally, TRIM_LISTS, other);
     after = add(after, TRIMS, counts[TRIMS]);
     after = add(after, TRIMS_SHORTER, counts[TRIMS_SHORTER]);
     after = add(after, TRIMS_STEPPED, counts[TRIMS_STEPPED]);
-    after = add(after, TRIMS_AGAIN, counts[TRIMS_AGAIN]);
-    after = add(after, TRIM_CALLS, counts[STEPS]);
-    after = add(after, TRIM_CALLS, counts[STEPS_REFUSED]);
-    after = add(after, TRIM_CALLS, counts[REDUCTIONS]);
-    after = add(after, TRIM_CALLS, counts[TABLES]);
-    after = add(after, TRIM_CALLS, counts[TABLES_NUMBER]);
-    after = add(after, TRIM_CALLS, counts[TABLES_SAME]);
-    after = add(after, TRIM_CALLS, counts[TABLES_ROWS]);
-    after = add(after, TRIM_ANSWERS, counts[TESTS]);
-    after = add(after, TRIM_ANSWERS, counts[COMPLETIONS]);
-    after = add(after, TRIM_ANSWERS, counts[COMPLETIONS_REFUSED]);
-    after = add(after, TRIM_ANSWERS, counts[VERDICTS]);
-    after = add(after, TRIM_ANSWERS, counts[SEARCHES]);
-    add(after, DIFFERENCES, counts[DIFFERENCES])
+    add(after, TRIMS_AGAIN, counts[TRIMS_AGAIN])
+}
+
+// The same of a list that has runs among its calls that a named option leads.
+pub fn with_leads(tally: Tally, other: Tally) -> Tally {
+    let counts = other.counts;
+    let mut after = with_list(tally, LEAD_LISTS, other);
+    after = add(after, LEADS, counts[LEADS]);
+    after = add(after, LEADS_STEPPED, counts[LEADS_STEPPED]);
+    after = add(after, LEADS_AGAIN, counts[LEADS_AGAIN]);
+    after = add(after, LEADS_BROUGHT, counts[LEADS_BROUGHT]);
+    after = add(after, LEADS_NUMBER, counts[LEADS_NUMBER]);
+    add(after, LEADS_FOLLOWER, counts[LEADS_FOLLOWER])
 }
 
 fn print_number(number: u64) {
@@ -220,6 +263,11 @@ pub fn print_checks(counts: &[u64; KINDS]) {
         trimmings\ntrimmings that made a list shorter before any step\ntrimmings that took a step\n\
         trimmings that changed the state again after a full reduction\ntrimmings refused with 9\n\
         lists of calls with trimmings among them\nother calls in these\n\
+        tests, completions, verdicts and searches after these\n\
+        runs that a named option leads\nsuch runs that took a step\nsuch runs that took an option after a higher one\n\
+        such runs with more new followers than steps\n\
+        such runs refused with 9\nsuch runs refused with 10\nsuch runs refused with 11\n\
+        lists of calls with such runs among them\nother calls in these\n\
         tests, completions, verdicts and searches after these\n",
         DAMAGED_STATES,
         counts,

@@ -2,6 +2,8 @@
 
 // The tester, the completer, the verdict and the search, on every tuple of a small sheet and on some of a large one.
 pub mod builds;
+// Runs that a named option leads, and lists of calls that have such runs among them.
+pub mod leads;
 // Lists of calls: follow steps with any two option numbers, full reductions, added tables, and trimmings.
 pub mod lists;
 // What was read is written in every version and read again.

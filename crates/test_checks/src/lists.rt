@@ -56,7 +56,7 @@ fn check_lists(before: State, after: State, tally: Tally) -> Tally {
 }
 
 // After a call that answered this, counted as `k`.
-fn later(run: Run, k: usize, answer: Stepping, is_right: bool) -> Run {
+pub(crate) fn later(run: Run, k: usize, answer: Stepping, is_right: bool) -> Run {
     let state = answer.state;
     let mut after = run;
     after.state = state;
@@ -66,7 +66,7 @@ fn later(run: Run, k: usize, answer: Stepping, is_right: bool) -> Run {
 }
 
 // After a call that is not refused and must come to `expected`, which is sound.
-fn done(run: Run, k: usize, answer: Stepping, is_counted: bool, expected: State) -> Run {
+pub(crate) fn done(run: Run, k: usize, answer: Stepping, is_counted: bool, expected: State) -> Run {
     let is_same = states::same(answer.state, expected);
     let is_sound = calls::is_sound(answer.state);
     let sound = counted(run, tally::expect(run.tally, tally::SOUND, is_sound));
@@ -196,7 +196,7 @@ fn check_any_table(run: Run, seed: u64) -> Run {
     check_table(with_seed(run, next), table)
 }
 
-fn with_seed(run: Run, seed: u64) -> Run {
+pub(crate) fn with_seed(run: Run, seed: u64) -> Run {
     counted(run, tally::with_seed(run.tally, seed))
 }
 
@@ -216,7 +216,7 @@ fn check_any_step(run: Run, seed: u64) -> Run {
     check_step(with_seed(run, next), leader, follower)
 }
 
-fn check_call(run: Run) -> Run {
+pub(crate) fn check_call(run: Run) -> Run {
     let tally = run.tally;
     let mut seed = tally.seed;
     match random::below(&mut seed, 12) {

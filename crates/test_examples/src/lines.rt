@@ -4,6 +4,7 @@
 // e: a leader and a follower; the number that the step is refused with, or 0.
 // r: a full reduction.
 // m: the live lists trimmed against each other, in turn with the full reduction.
+// g: an option; the number that the run that it leads is refused with, or 0, and the steps.
 // f: nothing; the number that page nine answers, the kind of its verdict, and the build. A run starts on the state handed back.
 // d: an option and its list. A run starts on the state with this list.
 // p: bytes; the text that is printed for them.
@@ -16,7 +17,8 @@
 // o: nothing; what the state comes to.
 // l: nothing; the lists of all options, a byte for each.
 // u: two options and the rows of a table; the number that it is refused with by a state that is not sound.
-// b: two options; the number that a step of these, the full reduction, trimming and the verdict are refused with by a state that is not sound.
+// b: two options; the number that a step of these, the full reduction, trimming, the run that the first leads and the verdict are refused with by a state
+// that is not sound.
 use crate::parts::end_of;
 use crate::parts::part;
 use crate::replies::is_answered;
@@ -80,6 +82,7 @@ fn tried(run: Run, letter: u8, given: &[u8], answer: &[u8]) -> Run {
         b'e' => steps::follow(run, given, answer),
         b'r' => lists::check_reduction(run),
         b'm' => lists::check_trim(run),
+        b'g' => steps::lead(run, given, answer),
         b'f' => steps::fit(run, answer),
         b'd' => steps::relist(run, given),
         0 => run,

@@ -45,7 +45,7 @@ fn is_turned_away(state: State, given: &[u8], answer: &[u8]) -> bool {
     calls::is_refused(state, added, byte(answer, 0))
 }
 
-// A state that is not sound: a step of two options, the full reduction, trimming and the verdict are refused with a number.
+// A state that is not sound: a step of two options, the full reduction, trimming, the run that the first leads and the verdict are refused with a number.
 fn is_unsound(state: State, given: &[u8], answer: &[u8]) -> bool {
     let number = byte(answer, 0);
     let stepped = calls::eliminate(state, option_at(given, 0), option_at(given, 1));
@@ -53,7 +53,8 @@ fn is_unsound(state: State, given: &[u8], answer: &[u8]) -> bool {
     let solution = judged.solution;
     let is_left = calls::is_refused(state, stepped, number)
         & calls::is_refused(state, calls::reduce(state), number)
-        & calls::is_refused(state, calls::trim(state), number);
+        & calls::is_refused(state, calls::trim(state), number)
+        & calls::is_refused(state, calls::lead(state, option_at(given, 0)), number);
     let is_judged = (judged.verdict == number) & fields::is_zero_from(solution, 0);
     is_left & is_judged & !calls::is_sound(state)
 }

@@ -6,6 +6,7 @@ use crate::values::table_of;
 use test_calls::calls;
 use test_calls::states::same;
 use test_calls::tally;
+use test_checks::leads;
 use test_checks::lists;
 use test_checks::lists::Run;
 use test_oracle::brute::byte;
@@ -35,6 +36,14 @@ pub(crate) fn follow(run: Run, given: &[u8], answer: &[u8]) -> Run {
         lists::check_step(run, leader, follower),
         stepped.number == byte(answer, 0),
     )
+}
+
+// An option, and the steps of the run that it leads, or the number of a refusal.
+pub(crate) fn lead(run: Run, given: &[u8], answer: &[u8]) -> Run {
+    let leader = option_at(given, 0);
+    let led = calls::lead(run.state, leader);
+    let is_right = (led.number == byte(answer, 0)) & (led.steps == byte(answer, 1) as usize);
+    expected(leads::check_lead(run, leader), is_right)
 }
 
 // Page nine: a number, then 1 for NONE, 2 for BUILT or 3 for OPEN, and the build. A refusal hands back the state given, and its verdict has its number.

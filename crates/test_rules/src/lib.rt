@@ -1,4 +1,5 @@
-// What a follow step, an added table and trimming make of a state, and states with a fault, by code of its own. Of the library only the type of a state is known here.
+// What a follow step, an added table, trimming and a run that a named option leads make of a state, and states with a fault, by code of its own. Of the
+// library only the type of a state is known here.
 
 // What an added table is to be refused with, and what it makes of a state.
 pub mod added;
@@ -6,6 +7,8 @@ pub mod added;
 pub mod faults;
 // The lists of followers.
 pub mod followers;
+// The run that a named option leads.
+pub mod leads;
 // Trimming the live lists against each other, in turn with the full reduction.
 pub mod live;
 // What a follow step is to be refused with.

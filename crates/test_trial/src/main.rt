@@ -6,6 +6,8 @@ use test_examples::fixed;
 mod examples;
 // Lists of sheets.
 mod lists;
+// A second series of sheets, with runs that a named option leads.
+mod series;
 // One input, and a list of calls on it.
 mod sheets;
 // One random input after the other.
@@ -20,7 +22,8 @@ fn run_examples() {
 }
 
 fn run_trials() {
-    let run = trials::run(tally::start(12512540579826779257));
+    let tried = trials::run(tally::start(12512540579826779257));
+    let run = series::run(2685821657736338717, tried);
     tally::print(
         b"sparse\nchains\nbijective\nempty rows\ndense\nmixed\nwide\nwider\nlarge\n\
         larger\nfull\nlargest\ndamaged\nrandom bytes\n",

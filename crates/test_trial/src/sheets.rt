@@ -34,7 +34,7 @@ fn check_writer(bytes: &[u8], run: Run, tally: Tally) -> Tally {
 }
 
 // All tuples of a sheet of a small family, some of another.
-fn check_builds(family: u8, bytes: &[u8], run: Run, tally: Tally) -> Tally {
+pub(crate) fn check_builds(family: u8, bytes: &[u8], run: Run, tally: Tally) -> Tally {
     let state = run.state;
     let tables = run.tables;
     if family < families::LARGE {

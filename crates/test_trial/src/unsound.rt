@@ -52,6 +52,13 @@ fn check_trim(state: State, tally: Tally) -> Tally {
     tally::expect(tally, tally::TRIMS_REFUSED, is_refused)
 }
 
+// The run that any option leads: the seed names it, and is not drawn from.
+fn check_lead(state: State, tally: Tally) -> Tally {
+    let leader = (tally.seed % 18) as usize;
+    let is_refused = calls::is_refused(state, calls::lead(state, leader), 9);
+    tally::expect(tally, tally::LEADS_UNSOUND, is_refused)
+}
+
 // Whatever the table is.
 fn check_table(state: State, tally: Tally) -> Tally {
     let mut seed = tally.seed;
@@ -79,6 +86,7 @@ fn check_calls(state: State, tally: Tally) -> Tally {
     after = check_write(state, after);
     after = check_steps(state, after);
     after = check_trim(state, after);
+    after = check_lead(state, after);
     check_table(state, after)
 }
 
