@@ -406,6 +406,63 @@ static void check_search(void) {
     CHECK(searched(&zero, SHEET_CAUSE_NOT_SOUND, SHEET_NO_VERDICT));
 }
 
+static void tested_order(const struct sheet_state *state, const uint8_t *order, size_t length, int number, bool is_good) {
+    struct sheet_order_answer answer = sheet_test_order(state, order, length);
+    CHECK(answer.number == number && answer.is_good == is_good);
+}
+
+/* The order that is found, in a buffer with a byte more, which stays. It is good. */
+static void found_order(const struct sheet_state *state, const uint8_t *order) {
+    uint8_t buffer[17];
+    memset(buffer, 0xee, sizeof buffer);
+    CHECK(sheet_find_order(state, buffer, state->n) == 0 && memcmp(buffer, order, state->n) == 0 && buffer[state->n] == 0xee);
+    tested_order(state, order, state->n, 0, true);
+}
+
+/* A finding that is refused leaves the buffer. */
+static void no_order(const struct sheet_state *state, size_t length, int number) {
+    uint8_t buffer[17], left[17];
+    memset(buffer, 0xee, sizeof buffer);
+    memcpy(left, buffer, sizeof left);
+    CHECK(sheet_find_order(state, buffer, length) == number && memcmp(buffer, left, sizeof left) == 0);
+}
+
+/* Case B, whose option 2 governs 1 and 3; case A, whose options 1 and 2 lead to each other; a sheet whose options 1 and 3 do, and stand apart;
+ * and one in which 1 governs 3 and that governs 2: reduced, both follow 1, and the order of numbers is good. */
+static void check_orders(void) {
+    static const uint8_t case_b[] = {1, 0, 19, 3, 2, 3, 2, 2, 1, 2, 0, 1, 0, 6, 2, 3, 0, 1, 0, 2, 0, 2};
+    static const uint8_t apart[] = {1, 0, 11, 3, 2, 2, 2, 1, 1, 3, 0, 1, 0, 2};
+    static const uint8_t chain[] = {1, 0, 17, 3, 2, 2, 2, 2, 1, 3, 0, 1, 0, 1, 2, 3, 0, 3, 0, 0};
+    static const uint8_t o123[] = {1, 2, 3}, o132[] = {1, 3, 2}, o213[] = {2, 1, 3}, o231[] = {2, 3, 1}, o312[] = {3, 1, 2};
+    static const uint8_t wrongs[][4] = {{1, 2, 2, 3}, {0, 1, 2, 3}, {1, 2, 4, 3}, {1, 2, 255, 3}, {3, 3, 3, 3}};
+    struct sheet_state s;
+    CHECK(sheet_read(case_b, sizeof case_b, &s).number == 0);
+    found_order(&s, o213);
+    tested_order(&s, o231, 3, 0, true);
+    tested_order(&s, o123, 3, 0, false);
+    tested_order(&s, o312, 3, 0, false);
+    found_order(&fresh, o123);
+    found_order(&reduced, o123);
+    tested_order(&fresh, o213, 3, 0, true);
+    tested_order(&fresh, o132, 3, 0, false);
+    CHECK(sheet_read(apart, sizeof apart, &s).number == 0);
+    found_order(&s, o123);
+    CHECK(sheet_read(chain, sizeof chain, &s).number == 0);
+    found_order(&s, o132);
+    tested_order(&s, o123, 3, 0, false);
+    CHECK(sheet_reduce(&s).steps == 2);
+    found_order(&s, o123);
+    for (size_t k = 0; k < sizeof wrongs / sizeof *wrongs; k++) tested_order(&fresh, wrongs[k], 3, SHEET_CAUSE_ORDER_NUMBERS, false);
+    tested_order(&fresh, o123, 2, SHEET_CAUSE_ORDER_NUMBERS, false);
+    tested_order(&fresh, wrongs[0], 4, SHEET_CAUSE_ORDER_NUMBERS, false);
+    tested_order(&fresh, NULL, 0, SHEET_CAUSE_ORDER_NUMBERS, false);
+    tested_order(&zero, NULL, 0, SHEET_CAUSE_NOT_SOUND, false);
+    no_order(&fresh, 2, SHEET_CAUSE_BUILD_LENGTH);
+    no_order(&fresh, 4, SHEET_CAUSE_BUILD_LENGTH);
+    no_order(&zero, 3, SHEET_CAUSE_NOT_SOUND);
+    CHECK(sheet_find_order(&fresh, NULL, 0) == SHEET_CAUSE_BUILD_LENGTH && sheet_find_order(&zero, NULL, 0) == SHEET_CAUSE_NOT_SOUND);
+}
+
 static void tested(const struct sheet_state *state, const uint8_t *build, size_t length, int number, bool is_build) {
     struct sheet_test_answer answer = sheet_test(state, build, length);
     CHECK(answer.number == number && answer.is_build == is_build);
@@ -527,6 +584,8 @@ static void check_read_only(void) {
     CHECK(sheet_complete(&held->fresh, held->bytes, 4) == SHEET_CAUSE_BUILD_LENGTH);
     CHECK(sheet_complete(&held->fresh, held->values, 3) == SHEET_CAUSE_VALUE);
     CHECK(sheet_complete(&held->fresh, held->bytes, 3) == SHEET_CAUSE_VALUES_FORBIDDEN);
+    CHECK(sheet_find_order(&held->zero, held->bytes, 3) == SHEET_CAUSE_NOT_SOUND);
+    CHECK(sheet_find_order(&held->fresh, held->bytes, 4) == SHEET_CAUSE_BUILD_LENGTH);
     CHECK(sheet_write(&held->zero, 1, held->bytes, LENGTH_A).number == SHEET_CAUSE_NOT_SOUND);
     CHECK(sheet_write(&held->stepped, 1, held->bytes, LENGTH_A).number == SHEET_CAUSE_NOT_AS_READ);
     CHECK(sheet_write(&held->fresh, 4, held->bytes, LENGTH_A).number == SHEET_CAUSE_NOT_IN_VERSION);
@@ -573,6 +632,8 @@ static void trim_it(void) { held = fresh, sheet_trim(&held); }
 static void lead_it(void) { held = fresh, sheet_lead(&held, 1); }
 static void test_it(void) { bytes[0] = sheet_test(&reduced, bytes, 3).number; }
 static void complete_it(void) { memset(bytes, 0, 3), sheet_complete(&reduced, bytes, 3); }
+static void order_it(void) { bytes[0] = 1, bytes[1] = 2, bytes[2] = 3, bytes[0] = sheet_test_order(&fresh, bytes, 3).number; }
+static void find_it(void) { bytes[0] = sheet_find_order(&fresh, bytes, 3); }
 static void verdict_it(void) { bytes[0] = sheet_verdict(&reduced).kind; }
 static void search_it(void) { bytes[0] = sheet_search(&deep).kind; }
 static void cut_it(void) { sheet_cut(CASE_A, LENGTH_A, &held); }
@@ -597,7 +658,8 @@ static void check_stack(void) {
         for (int b = 0; b < 31; b++) allow(&deep, k, 30, k + 1, b);
     }
     static void (*const calls[])(void) = {read_it, write_it,    sound_it,   follow_it, reduce_it, trim_it, lead_it, add_it,
-                                          test_it, complete_it, verdict_it, search_it, cut_it,    text_it, meter_it};
+                                          test_it, complete_it, order_it,   find_it,   verdict_it, search_it, cut_it,  text_it,
+                                          meter_it};
     for (size_t k = 0; k < sizeof calls / sizeof *calls; k++) {
         size_t untouched = 0;
         run_on_own_stack(calls[k]);
@@ -617,6 +679,7 @@ int main(void) {
     check_sound_and_verdict();
     check_search();
     check_builds();
+    check_orders();
     check_writing();
     check_blank_row();
     check_allows();

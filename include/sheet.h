@@ -42,7 +42,7 @@
 /* The version of these declarations: MAJOR rises where a caller has to be changed or compiled anew, or a state that he has kept may
  * now be refused, MINOR where something is added. The version in byte 0 of a sheet is another number. */
 #define SHEET_VERSION_MAJOR 5
-#define SHEET_VERSION_MINOR 2
+#define SHEET_VERSION_MINOR 3
 
 #define SHEET_LARGEST_BYTES 15621 /* "The largest version 2 sheet has 15,621 bytes, which is the limit in number 1" */
 #define SHEET_MOST_OPTIONS 16    /* length of the arrays that hold something for each option */
@@ -57,7 +57,7 @@ extern "C" {
 #endif
 
 /* The causes of a refusal by their numbers, each in the words of document 01, or of document 02 where that changed it. No call of this
- * version answers 27 to 31. */
+ * version answers 27 to 29 and 31. */
 enum sheet_cause {
     SHEET_NOT_REFUSED = 0,
     SHEET_CAUSE_LENGTH = 1,             /* "under 3 bytes, over 4,101, or not 3 plus the count", with 15,621 for 4,101 */
@@ -73,7 +73,7 @@ enum sheet_cause {
     SHEET_CAUSE_NOT_LIVE = 11,          /* "the two options equal, or one not live"; leader: "the named option is not live" */
     SHEET_CAUSE_NOT_STATED = 12,        /* "pair not stated" */
     SHEET_CAUSE_NOT_FUNCTIONAL = 13,    /* "not functional from leader to follower" */
-    SHEET_CAUSE_BUILD_LENGTH = 14,      /* "build buffer not n bytes" */
+    SHEET_CAUSE_BUILD_LENGTH = 14,      /* "build buffer not n bytes"; finding an order: "a buffer not of n bytes" */
     SHEET_CAUSE_VALUE = 15,             /* "completer: a live value not in its list; tester: a value at or above its size" */
     SHEET_CAUSE_VALUES_FORBIDDEN = 16,  /* "completer: two live values that their stated pair does not allow" */
     SHEET_CAUSE_BUFFER_LENGTH = 17,     /* "written sheet longer than the buffer" */
@@ -113,7 +113,7 @@ static inline const char *sheet_cause_text(unsigned number) {
     case SHEET_CAUSE_NOT_LIVE: return "the two options are equal, or an option named is not live";
     case SHEET_CAUSE_NOT_STATED: return "the two options have no table";
     case SHEET_CAUSE_NOT_FUNCTIONAL: return "the table is not functional from leader to follower";
-    case SHEET_CAUSE_BUILD_LENGTH: return "the build does not have one byte for each option";
+    case SHEET_CAUSE_BUILD_LENGTH: return "the buffer does not have one byte for each option";
     case SHEET_CAUSE_VALUE: return "a value is not in the list of its live option, or at or above the size of its option";
     case SHEET_CAUSE_VALUES_FORBIDDEN: return "a table forbids the values of two live options";
     case SHEET_CAUSE_BUFFER_LENGTH: return "the sheet is longer than the buffer";
@@ -184,6 +184,12 @@ struct sheet_test_answer {
     bool is_build;
 };
 
+/* The test of an order. */
+struct sheet_order_answer {
+    uint8_t number;
+    bool is_good;
+};
+
 /* What a verdict or a search can say, a search never OPEN. 0 goes with a refusal. */
 enum sheet_verdict_kind { SHEET_NO_VERDICT = 0, SHEET_NONE = 1, SHEET_BUILT = 2, SHEET_OPEN = 3 };
 
@@ -238,6 +244,14 @@ struct sheet_test_answer sheet_test_parts(size_t n, const uint8_t sizes[SHEET_MO
 uint8_t sheet_complete_parts(size_t n, const uint8_t sizes[SHEET_MOST_OPTIONS], const uint32_t lists[SHEET_MOST_OPTIONS],
                              const uint8_t leaders[SHEET_MOST_OPTIONS], const uint32_t stated[SHEET_MOST_OPTIONS],
                              const uint32_t rows[SHEET_ROWS], uint8_t *build, size_t length);
+struct sheet_order_answer sheet_test_order_parts(size_t n, const uint8_t sizes[SHEET_MOST_OPTIONS],
+                                                 const uint32_t lists[SHEET_MOST_OPTIONS],
+                                                 const uint8_t leaders[SHEET_MOST_OPTIONS],
+                                                 const uint32_t stated[SHEET_MOST_OPTIONS], const uint32_t rows[SHEET_ROWS],
+                                                 const uint8_t *order, size_t length);
+uint8_t sheet_find_order_parts(size_t n, const uint8_t sizes[SHEET_MOST_OPTIONS], const uint32_t lists[SHEET_MOST_OPTIONS],
+                               const uint8_t leaders[SHEET_MOST_OPTIONS], const uint32_t stated[SHEET_MOST_OPTIONS],
+                               const uint32_t rows[SHEET_ROWS], uint8_t *order, size_t length);
 struct sheet_verdict_answer sheet_verdict_parts(size_t n, const uint8_t sizes[SHEET_MOST_OPTIONS],
                                                 const uint32_t lists[SHEET_MOST_OPTIONS],
                                                 const uint8_t leaders[SHEET_MOST_OPTIONS],
@@ -354,6 +368,24 @@ static inline uint8_t sheet_complete(const struct sheet_state *state, uint8_t *b
     return sheet_complete_parts(state->n, state->sizes, state->lists, state->leaders, state->stated, state->rows, build, length);
 }
 
+/* Tests an order to plan in, on n bytes, each option's number once, counted from 1. "An order is good when, for an earlier option i and a
+ * later option j, a path from j to i through tables functional along the way implies such a path from i to j": so "none precedes one that
+ * governs it", where an option governs another if a path leads from it to the other and none leads back. "The stated tables and lists of
+ * the given state count, followers included." Nothing is reduced, and a state and the same state reduced may have other good orders.
+ * Numbers 9, 30, tested in this order: 30 "when the order does not hold each option exactly once and nothing else", so also for another
+ * length. A refusal answers false. */
+static inline struct sheet_order_answer sheet_test_order(const struct sheet_state *state, const uint8_t *order, size_t length) {
+    return sheet_test_order_parts(state->n, state->sizes, state->lists, state->leaders, state->stated, state->rows, order, length);
+}
+
+/* Finds the first good order and writes it on n bytes: "the smallest permitted number at each place", one that some good order has there
+ * after what was placed. What the bytes held before does not matter. There always is a good order, and the one found is good by
+ * sheet_test_order. "A good one need not keep such a part together": options that lead to each other may stand apart. Answers the number.
+ * Numbers 9, 14, tested in this order. A refusal leaves the buffer as it was. */
+static inline uint8_t sheet_find_order(const struct sheet_state *state, uint8_t *order, size_t length) {
+    return sheet_find_order_parts(state->n, state->sizes, state->lists, state->leaders, state->stated, state->rows, order, length);
+}
+
 /* The verdict of a state as it is: NONE if some live list is empty; else "BUILT when no live list is empty and no two live options
  * are stated together. Each live option then takes its lowest value"; else OPEN. "The verdict does not reduce first."
  * Number 9. A refusal answers SHEET_NO_VERDICT and no build. */
@@ -423,6 +455,8 @@ SHEET_AT(sheet_write_answer, length, 8);
 SHEET_HAS(sheet_write_answer, 16);
 SHEET_AT(sheet_test_answer, is_build, 1);
 SHEET_HAS(sheet_test_answer, 2);
+SHEET_AT(sheet_order_answer, is_good, 1);
+SHEET_HAS(sheet_order_answer, 2);
 SHEET_AT(sheet_verdict_answer, kind, 1);
 SHEET_AT(sheet_verdict_answer, build, 2);
 SHEET_HAS(sheet_verdict_answer, 18);

@@ -362,6 +362,21 @@ pub struct Table {
     pub rows: Vec<u32>,
 }
 
+/// An order of n options, counted from 1: mostly each once, some with a number that is wrong or twice, some of another length.
+pub fn any_order(n: usize, random: &mut Random) -> Vec<u8> {
+    let mut order: Vec<u8> = (1..=n as u8).collect();
+    for place in (1..n).rev() {
+        order.swap(place, random.below(place + 1));
+    }
+    match random.below(8) {
+        0 if n > 0 => order[random.below(n)] = [0, n as u8 + 1, 1 + random.below(n) as u8, random.next() as u8][random.below(4)],
+        1 => order.truncate(random.below(n + 1)),
+        2 => order.extend((0..1 + random.below(4)).map(|_| random.below(n + 2) as u8)),
+        _ => {}
+    }
+    order
+}
+
 /// A table for two options of these sizes; value `a` is to go with value `b`.
 pub fn half_table(first: usize, second: usize, sizes: &[u8], a: usize, b: usize, random: &mut Random) -> Table {
     let (from, to) = (sizes[first - 1] as usize, sizes[second - 1] as usize);

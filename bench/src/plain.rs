@@ -1,5 +1,5 @@
 //! Documents 01 and 02 in plain Rust, written for speed: bit-parallel, in place, early ways out, no copy of a state.
-use crate::proved::{State, Stepped, Tested, Verdict, Written, BUILT, NONE, NO_VERDICT, OPEN, PAIR_ROWS, ROWS};
+use crate::proved::{State, Stepped, Tested, TestedOrder, Verdict, Written, BUILT, NONE, NO_VERDICT, OPEN, PAIR_ROWS, ROWS};
 
 const LARGEST: usize = 15621;
 
@@ -753,6 +753,88 @@ pub fn search(s: &State) -> Verdict {
     }
     follow(s, &mut build);
     answer(0, BUILT, build)
+}
+
+/// Bit `j` of word `i`: the two are stated, and their table is functional from `i` to `j`. Both ways in one pass over the rows of a pair.
+fn edges(s: &State) -> [u32; 16] {
+    let mut edges = [0; 16];
+    for j in 1..s.n.min(16) {
+        for i in members(s.stated[j] & full(j)) {
+            let i = i & 15;
+            let rows = pair(s, i, j);
+            let (mut crowded, mut seen, mut again) = (0, 0, 0);
+            for a in members(s.lists[i]) {
+                let row = rows[a] & s.lists[j];
+                crowded |= row & row.wrapping_sub(1);
+                again |= seen & row;
+                seen |= row;
+                if crowded != 0 && again != 0 {
+                    break;
+                }
+            }
+            edges[i] |= ((crowded == 0) as u32) << j;
+            edges[j] |= ((again == 0) as u32) << i;
+        }
+    }
+    edges
+}
+
+/// Bit `j` of word `i`: there is a path of edges from `j` to `i`, and none back.
+fn governors(s: &State) -> [u32; 16] {
+    let mut paths = edges(s);
+    for m in 0..16 {
+        let through = paths[m];
+        for row in &mut paths {
+            *row |= through & 0u32.wrapping_sub(*row >> m & 1);
+        }
+    }
+    let mut back = [0; 16];
+    for (j, row) in paths.iter().enumerate() {
+        for i in members(*row) {
+            back[i & 15] |= 1 << j;
+        }
+    }
+    std::array::from_fn(|i| back[i] & !paths[i])
+}
+
+/// Whether an order is good: at each place no option that is left governs the one that stands there.
+pub fn test_order(s: &State, order: &[u8]) -> TestedOrder {
+    let answer = |number, is_good| TestedOrder { number, is_good };
+    if !is_sound(s) {
+        return answer(9, false);
+    }
+    let named = order.iter().fold(0u64, |named, &x| named | (x < 32) as u64 * (1 << (x & 31)));
+    if order.len() != s.n || named != 2 * full(s.n) as u64 {
+        return answer(30, false);
+    }
+    let over = governors(s);
+    let mut left = full(s.n);
+    for &x in order {
+        let i = (x as usize - 1) & 15;
+        if over[i] & left != 0 {
+            return answer(0, false);
+        }
+        left &= !(1 << i);
+    }
+    answer(0, true)
+}
+
+/// The first good order.
+pub fn find_order(s: &State, order: &mut [u8]) -> u8 {
+    if !is_sound(s) {
+        return 9;
+    }
+    if order.len() != s.n {
+        return 14;
+    }
+    let over = governors(s);
+    let mut left = full(s.n);
+    for place in order {
+        let next = members(left).find(|&i| over[i & 15] & left == 0).unwrap_or(0);
+        *place = next as u8 + 1;
+        left &= !(1 << next);
+    }
+    0
 }
 
 /// Each stated pair of two options of `among` allows its two values, which are below 32.

@@ -11,7 +11,7 @@ struct Counts {
     differences: usize,
 }
 
-const CALLS: [&str; 14] = [
+const CALLS: [&str; 16] = [
     "read",
     "write",
     "sound",
@@ -26,6 +26,8 @@ const CALLS: [&str; 14] = [
     "search",
     "trim",
     "lead",
+    "test_order",
+    "find_order",
 ];
 /// The numbers that a call can answer: 0, which stands for "not refused", and those of the causes.
 const NUMBERS: usize = Cause::GREATEST as usize + 1;
@@ -158,6 +160,17 @@ fn test_and_complete(state: &State, build: &[u8], counts: &mut Counts) {
     counts.note(6, one, &(one, here), &(other, there));
 }
 
+/// An order tested, and one found in a buffer that held it.
+fn orders(state: &State, order: &[u8], counts: &mut Counts) {
+    let one = proved::test_order(state, order);
+    counts.note(14, one.number, &one, &plain::test_order(state, order));
+    let (mut here, mut there) = (order.to_vec(), order.to_vec());
+    let one = proved::find_order(state, &mut here);
+    let other = plain::find_order(state, &mut there);
+    let good = one != 0 || proved::test_order(state, &here).is_good;
+    counts.note(15, one, &(one, here, good), &(other, there, true));
+}
+
 /// Every call on one state.
 fn calls(state: &State, build: &[u8], random: &mut Random, counts: &mut Counts) {
     let sound = proved::is_sound(state);
@@ -186,6 +199,9 @@ fn calls(state: &State, build: &[u8], random: &mut Random, counts: &mut Counts) 
         test_and_complete(state, &buffer(build, length, random), counts);
     }
     test_and_complete(state, build, counts);
+    for _ in 0..2 {
+        orders(state, &any_order(n, random), counts);
+    }
     write(
         state,
         any_version(random),
@@ -322,7 +338,7 @@ fn report(counts: &Counts) {
             .filter(|&k| counts.numbers[call][k] > 0)
             .map(|k| format!("{k}: {}", counts.numbers[call][k]))
             .collect();
-        println!("{name:9} {:8} calls; by number: {}", counts.calls[call], numbers.join(", "));
+        println!("{name:10} {:8} calls; by number: {}", counts.calls[call], numbers.join(", "));
     }
     println!("differences {}", counts.differences);
     std::process::exit((counts.differences > 0) as i32);

@@ -32,6 +32,8 @@ struct Case {
     /// For the first option and the last, and for the last and the second.
     table: Table,
     turned: Table,
+    /// The first good one.
+    order: Vec<u8>,
 }
 
 fn case(sheet: Sheet, random: &mut Random) -> Case {
@@ -46,9 +48,12 @@ fn case(sheet: Sheet, random: &mut Random) -> Case {
         let value = |option: usize| sheet.build[option - 1] as usize;
         half_table(first, second, &fresh.sizes, value(first), value(second), random)
     };
+    let mut order = vec![0; n];
+    assert_eq!(proved::find_order(&fresh, &mut order), 0);
     Case {
         table: table(1, n),
         turned: table(n, 2),
+        order,
         step: lowest(0).or_else(|| lowest(13)).unwrap_or((1, 2)),
         sheet,
         fresh: Lined(fresh),
@@ -67,7 +72,7 @@ const REDUCED: Start = |case| &case.reduced;
 
 /// Each call in the proved library and in plain Rust. Both are lent the state, and work in place. "lead" has option 1 lead; "led" adds a table to a reduced
 /// state, whose options may follow others.
-const CALLS: [(&str, Start, Call, Call); 15] = [
+const CALLS: [(&str, Start, Call, Call); 17] = [
     (
         "read",
         AS_READ,
@@ -133,6 +138,18 @@ const CALLS: [(&str, Start, Call, Call); 15] = [
         AS_READ,
         |c, _, _| look(proved::test(&c.fresh, &c.sheet.build)),
         |c, _, _| look(plain::test(&c.fresh, &c.sheet.build)),
+    ),
+    (
+        "test_order",
+        AS_READ,
+        |c, _, _| look(proved::test_order(&c.fresh, &c.order)),
+        |c, _, _| look(plain::test_order(&c.fresh, &c.order)),
+    ),
+    (
+        "find_order",
+        AS_READ,
+        |c, _, b| look(proved::find_order(&c.fresh, build(c, b))),
+        |c, _, b| look(plain::find_order(&c.fresh, build(c, b))),
     ),
     (
         "write",
@@ -218,7 +235,7 @@ struct Ratio {
 fn main() {
     let only = std::env::args().nth(1);
     println!(
-        "{:9} {:7} {:6} {:9} {:>9} {:>9} {:>6}",
+        "{:10} {:7} {:6} {:9} {:>9} {:>9} {:>6}",
         "call", "version", "size", "family", "proved", "plain", "ratio"
     );
     let mut ratios = Vec::new();
@@ -239,7 +256,7 @@ fn main() {
                 let (proved, plain) = both(&cases, start, one, other);
                 let ratio = proved / plain;
                 let (across, family) = (format!("{options}x{values}"), format!("{family:?}"));
-                println!("{name:9} {version:7} {across:6} {family:9} {proved:9.0} {plain:9.0} {ratio:6.2}");
+                println!("{name:10} {version:7} {across:6} {family:9} {proved:9.0} {plain:9.0} {ratio:6.2}");
                 ratios.push(Ratio { call, size, ratio });
             }
         }

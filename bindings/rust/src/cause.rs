@@ -2,7 +2,7 @@ use std::error::Error;
 use std::fmt;
 
 /// The causes of a refusal, each with its number and in the words of document 01, or of document 02 where that changed it. No call of
-/// this version answers 27 to 31.
+/// this version answers 27 to 29 and 31.
 #[derive(Clone, Copy, PartialEq, Eq, Hash, Debug)]
 #[non_exhaustive]
 #[repr(u8)]
@@ -33,7 +33,7 @@ pub enum Cause {
     NotStated = 12,
     /// "not functional from leader to follower"
     NotFunctional = 13,
-    /// "build buffer not n bytes"
+    /// "build buffer not n bytes"; finding an order: "a buffer not of n bytes"
     BuildLength = 14,
     /// "completer: a live value not in its list; tester: a value at or above its size"
     Value = 15,
@@ -140,7 +140,7 @@ impl fmt::Display for Cause {
             NotLive => "the two options are equal, or an option named is not live",
             NotStated => "the two options have no table",
             NotFunctional => "the table is not functional from leader to follower",
-            BuildLength => "the build does not have one byte for each option",
+            BuildLength => "the buffer does not have one byte for each option",
             Value => "a value is not in the list of its live option, or at or above the size of its option",
             ValuesForbidden => "a table forbids the values of two live options",
             BufferLength => "the sheet is longer than the buffer",

@@ -130,6 +130,26 @@ extern "C" {
         build: *mut u8,
         length: usize,
     ) -> u8;
+    fn sheet_test_order_parts(
+        n: usize,
+        sizes: &[u8; MOST_OPTIONS],
+        lists: &[u32; MOST_OPTIONS],
+        leaders: &[u8; MOST_OPTIONS],
+        stated: &[u32; MOST_OPTIONS],
+        rows: &Rows,
+        order: *const u8,
+        length: usize,
+    ) -> TestedOrder;
+    fn sheet_find_order_parts(
+        n: usize,
+        sizes: &[u8; MOST_OPTIONS],
+        lists: &[u32; MOST_OPTIONS],
+        leaders: &[u8; MOST_OPTIONS],
+        stated: &[u32; MOST_OPTIONS],
+        rows: &Rows,
+        order: *mut u8,
+        length: usize,
+    ) -> u8;
     fn sheet_verdict_parts(
         n: usize,
         sizes: &[u8; MOST_OPTIONS],
@@ -375,6 +395,65 @@ pub fn complete(state: &State, build: &mut [u8]) -> u8 {
             &s.rows,
             build.as_mut_ptr(),
             build.len(),
+        )
+    }
+}
+
+/// Tests an order to plan in, on n bytes, each option's number once, counted from 1. "An order is good when, for an earlier option i and a
+/// later option j, a path from j to i through tables functional along the way implies such a path from i to j": so "none precedes one that
+/// governs it", where an option governs another if a path leads from it to the other and none leads back. "The stated tables and lists of
+/// the given state count, followers included." Nothing is reduced, and a state and the same state reduced may have other good orders.
+///
+/// Numbers 9, 30, tested in this order: 30 "when the order does not hold each option exactly once and nothing else", so also for another
+/// length. A refusal answers false.
+///
+/// ```
+/// let case_b = [1, 0, 19, 3, 2, 3, 2, 2, 1, 2, 0, 1, 0, 6, 2, 3, 0, 1, 0, 2, 0, 2];
+/// let mut state = sheet::State::ZERO;
+/// assert_eq!(sheet::read(&case_b, &mut state).number, 0);
+/// assert!(!sheet::test_order(&state, &[1, 2, 3]).is_good); // option 2 governs option 1
+/// assert!(sheet::test_order(&state, &[2, 3, 1]).is_good);
+/// assert_eq!(sheet::test_order(&state, &[2, 2, 1]).number, sheet::Cause::OrderNumbers.number());
+/// let mut order = [0; 3];
+/// assert_eq!(sheet::find_order(&state, &mut order), 0);
+/// assert_eq!(order, [2, 1, 3]);
+/// ```
+#[inline]
+pub fn test_order(state: &State, order: &[u8]) -> TestedOrder {
+    let s = state;
+    unsafe {
+        sheet_test_order_parts(
+            s.n,
+            &s.sizes,
+            &s.lists,
+            &s.leaders,
+            &s.stated,
+            &s.rows,
+            order.as_ptr(),
+            order.len(),
+        )
+    }
+}
+
+/// Finds the first good order and writes it on n bytes: "the smallest permitted number at each place", one that some good order has there
+/// after what was placed. What the bytes held before does not matter. There always is a good order, and the one found is good by
+/// [`test_order`]. "A good one need not keep such a part together": options that lead to each other may stand apart. Answers the number.
+///
+/// Numbers 9, 14, tested in this order. A refusal leaves the buffer as it was.
+#[inline]
+#[must_use]
+pub fn find_order(state: &State, order: &mut [u8]) -> u8 {
+    let s = state;
+    unsafe {
+        sheet_find_order_parts(
+            s.n,
+            &s.sizes,
+            &s.lists,
+            &s.leaders,
+            &s.stated,
+            &s.rows,
+            order.as_mut_ptr(),
+            order.len(),
         )
     }
 }

@@ -96,6 +96,14 @@ pub struct Tested {
     pub is_build: bool,
 }
 
+/// What [`test_order`](crate::test_order) answers.
+#[repr(C)]
+#[derive(Clone, Copy, PartialEq, Eq, Debug)]
+pub struct TestedOrder {
+    pub number: u8,
+    pub is_good: bool,
+}
+
 /// What a verdict or a search can say, a search never OPEN: nothing, with a refusal;
 pub const NO_VERDICT: u8 = 0;
 /// there is no build;
@@ -137,6 +145,7 @@ const _: () = {
     assert!(offset_of!(Stepped, steps) == 8 && size_of::<Stepped>() == 16);
     assert!(offset_of!(Written, length) == 8 && size_of::<Written>() == 16);
     assert!(offset_of!(Tested, is_build) == 1 && size_of::<Tested>() == 2);
+    assert!(offset_of!(TestedOrder, is_good) == 1 && size_of::<TestedOrder>() == 2);
     assert!(offset_of!(Verdict, kind) == 1 && offset_of!(Verdict, build) == 2 && size_of::<Verdict>() == 18);
     assert!(offset_of!(Cut, place) == 8 && offset_of!(Cut, steps) == 16 && offset_of!(Cut, kind) == 24);
     assert!(offset_of!(Cut, build) == 25 && size_of::<Cut>() == 48);

@@ -13,6 +13,7 @@ ghost use mathlib.Core.Path.{_≡_};
 ghost use Rattle.state.specs.View.{soundState};
 ghost use Rattle.state.specs.Write.{writeSheet};
 ghost use Rattle.state.specs.Solutions.{tested, completeNumber, completedBuffer, verdictOf, searchOf};
+ghost use Rattle.state_order.specs.Orders.{orderTold, findNumber, orderBuffer};
 ghost use Rattle.capi_lent.specs.Lent.{stateWith};
 ghost use Rattle.capi_answers.specs.Answers.{writtenOut, testedOut, verdictOut};
 
@@ -127,4 +128,43 @@ pub extern "C" fn sheet_search_parts<'a>(
     let verdict = answer.verdict;
     let solution = answer.solution;
     verdict_told(verdict, solution)
+}
+
+// Whether an order is good.
+#[no_mangle]
+pub extern "C" fn sheet_test_order_parts<'a>(
+    n: usize,
+    sizes: &'a [u8; VARIABLES],
+    lists: &'a [u32; VARIABLES],
+    leaders: &'a [u8; VARIABLES],
+    stated: &'a [u32; VARIABLES],
+    rows: &'a Rows,
+    order: &[u8],
+) -> SheetTested
+    ensures { λ r. ⌜
+        r ≡ testedOut (orderTold (stateWith n (now (sizes .entry)) (now (lists .entry)) (now (leaders .entry)) (now (stated .entry)) (now (rows .entry))) (now (order .entry)))
+        ⌝ }
+{
+    let head = head_of(n, sizes, lists, leaders, stated);
+    tested(state_order::test_order_parts(head, rows, order))
+}
+
+// The first good order: the number that refuses.
+#[no_mangle]
+pub extern "C" fn sheet_find_order_parts<'a>(
+    n: usize,
+    sizes: &'a [u8; VARIABLES],
+    lists: &'a [u32; VARIABLES],
+    leaders: &'a [u8; VARIABLES],
+    stated: &'a [u32; VARIABLES],
+    rows: &'a Rows,
+    order: &mut [u8],
+) -> u8
+    ensures { λ r. ⌜
+        (r ≡ findNumber (stateWith n (now (sizes .entry)) (now (lists .entry)) (now (leaders .entry)) (now (stated .entry)) (now (rows .entry))) (now (order .entry)))
+        × (now (order .exit) ≡ orderBuffer (stateWith n (now (sizes .entry)) (now (lists .entry)) (now (leaders .entry)) (now (stated .entry)) (now (rows .entry))) (now (order .entry)))
+        ⌝ }
+{
+    let head = head_of(n, sizes, lists, leaders, stated);
+    outcome_number(state_order::find_order_parts(head, rows, order))
 }

@@ -43,7 +43,7 @@ module _ (n : ℕ) (R : ℕ → ℕ → Bool) where
   unfoldable pub found : ℕ → ℕ
   found p = first n (permitted (placed p))
 
--- An order as source document 000 builds it (section 4.3): "1) finding all the strongly connected components of G; 2) modifying G by taking every component
+-- An order as source document 000 builds it (section 4): "1) finding all the strongly connected components of G; 2) modifying G by taking every component
 -- as one vertex ..; 3) finding a topological ordering of the nodes in the new graph; and 4) replacing any vertex v in the ordering by any sequence of the
 -- vertices of the strongly connected component represented by v". E are the edges, and part x is the place of x's component in the topological ordering.
 pub record Assembled (n : ℕ) (E : ℕ → ℕ → Bool) (o part : ℕ → ℕ) : Type 0 where

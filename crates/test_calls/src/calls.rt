@@ -33,6 +33,7 @@ pub struct Stepping {
     pub state: State,
 }
 
+// What the completer or the finding of an order answers.
 pub struct Completion {
     pub number: u8,
     pub buffer: [u8; 16],
@@ -141,6 +142,28 @@ pub fn is_completed(state: State, before: [u8; 16], n: usize, number: u8, after:
     let done = complete(state, before, n);
     let left = done.buffer;
     (done.number == number) & same_bytes(left, after)
+}
+
+// The test of an order: the first `n` bytes, options counted from 1.
+pub fn test_order(state: State, order: [u8; 16], n: usize) -> u8 {
+    test_number(sheet::test_order(state, first(&order, n)))
+}
+
+// The order that is found, in the first `n` bytes.
+pub fn find_order(state: State, given: [u8; 16], n: usize) -> Completion {
+    let mut buffer = given;
+    let outcome = sheet::find_order(state, first_room(&mut buffer, n));
+    Completion {
+        number: answers::outcome_number(outcome),
+        buffer,
+    }
+}
+
+// No order is found in the first `n` bytes: refused with the number, and the bytes as they were.
+pub fn is_unordered(state: State, given: [u8; 16], n: usize, number: u8) -> bool {
+    let found = find_order(state, given, n);
+    let left = found.buffer;
+    (found.number == number) & same_bytes(left, given)
 }
 
 // The writer in a version, on the first `room` bytes.

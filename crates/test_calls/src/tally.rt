@@ -1,7 +1,7 @@
 // How often each thing was tried, how often it came out wrong, and where the random numbers are.
 
 // One more than the greatest of the kinds that are counted.
-pub const KINDS: usize = 67;
+pub const KINDS: usize = 74;
 
 // The counts, and the seed of the number that is drawn next. It goes by value, as loans make proofs longer.
 pub struct Tally {
@@ -123,6 +123,20 @@ pub const LEAD_LISTS: usize = 64;
 pub const LEAD_CALLS: usize = 65;
 
 pub const LEAD_ANSWERS: usize = 66;
+// Orders that are found, and those of them that are not by number.
+pub const ORDERS: usize = 67;
+
+pub const ORDERS_OTHER: usize = 68;
+// Lists that are tested: good orders, other orders, and lists that are no order.
+pub const ORDERS_GOOD: usize = 69;
+
+pub const ORDERS_NOT: usize = 70;
+
+pub const ORDERS_WRONG: usize = 71;
+// Buffers of another length, and either call on a state that is not sound.
+pub const ORDERS_ROOM: usize = 72;
+
+pub const ORDERS_UNSOUND: usize = 73;
 
 // Nothing is counted yet.
 pub fn start(seed: u64) -> Tally {
@@ -173,6 +187,7 @@ pub fn with_unsound(tally: Tally, k: usize, other: Tally) -> Tally {
     after = add(after, k, counts[TABLES_UNSOUND]);
     after = add(after, k, counts[TRIMS_REFUSED]);
     after = add(after, k, counts[LEADS_UNSOUND]);
+    after = add(after, k, counts[ORDERS_UNSOUND]);
     add(after, DIFFERENCES, counts[DIFFERENCES])
 }
 
@@ -218,6 +233,17 @@ pub fn with_leads(tally: Tally, other: Tally) -> Tally {
     after = add(after, LEADS_BROUGHT, counts[LEADS_BROUGHT]);
     after = add(after, LEADS_NUMBER, counts[LEADS_NUMBER]);
     add(after, LEADS_FOLLOWER, counts[LEADS_FOLLOWER])
+}
+
+// What another tally counted of orders. What came out wrong there is not taken over: it is with the list of calls before them.
+pub fn with_orders(tally: Tally, other: Tally) -> Tally {
+    let counts = other.counts;
+    let mut after = add(tally, ORDERS, counts[ORDERS]);
+    after = add(after, ORDERS_OTHER, counts[ORDERS_OTHER]);
+    after = add(after, ORDERS_GOOD, counts[ORDERS_GOOD]);
+    after = add(after, ORDERS_NOT, counts[ORDERS_NOT]);
+    after = add(after, ORDERS_WRONG, counts[ORDERS_WRONG]);
+    add(after, ORDERS_ROOM, counts[ORDERS_ROOM])
 }
 
 fn print_number(number: u64) {
@@ -268,7 +294,10 @@ pub fn print_checks(counts: &[u64; KINDS]) {
         such runs with more new followers than steps\n\
         such runs refused with 9\nsuch runs refused with 10\nsuch runs refused with 11\n\
         lists of calls with such runs among them\nother calls in these\n\
-        tests, completions, verdicts and searches after these\n",
+        tests, completions, verdicts and searches after these\n\
+        orders found\norders found that are not by number\n\
+        tested lists that are good orders\ntested lists that are other orders\ntested lists refused with 30\n\
+        findings refused with 14\nfindings and tests of orders refused with 9\n",
         DAMAGED_STATES,
         counts,
     );

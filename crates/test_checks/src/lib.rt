@@ -6,5 +6,7 @@ pub mod builds;
 pub mod leads;
 // Lists of calls: follow steps with any two option numbers, full reductions, added tables, and trimmings.
 pub mod lists;
+// Orders that are found, and lists that are tested.
+pub mod orders;
 // What was read is written in every version and read again.
 pub mod reads;

@@ -1,10 +1,11 @@
 // Fixed examples that are neither sheets nor lists of calls with tables added: refused bytes, texts, steps, answers on fixed states, searches, page nine,
-// and lists of followers.
+// lists of followers, and orders.
 use crate::contrary;
 use crate::followers;
 use crate::lines::expect_text;
 use crate::lines::play;
 use crate::lines::read;
+use crate::orders;
 use test_calls::states;
 use test_calls::tally::Tally;
 use test_checks::lists;
@@ -270,5 +271,6 @@ pub fn run(tally: Tally) -> Tally {
     run = written(run);
     run = fitted(run);
     run = followers::run(run);
+    run = orders::run(run);
     run.tally
 }

@@ -8,6 +8,8 @@ pub mod fixed;
 mod followers;
 // Lines of a list.
 pub mod lines;
+// Orders of options.
+mod orders;
 // What a sheet comes to, against a text.
 pub mod outcomes;
 // Parts of a line.

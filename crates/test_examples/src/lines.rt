@@ -13,6 +13,8 @@
 // t: values; what the tester answers.
 // c: values; the number that the completer answers, and the values that it leaves.
 // s: nothing; what the search says, and the build.
+// q: a list; what the test of an order answers.
+// x: the bytes of a buffer; the number that the finding of an order answers, and the bytes that it leaves.
 // w: two options that are stated together, and a value of the first; its row.
 // o: nothing; what the state comes to.
 // l: nothing; the lists of all options, a byte for each.

@@ -30,6 +30,18 @@ fn is_found(state: State, answer: &[u8]) -> bool {
     is_shown(found.verdict, solution, answer)
 }
 
+// What the test of an order answers for the list.
+fn is_ordered(state: State, given: &[u8], answer: &[u8]) -> bool {
+    calls::test_order(state, values_of(given), given.len()) == byte(answer, 0)
+}
+
+// The number that the finding of an order answers, and the bytes that it leaves.
+fn is_order_found(state: State, given: &[u8], answer: &[u8]) -> bool {
+    let found = calls::find_order(state, values_of(given), given.len());
+    let left = found.buffer;
+    is_shown(found.number, left, answer)
+}
+
 // Two options that are stated together, a value of the first, and its row.
 fn is_row(state: State, given: &[u8], answer: &[u8]) -> bool {
     let i = index_of(byte(given, 0) as usize);
@@ -77,6 +89,8 @@ pub(crate) fn is_answered(run: Run, letter: u8, given: &[u8], answer: &[u8]) -> 
         b't' => is_tested(state, given, answer),
         b'c' => is_completed(state, given, answer),
         b's' => is_found(state, answer),
+        b'q' => is_ordered(state, given, answer),
+        b'x' => is_order_found(state, given, answer),
         b'w' => is_row(state, given, answer),
         b'o' => is_outcome(state, run.steps, answer),
         b'l' => are_listed(domains, answer),

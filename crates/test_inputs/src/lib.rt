@@ -4,6 +4,8 @@
 pub mod damage;
 // Sheets of random contents, by family.
 pub mod families;
+// Lists of options.
+pub mod orders;
 // A fixed stream of numbers.
 pub mod random;
 // Tables for calls to add.

@@ -130,13 +130,13 @@ pub fn is_build(bytes: &[u8], tuple: [u8; 16]) -> bool {
 }
 
 // A digit, and what is left of the number.
-struct Digit {
-    value: u8,
-    rest: usize,
+pub(crate) struct Digit {
+    pub(crate) value: u8,
+    pub(crate) rest: usize,
 }
 
 // The last digit of a number in base `size`: 0 in base 0.
-fn divided(rest: usize, size: usize) -> Digit {
+pub(crate) fn divided(rest: usize, size: usize) -> Digit {
     if size == 0 {
         return Digit { value: 0, rest };
     }

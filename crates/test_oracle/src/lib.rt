@@ -10,6 +10,8 @@ pub mod counts;
 pub mod fields;
 // What the reader is to say of some bytes, and what it is to make of a sheet.
 pub mod judge;
+// Orders of options, and lists of numbers.
+pub mod orders;
 // Tables that calls added to a sheet, and the builds that keep to them.
 pub mod tables;
 // What the verdict and the search are to say.

@@ -11,6 +11,8 @@ pub mod followers;
 pub mod leads;
 // Trimming the live lists against each other, in turn with the full reduction.
 pub mod live;
+// Paths through functional tables, and good orders.
+pub mod paths;
 // What a follow step is to be refused with.
 pub mod refusals;
 // The rules of a legal follow step, and the full reduction by them.

@@ -11,7 +11,7 @@ pub(crate) fn is_option(n: usize, number: usize) -> bool {
 }
 
 // No value in the list of `i` has more than one allowed partner in the list of `j`.
-fn is_functional(domains: [u32; 16], rows: &[u32; 3840], i: usize, j: usize) -> bool {
+pub(crate) fn is_functional(domains: [u32; 16], rows: &[u32; 3840], i: usize, j: usize) -> bool {
     for a in 0..32 {
         let partners = row_at(rows, i, j, a) & word_at(domains, j);
         if has(word_at(domains, i), a) & (1 < u32::count_ones(partners)) {

@@ -6,7 +6,7 @@ use test_examples::fixed;
 mod examples;
 // Lists of sheets.
 mod lists;
-// A second series of sheets, with runs that a named option leads.
+// A second series of sheets, with runs that a named option leads, and orders.
 mod series;
 // One input, and a list of calls on it.
 mod sheets;

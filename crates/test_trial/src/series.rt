@@ -1,10 +1,11 @@
 // A second series of random sheets, drawn from a seed of its own, as the inputs of the first are not to hang on it: on each a list of calls that has runs
-// among them that a named option leads.
+// among them that a named option leads, and on the state handed back last orders.
 use crate::sheets::check_builds;
 use test_calls::calls;
 use test_calls::tally;
 use test_calls::tally::Tally;
 use test_checks::leads;
+use test_checks::orders;
 use test_inputs::damage::DAMAGED;
 use test_inputs::families;
 use test_inputs::random;
@@ -22,8 +23,10 @@ fn run_one(family: u8, tally: Tally) -> Tally {
     let reading = calls::read(bytes);
     let list = tally::start(seed ^ APART);
     let run = leads::check_leads(reading.state, calls, list);
-    let checked = check_builds(family, bytes, run, run.tally);
-    tally::with_leads(tally::with_seed(tally, seed), checked)
+    let ordered = orders::check(run.state, run.tally);
+    let checked = check_builds(family, bytes, run, ordered);
+    let with_list = tally::with_leads(tally::with_seed(tally, seed), checked);
+    tally::with_orders(with_list, checked)
 }
 
 fn run_family(family: u8, times: usize, tally: Tally) -> Tally {

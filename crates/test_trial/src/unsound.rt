@@ -59,6 +59,16 @@ fn check_lead(state: State, tally: Tally) -> Tally {
     tally::expect(tally, tally::LEADS_UNSOUND, is_refused)
 }
 
+// An order, found and tested: the seed gives the buffer and its length, and is not drawn from.
+fn check_orders(state: State, tally: Tally) -> Tally {
+    let given = [(tally.seed % 251) as u8; 16];
+    let length = (tally.seed % 17) as usize;
+    let is_left = calls::is_unordered(state, given, length, 9);
+    let is_refused = calls::test_order(state, given, length) == 9;
+    let found = tally::expect(tally, tally::ORDERS_UNSOUND, is_left);
+    tally::expect(found, tally::ORDERS_UNSOUND, is_refused)
+}
+
 // Whatever the table is.
 fn check_table(state: State, tally: Tally) -> Tally {
     let mut seed = tally.seed;
@@ -87,6 +97,7 @@ fn check_calls(state: State, tally: Tally) -> Tally {
     after = check_steps(state, after);
     after = check_trim(state, after);
     after = check_lead(state, after);
+    after = check_orders(state, after);
     check_table(state, after)
 }
 
