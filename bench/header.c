@@ -80,12 +80,15 @@ static bool prints(const uint8_t *bytes, size_t length, const char *expected) {
            all_zero(text + all, sizeof text - all);
 }
 
-/* Reading, cutting and the text of bytes that are refused with this number at this place. */
+/* Both readings, cutting and the text of bytes that are refused with this number at this place. */
 static void refused_bytes(const uint8_t *bytes, size_t length, int number, size_t place) {
     char text[32];
     sprintf(text, "REFUSED %d AT %d\n", number, (int)place);
     struct sheet_state state = reduced;
     struct sheet_read_answer read = sheet_read(bytes, length, &state);
+    CHECK(read.number == number && read.place == place && same(&state, &zero));
+    state = reduced;
+    read = sheet_read_paired(bytes, length, &state);
     CHECK(read.number == number && read.place == place && same(&state, &zero));
     state = reduced;
     struct sheet_cut_answer cut = sheet_cut(bytes, length, &state);
@@ -124,6 +127,39 @@ static void check_bytes(void) {
     refused_bytes(blank, sizeof blank, SHEET_CAUSE_BLANK_ROW, 13);
     refused_bytes(CASE_A, LENGTH_A - 1, SHEET_CAUSE_LENGTH, 0);
     refused_bytes(NULL, 0, SHEET_CAUSE_LENGTH, 0);
+}
+
+/* The paired profile: cases C, F and J are of it; of A, B, G and L the first table that is not is named, and of a sheet in version 2. Any other fault is
+ * told first, also one that comes later: left over bytes, a row with a value too high, a pair that stands twice, a blank row in version 3. */
+static void check_paired(void) {
+    static const struct { uint8_t sheet[41]; size_t length; int number; size_t place; int kind; } sheets[] = {
+        {{1, 0, 38, 4, 3, 3, 3, 3, 4, 1, 2, 0, 1, 0, 2, 0, 4, 1, 3, 0, 1, 0, 2, 0, 4, 2, 4, 0, 1, 0, 4, 0, 2, 3, 4, 0, 1, 0, 4, 0, 2},
+         41, 0, 0, SHEET_BUILT},
+        {{1, 0, 38, 4, 3, 3, 3, 3, 4, 1, 2, 0, 1, 0, 2, 0, 4, 1, 3, 0, 1, 0, 2, 0, 4, 2, 4, 0, 2, 0, 1, 0, 4, 3, 4, 0, 1, 0, 4, 0, 2},
+         41, 0, 0, SHEET_NONE},
+        {{1, 0, 10, 2, 2, 1, 1, 1, 2, 0, 1, 0, 0}, 13, 0, 0, SHEET_BUILT},
+        {{1, 0, 19, 3, 2, 3, 2, 2, 1, 2, 0, 1, 0, 4, 2, 3, 0, 2, 0, 1, 0, 1}, 22, SHEET_CAUSE_NOT_PAIRED, 14, SHEET_BUILT},
+        {{1, 0, 19, 3, 2, 3, 2, 2, 1, 2, 0, 1, 0, 6, 2, 3, 0, 1, 0, 2, 0, 2}, 22, SHEET_CAUSE_NOT_PAIRED, 8, SHEET_BUILT},
+        {{1, 0, 10, 2, 2, 2, 1, 1, 2, 0, 3, 0, 3}, 13, SHEET_CAUSE_NOT_PAIRED, 7, SHEET_OPEN},
+        {{1, 0, 10, 2, 2, 2, 1, 1, 2, 0, 1, 0, 1}, 13, SHEET_CAUSE_NOT_PAIRED, 7, SHEET_BUILT},
+        {{2, 0, 14, 2, 2, 27, 1, 1, 2, 4, 0, 0, 0, 4, 0, 0, 0}, 17, SHEET_CAUSE_NOT_PAIRED, 7, SHEET_BUILT},
+    };
+    static const uint8_t longer[] = {1, 0, 11, 2, 2, 2, 1, 1, 2, 0, 1, 0, 1, 0};
+    static const uint8_t higher[] = {1, 0, 17, 3, 2, 2, 2, 2, 1, 2, 0, 3, 0, 0, 2, 3, 0, 1, 0, 4};
+    static const uint8_t twice[] = {1, 0, 17, 3, 2, 2, 2, 2, 1, 2, 0, 3, 0, 0, 1, 2, 0, 1, 0, 2};
+    static const uint8_t blank[] = {3, 0, 21, 3, 1, 2, 1, 2, 1, 2, 0, 0, 0, 3, 2, 3, 0, 0, 0, 1, 0, 0, 0, 0};
+    for (size_t k = 0; k < sizeof sheets / sizeof *sheets; k++) {
+        struct sheet_state s, plain;
+        memset(&s, 0xff, sizeof s);
+        CHECK(sheet_read(sheets[k].sheet, sheets[k].length, &plain).number == 0);
+        struct sheet_read_answer answer = sheet_read_paired(sheets[k].sheet, sheets[k].length, &s);
+        CHECK(answer.number == sheets[k].number && answer.place == sheets[k].place && same(&s, answer.number == 0 ? &plain : &zero));
+        CHECK(sheet_cut(sheets[k].sheet, sheets[k].length, &s).kind == sheets[k].kind);
+    }
+    refused_bytes(longer, sizeof longer, SHEET_CAUSE_CUT_OFF, 13);
+    refused_bytes(higher, sizeof higher, SHEET_CAUSE_ROW, 18);
+    refused_bytes(twice, sizeof twice, SHEET_CAUSE_PAIR_SEQUENCE, 14);
+    refused_bytes(blank, sizeof blank, SHEET_CAUSE_BLANK_ROW, 20);
 }
 
 static void refused_step(const struct sheet_state *given, size_t leader, size_t follower, int number) {
@@ -619,6 +655,7 @@ static struct sheet_state deep; /* of all but its last option the last value goe
 static ucontext_t outer, inner;
 
 static void read_it(void) { sheet_read(CASE_A, LENGTH_A, &held); }
+static void paired_it(void) { sheet_read_paired(CASE_A, LENGTH_A, &held); }
 static void write_it(void) { sheet_write(&fresh, 1, bytes, LENGTH_A); }
 static void sound_it(void) { bytes[0] = sheet_is_sound(&reduced); }
 static void follow_it(void) { held = fresh, sheet_eliminate(&held, 1, 2); }
@@ -657,7 +694,7 @@ static void check_stack(void) {
     for (int k = 1; k < 4; k++) {
         for (int b = 0; b < 31; b++) allow(&deep, k, 30, k + 1, b);
     }
-    static void (*const calls[])(void) = {read_it, write_it,    sound_it,   follow_it, reduce_it, trim_it, lead_it, add_it,
+    static void (*const calls[])(void) = {read_it, paired_it, write_it,    sound_it,   follow_it, reduce_it, trim_it, lead_it, add_it,
                                           test_it, complete_it, order_it,   find_it,   verdict_it, search_it, cut_it,  text_it,
                                           meter_it};
     for (size_t k = 0; k < sizeof calls / sizeof *calls; k++) {
@@ -671,6 +708,7 @@ static void check_stack(void) {
 int main(void) {
     make_states();
     check_bytes();
+    check_paired();
     check_steps();
     check_trimming();
     check_lead();

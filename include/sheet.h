@@ -14,7 +14,7 @@
  * causes hold, the one tested first is answered. A refused call on a state leaves it, and a buffer that it is lent, equal to
  * what they were, and all other parts of its answer are zero, but for a place: that is proved. It also stores nothing there, so
  * that both may be read-only, and others may read them meanwhile: that is tried, on pages that may only be read, and not
- * proved. sheet_read and sheet_cut always store a state: the zero state where the sheet is refused.
+ * proved. sheet_read, sheet_read_paired and sheet_cut always store a state: the zero state where the sheet is refused.
  *
  * Memory. Bytes and buffers cross as a pointer and a length: so many bytes may be read there (of a buffer, also written) until
  * the call returns. With length 0 the pointer may be anything, NULL too: nothing is read or written through it. Any other
@@ -42,7 +42,7 @@
 /* The version of these declarations: MAJOR rises where a caller has to be changed or compiled anew, or a state that he has kept may
  * now be refused, MINOR where something is added. The version in byte 0 of a sheet is another number. */
 #define SHEET_VERSION_MAJOR 5
-#define SHEET_VERSION_MINOR 3
+#define SHEET_VERSION_MINOR 4
 
 #define SHEET_LARGEST_BYTES 15621 /* "The largest version 2 sheet has 15,621 bytes, which is the limit in number 1" */
 #define SHEET_MOST_OPTIONS 16    /* length of the arrays that hold something for each option */
@@ -57,7 +57,7 @@ extern "C" {
 #endif
 
 /* The causes of a refusal by their numbers, each in the words of document 01, or of document 02 where that changed it. No call of this
- * version answers 27 to 29 and 31. */
+ * version answers 27 to 29. */
 enum sheet_cause {
     SHEET_NOT_REFUSED = 0,
     SHEET_CAUSE_LENGTH = 1,             /* "under 3 bytes, over 4,101, or not 3 plus the count", with 15,621 for 4,101 */
@@ -213,6 +213,10 @@ struct sheet_cut_answer {
 struct sheet_read_answer sheet_read_parts(const uint8_t *bytes, size_t length, size_t *n, uint8_t sizes[SHEET_MOST_OPTIONS],
                                           uint32_t lists[SHEET_MOST_OPTIONS], uint8_t leaders[SHEET_MOST_OPTIONS],
                                           uint32_t stated[SHEET_MOST_OPTIONS], uint32_t rows[SHEET_ROWS]);
+struct sheet_read_answer sheet_read_paired_parts(const uint8_t *bytes, size_t length, size_t *n,
+                                                 uint8_t sizes[SHEET_MOST_OPTIONS], uint32_t lists[SHEET_MOST_OPTIONS],
+                                                 uint8_t leaders[SHEET_MOST_OPTIONS], uint32_t stated[SHEET_MOST_OPTIONS],
+                                                 uint32_t rows[SHEET_ROWS]);
 struct sheet_write_answer sheet_write_parts(size_t n, const uint8_t sizes[SHEET_MOST_OPTIONS],
                                             const uint32_t lists[SHEET_MOST_OPTIONS], const uint8_t leaders[SHEET_MOST_OPTIONS],
                                             const uint32_t stated[SHEET_MOST_OPTIONS], const uint32_t rows[SHEET_ROWS],
@@ -274,6 +278,17 @@ struct sheet_verdict_answer meter_fit_parts(size_t n, const uint8_t sizes[SHEET_
  * A refusal answers its place and stores the zero state. */
 static inline struct sheet_read_answer sheet_read(const uint8_t *bytes, size_t length, struct sheet_state *state) {
     return sheet_read_parts(bytes, length, &state->n, state->sizes, state->lists, state->leaders, state->stated, state->rows);
+}
+
+/* Reads a sheet of the paired profile: of "only tables functional both ways on the full lists", in which no row has two values and no value of
+ * the higher option stands in two rows. Rows and values without a partner are allowed where sheet_read allows them.
+ * Numbers 1 to 8, 19, 20 and 26 as sheet_read, with the same places; then, "after all other tests of reading", 31 for "a sheet that has another
+ * kind of table", with the place of the first such pair, that of its lower option. A refusal answers its place and stores the zero state.
+ * What it accepts has the answer and the state of sheet_read. After sheet_reduce then, and whatever calls were made before that but
+ * sheet_add_table and meter_fit, no two live options are stated together: the verdict "is never OPEN", and SHEET_NONE "is said exactly when
+ * no build exists". */
+static inline struct sheet_read_answer sheet_read_paired(const uint8_t *bytes, size_t length, struct sheet_state *state) {
+    return sheet_read_paired_parts(bytes, length, &state->n, state->sizes, state->lists, state->leaders, state->stated, state->rows);
 }
 
 /* Writes the sheet of a state that is as just read, in version 1, 2 or 3, and answers its length; bytes past its end are left as

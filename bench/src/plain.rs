@@ -216,6 +216,41 @@ pub fn read(bytes: &[u8], state: &mut State) -> (u8, usize) {
     }
 }
 
+/// The place of the first table that is not functional both ways, of a sheet just read, whose rows have so many bytes: some row has two values, or a value
+/// that a row before it has.
+fn unpaired_place(s: &State, row_bytes: usize) -> Option<usize> {
+    let mut at = 5 + s.n;
+    for i in 0..s.n.min(16) {
+        for j in members(s.stated[i] & !full(i + 1)) {
+            let size = s.sizes[i] as usize;
+            let mut seen = 0;
+            for &row in &pair(s, i, j & 15)[..size.min(PAIR_ROWS)] {
+                if row & row.wrapping_sub(1) | row & seen != 0 {
+                    return Some(at);
+                }
+                seen |= row;
+            }
+            at += 2 + row_bytes * size;
+        }
+    }
+    None
+}
+
+/// Reads a sheet of the paired profile into `state`; number and place of a refusal, which leaves the zero state.
+pub fn read_paired(bytes: &[u8], state: &mut State) -> (u8, usize) {
+    let answer = read(bytes, state);
+    if answer.0 != 0 {
+        return answer;
+    }
+    match unpaired_place(state, if bytes[0] == 1 { 2 } else { 4 }) {
+        None => answer,
+        Some(place) => {
+            *state = State::ZERO;
+            (31, place)
+        }
+    }
+}
+
 /// Sizes, lists, leaders and stated pairs, as far as each can be judged by itself.
 fn small_arrays_sound(s: &State) -> bool {
     for i in 0..16 {

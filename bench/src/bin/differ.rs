@@ -11,7 +11,7 @@ struct Counts {
     differences: usize,
 }
 
-const CALLS: [&str; 16] = [
+const CALLS: [&str; 17] = [
     "read",
     "write",
     "sound",
@@ -28,6 +28,7 @@ const CALLS: [&str; 16] = [
     "lead",
     "test_order",
     "find_order",
+    "read_paired",
 ];
 /// The numbers that a call can answer: 0, which stands for "not refused", and those of the causes.
 const NUMBERS: usize = Cause::GREATEST as usize + 1;
@@ -62,12 +63,23 @@ fn read(bytes: &[u8], before: &State, counts: &mut Counts) -> State {
     let one = proved::read(bytes, &mut here);
     let (number, place) = plain::read(bytes, &mut there);
     counts.note(0, one.number, &(one, here), &(Read { number, place }, there));
+    read_paired(bytes, before, counts);
     cut(bytes, before, counts);
     let (mut mine, mut theirs) = ([1; 512], [2; 512]);
     let printed = (proved::text(bytes, &mut mine), mine);
     let other = (plain::text(bytes, &mut theirs), theirs);
     counts.note(9, one.number, &printed, &other);
     here
+}
+
+/// A sheet of the paired profile. Reduced, it is never OPEN.
+fn read_paired(bytes: &[u8], before: &State, counts: &mut Counts) {
+    let (mut here, mut there) = (*before, *before);
+    let one = proved::read_paired(bytes, &mut here);
+    let (number, place) = plain::read_paired(bytes, &mut there);
+    let mut reduced = here;
+    let open = one.number == 0 && proved::reduce(&mut reduced).number == 0 && proved::verdict(&reduced).kind == proved::OPEN;
+    counts.note(16, one.number, &(one, here, open), &(Read { number, place }, there, false));
 }
 
 fn cut(bytes: &[u8], before: &State, counts: &mut Counts) {
@@ -338,7 +350,7 @@ fn report(counts: &Counts) {
             .filter(|&k| counts.numbers[call][k] > 0)
             .map(|k| format!("{k}: {}", counts.numbers[call][k]))
             .collect();
-        println!("{name:10} {:8} calls; by number: {}", counts.calls[call], numbers.join(", "));
+        println!("{name:11} {:8} calls; by number: {}", counts.calls[call], numbers.join(", "));
     }
     println!("differences {}", counts.differences);
     std::process::exit((counts.differences > 0) as i32);

@@ -70,14 +70,21 @@ type Start = fn(&Case) -> &State;
 const AS_READ: Start = |case| &case.fresh;
 const REDUCED: Start = |case| &case.reduced;
 
-/// Each call in the proved library and in plain Rust. Both are lent the state, and work in place. "lead" has option 1 lead; "led" adds a table to a reduced
+/// Each call in the proved library and in plain Rust. Both are lent the state, and work in place. "paired" reads a sheet of the
+/// paired profile, which the bijective ones are; "lead" has option 1 lead; "led" adds a table to a reduced
 /// state, whose options may follow others.
-const CALLS: [(&str, Start, Call, Call); 17] = [
+const CALLS: [(&str, Start, Call, Call); 18] = [
     (
         "read",
         AS_READ,
         |c, s, _| look(proved::read(&c.sheet.bytes, s)),
         |c, s, _| look(plain::read(&c.sheet.bytes, s)),
+    ),
+    (
+        "paired",
+        AS_READ,
+        |c, s, _| look(proved::read_paired(&c.sheet.bytes, s)),
+        |c, s, _| look(plain::read_paired(&c.sheet.bytes, s)),
     ),
     (
         "sound",

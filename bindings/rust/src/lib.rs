@@ -44,6 +44,16 @@ extern "C" {
         stated: &mut [u32; MOST_OPTIONS],
         rows: &mut Rows,
     ) -> Read;
+    fn sheet_read_paired_parts(
+        bytes: *const u8,
+        length: usize,
+        n: &mut usize,
+        sizes: &mut [u8; MOST_OPTIONS],
+        lists: &mut [u32; MOST_OPTIONS],
+        leaders: &mut [u8; MOST_OPTIONS],
+        stated: &mut [u32; MOST_OPTIONS],
+        rows: &mut Rows,
+    ) -> Read;
     fn sheet_write_parts(
         n: usize,
         sizes: &[u8; MOST_OPTIONS],
@@ -199,6 +209,42 @@ pub fn read(bytes: &[u8], state: &mut State) -> Read {
     let s = state;
     unsafe {
         sheet_read_parts(
+            bytes.as_ptr(),
+            bytes.len(),
+            &mut s.n,
+            &mut s.sizes,
+            &mut s.lists,
+            &mut s.leaders,
+            &mut s.stated,
+            &mut s.rows,
+        )
+    }
+}
+
+/// Reads a sheet of the paired profile: of "only tables functional both ways on the full lists", in which no row has two values and no value
+/// of the higher option stands in two rows. Rows and values without a partner are allowed where [`read`] allows them.
+///
+/// Numbers 1 to 8, 19, 20 and 26 as [`read`], with the same places; then, "after all other tests of reading", 31 for "a sheet that has
+/// another kind of table", with the place of the first such pair, that of its lower option. A refusal answers its place and stores
+/// [`State::ZERO`]. What it accepts has the answer and the state of [`read`]. After [`reduce`] then, and whatever calls were made before
+/// that but [`add_table`] and [`meter_fit`], no two live options are stated together: the verdict "is never OPEN", and [`NONE`] "is said
+/// exactly when no build exists".
+///
+/// ```
+/// let one_to_one = [1, 0, 10, 2, 2, 2, 1, 1, 2, 0, 1, 0, 2];
+/// let both_to_0 = [1, 0, 10, 2, 2, 2, 1, 1, 2, 0, 1, 0, 1];
+/// let mut state = sheet::State::ZERO;
+/// assert_eq!(sheet::read_paired(&one_to_one, &mut state).number, 0);
+/// let other = sheet::read_paired(&both_to_0, &mut state);
+/// assert_eq!((other.number, other.place), (sheet::Cause::NotPaired.number(), 7));
+/// assert_eq!(state, sheet::State::ZERO);
+/// assert_eq!(sheet::read(&both_to_0, &mut state).number, 0);
+/// ```
+#[inline]
+pub fn read_paired(bytes: &[u8], state: &mut State) -> Read {
+    let s = state;
+    unsafe {
+        sheet_read_paired_parts(
             bytes.as_ptr(),
             bytes.len(),
             &mut s.n,

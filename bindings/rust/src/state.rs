@@ -61,7 +61,7 @@ impl State {
     }
 }
 
-/// What [`read`](crate::read) answers.
+/// What [`read`](crate::read) and [`read_paired`](crate::read_paired) answer.
 #[repr(C)]
 #[derive(Clone, Copy, PartialEq, Eq, Debug)]
 pub struct Read {

@@ -27,5 +27,6 @@ pub use look::sheet_test_parts;
 pub use look::sheet_verdict_parts;
 pub use look::sheet_write_parts;
 pub use sheets::sheet_cut_parts;
+pub use sheets::sheet_read_paired_parts;
 pub use sheets::sheet_read_parts;
 pub use sheets::sheet_text;

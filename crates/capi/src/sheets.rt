@@ -8,11 +8,12 @@ use capi_lent::zero_rows;
 use head::Rows;
 use head::VARIABLES;
 use state_cut::cut_parts;
+use state_paired::read_paired_parts;
 use state_read::read_parts;
 use text_report::LONGEST;
 use text_report::report_into;
 ghost use mathlib.Core.Path.{_≡_};
-ghost use Rattle.state.specs.Read.{readSheet};
+ghost use Rattle.state.specs.Read.{readSheet, readPaired};
 ghost use Rattle.state.specs.Cut.{cutSheet};
 ghost use Rattle.text_report.specs.Text.{textOf};
 ghost use Rattle.text_report.specs.Printed.{Printed};
@@ -38,6 +39,31 @@ pub extern "C" fn sheet_read_parts(
 {
     zero_rows(rows);
     let read = read_parts(bytes, rows);
+    let head = read.head;
+    put_head(head, n, sizes, lists, leaders, stated);
+    let outcome = read.outcome;
+    read_told(outcome)
+}
+
+// Reads the bytes of a sheet of the paired profile into a state, whatever that held.
+#[no_mangle]
+pub extern "C" fn sheet_read_paired_parts(
+    bytes: &[u8],
+    n: &mut usize,
+    sizes: &mut [u8; VARIABLES],
+    lists: &mut [u32; VARIABLES],
+    leaders: &mut [u8; VARIABLES],
+    stated: &mut [u32; VARIABLES],
+    rows: &mut Rows,
+) -> SheetRead
+    ensures { λ r. ⌜
+        (r ≡ readOut (readPaired (now (bytes .entry))))
+        × (stateWith (now (n .exit)) (now (sizes .exit)) (now (lists .exit)) (now (leaders .exit)) (now (stated .exit)) (now (rows .exit))
+        ≡ readPaired (now (bytes .entry)) .state)
+        ⌝ }
+{
+    zero_rows(rows);
+    let read = read_paired_parts(bytes, rows);
     let head = read.head;
     put_head(head, n, sizes, lists, leaders, stated);
     let outcome = read.outcome;

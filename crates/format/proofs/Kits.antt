@@ -12,7 +12,7 @@ use Rattle.format.specs.Parse.{bad, bind, numberAt, judged, field, many,
 use Rattle.format.specs.Parse.{wrongUnder, parseIn, parseUnder, parse}
 use Rattle.format.specs.WellFormed.{All, none, more}
 use Rattle.format.specs.Builds.{widthIn, byte, options, optionSize, tables, firstTable, rowWidth, bigEndian, tableRow, nextTable}
-use Rattle.format.specs.Profile.{rowsPaired, tablePaired, unpairedAmong, unpairedPlace, parsePaired}
+use Rattle.format.specs.Profile.{rowsPaired, tablePaired, unpairedAmong, unpairedPlace, thenPaired, parsePaired}
 
 -- Bytes, and the place that is named, or 0.
 pub record Kit : Type 0 where
@@ -43,5 +43,5 @@ kits-placed = more refl (more refl (more refl (more refl (more refl (more refl (
 
 -- "after all other tests of reading": L with a byte more is refused with 6 at 13.
 pub extent-first : (c : Cause) → parsePaired c (1 ∷ 0 ∷ 11 ∷ 2 ∷ 2 ∷ 2 ∷ 1 ∷ 1 ∷ 2 ∷ 0 ∷ 1 ∷ 0 ∷ 1 ∷ 0 ∷ []) ≡ bad Extent 13
-unfolding and or not if countTest sizeTest constraintsTest outOfRange pairTest rowTest longest version1 version2 version3 layouts layoutAmong bind numberAt judged field many fields pairOf sizeOf parseTable parseTables ended parseBody wrongUnder parseIn parseUnder parse parsePaired
+unfolding and or not if countTest sizeTest constraintsTest outOfRange pairTest rowTest longest version1 version2 version3 layouts layoutAmong bind numberAt judged field many fields pairOf sizeOf parseTable parseTables ended parseBody wrongUnder parseIn parseUnder parse thenPaired parsePaired
 extent-first c = refl

@@ -2,7 +2,7 @@
 use mathlib.Core.Bool.{Bool, true, false, false≢true}
 use mathlib.Core.List.{List, _∷_}
 use mathlib.Core.Path.{_≡_, refl, sym, _∙_, ap, ap₂, subst}
-use Prim.Native.Nat.{ℕ, suc, _+_, _-_, _*_, _≤_, _<_}
+use Prim.Native.Nat.{ℕ, zero, suc, _+_, _-_, _*_, _≤_, _<_}
 use native.Mathlib.Omega.{arith}
 use lib.Dec.{leb, ltb}
 use lib.ListN.{length, getD}
@@ -23,13 +23,12 @@ use Rattle.network.proofs.Tables.{isFor-e, tabled-here, tabled-later, tabled-ca
 use Rattle.network.proofs.Reduction.{keeps-trans, run-keeps, run-sound, reduce-run}
 use Rattle.network.proofs.Paired.{Paired, profile-decided, paired-e, paired-none, first-before, second-before, first-unpaired}
 use Rattle.format.specs.Layout.{Layout, found, layoutOf, longest}
-use Rattle.format.specs.Parse.{Parse, Octets, got, bad, bind, pairOf, sizeOf, parse}
+use Rattle.format.specs.Parse.{Parse, Octets, got, bad, pairOf, sizeOf, parse}
 use Rattle.format.specs.Print.{printAll, printTable, printBody}
 use Rattle.format.specs.WellFormed.{All, TableFits, Ascend}
-use Rattle.format.specs.Builds.{byte, optionSize, tables, nextTable, tableRow, placeAmong, tablePlace, hasTable}
-use Rattle.format.specs.Profile.{rowsPaired, tablePaired, unpairedAmong, unpairedPlace, parsePaired}
+use Rattle.format.specs.Builds.{byte, optionSize, tables, firstTable, nextTable, tableRow, placeAmong, tablePlace, hasTable}
+use Rattle.format.specs.Profile.{rowsPaired, tablePaired, unpairedAmong, unpairedPlace, placePast, FirstOther, thenPaired, parsePaired}
 use Rattle.format.proofs.Numbers.{Stands, stands-front, stands-back}
-use Rattle.format.proofs.Parse.{bind-got}
 use Rattle.format.proofs.All.{all-map}
 use Rattle.format.proofs.Lengths.{largest-sheet}
 use Rattle.format.proofs.RoundTrip.{tables-stand, SheetRead, parsed}
@@ -219,6 +218,72 @@ module _
           ∙ sym (if-false _ _ _ (own-pair L bytes v s end h t f at next front i j ∙ q)
           ∙ ap (placeAmong bytes (suc i) (suc j) (length ts)) (next-table L bytes v s end h t f at next front)))))
 
+-- ---- the first in the file, whatever the bytes are
+
+module _ (bytes : List ℕ) where
+  next-later : (at : ℕ) → 0 < nextTable bytes at
+  unfolding nextTable
+  next-later at = omega arith
+
+  one-more : (at : ℕ) → tablePaired bytes at ≡ true → (k : ℕ)
+      → ((m : ℕ) → m < k → tablePaired bytes (placePast bytes m (nextTable bytes at)) ≡ true)
+      → (m : ℕ) → m < suc k → tablePaired bytes (placePast bytes m at) ≡ true
+  unfolding placePast
+  one-more at t k b zero h = t
+  one-more at t k b (suc m) h = b m (omega arith)
+
+  -- Where the walk finds none, all are functional both ways.
+  among-paired : (p at : ℕ) → 0 < at → unpairedAmong bytes p at ≡ 0 → (k : ℕ) → k < p → tablePaired bytes (placePast bytes k at) ≡ true
+  unfolding unpairedAmong
+  among-paired zero at z e k l = absurd (let x : ⊥ = omega arith in x)
+  among-paired (suc p) at z e k l =
+      by-cases (tablePaired bytes at)
+      (λ t. one-more at t p
+      (among-paired p (nextTable bytes at) (next-later at) (sym (if-true _ (unpairedAmong bytes p (nextTable bytes at)) at t) ∙ e)) k l)
+      (λ t. absurd (let q : at ≡ 0 = sym (if-false _ (unpairedAmong bytes p (nextTable bytes at)) at t) ∙ e in let x : ⊥ = omega arith in x))
+
+  -- The one that it finds is one of them, and those before it are.
+  among-first : (p at : ℕ) → (unpairedAmong bytes p at ≡ 0 → ⊥)
+      → (k : ℕ) × (k < p) × (unpairedAmong bytes p at ≡ placePast bytes k at) × (tablePaired bytes (unpairedAmong bytes p at) ≡ false)
+      × ((m : ℕ) → m < k → tablePaired bytes (placePast bytes m at) ≡ true)
+  unfolding unpairedAmong placePast
+  among-first zero at n = absurd (n refl)
+  among-first (suc p) at n =
+      by-cases (tablePaired bytes at)
+      (λ t.
+      let e : unpairedAmong bytes (suc p) at ≡ unpairedAmong bytes p (nextTable bytes at) = if-true _ _ _ t in
+      let (k, l, q, o, b) = among-first p (nextTable bytes at) (λ z. n (e ∙ z)) in
+      (suc k, omega arith, e ∙ q, ap (tablePaired bytes) e ∙ o, one-more at t k b))
+      (λ t.
+      let e : unpairedAmong bytes (suc p) at ≡ at = if-false _ _ _ t in
+      (0, omega arith, e, ap (tablePaired bytes) e ∙ t, λ m h. absurd (let x : ⊥ = omega arith in x)))
+
+  pub none-other : unpairedPlace bytes ≡ 0 → (k : ℕ) → k < tables bytes → tablePaired bytes (placePast bytes k (firstTable bytes)) ≡ true
+  unfolding unpairedPlace firstTable
+  none-other e k l = among-paired (tables bytes) (firstTable bytes) (omega arith) e k l
+
+  pub first-other : (unpairedPlace bytes ≡ 0 → ⊥) → FirstOther bytes (unpairedPlace bytes)
+  unfolding unpairedPlace
+  first-other n =
+      let (k, l, q, o, b) = among-first (tables bytes) (firstTable bytes) n in
+      record { before = k; in-file = l; stands = q; other-kind = o; all-before = b }
+
+-- ---- what the reading call answers, by the place
+
+-- "after all other tests of reading"
+pub refused-alike : (c d : Cause) (bytes : List ℕ) (at : ℕ) → parse bytes ≡ bad d at → parsePaired c bytes ≡ bad d at
+unfolding parsePaired thenPaired
+refused-alike c d bytes at e = ap (thenPaired c (unpairedPlace bytes)) e
+
+module _ (c : Cause) (bytes : List ℕ) (s : Sheet) (end : ℕ) (e : parse bytes ≡ got s end) where
+  pub no-place : unpairedPlace bytes ≡ 0 → parsePaired c bytes ≡ got s end
+  unfolding parsePaired thenPaired
+  no-place z = ap (thenPaired c (unpairedPlace bytes)) e ∙ if-true _ _ _ (eq-eqb _ 0 z)
+
+  pub a-place : (unpairedPlace bytes ≡ 0 → ⊥) → parsePaired c bytes ≡ bad c (unpairedPlace bytes)
+  unfolding parsePaired thenPaired
+  a-place n = ap (thenPaired c (unpairedPlace bytes)) e ∙ if-false _ _ _ (ne-eqb _ 0 n)
+
 -- Of a sheet that was parsed.
 module _ (bytes : List ℕ) (octets : Octets bytes) (s : Sheet) (end : ℕ) (e : parse bytes ≡ got s end) where
   read : SheetRead bytes s end
@@ -296,20 +361,11 @@ module _ (bytes : List ℕ) (octets : Octets bytes) (s : Sheet) (end : ℕ) (e :
 
   -- What the reading call answers: the sheet, or the place of the first pair of another kind.
   pub paired-accepted : (c : Cause) → paired (networkOf s) ≡ true → parsePaired c bytes ≡ got s end
-  unfolding parsePaired
-  paired-accepted c p = bind-got _ (parse bytes) e ∙ if-true _ _ _ (eq-eqb _ _ (place-none p))
+  paired-accepted c p = no-place c bytes s end e (place-none p)
 
   pub unpaired-refused : (c : Cause) → paired (networkOf s) ≡ false
       → parsePaired c bytes ≡ bad c (tablePlace bytes (suc (unpairedFirst (networkOf s))) (suc (unpairedSecond (networkOf s))))
-  unfolding parsePaired
-  unpaired-refused c p =
-      bind-got _ (parse bytes) e
-      ∙ (if-false _ _ _ (ne-eqb (unpairedPlace bytes) 0 (λ q. let x : ⊥ = omega (arith, place-there p) in x)) ∙ ap (bad c) (place-first p))
-
--- "after all other tests of reading"
-pub refused-alike : (c d : Cause) (bytes : List ℕ) (at : ℕ) → parse bytes ≡ bad d at → parsePaired c bytes ≡ bad d at
-unfolding parsePaired bind
-refused-alike c d bytes at e = rw e
+  unpaired-refused c p = a-place c bytes s end e (λ q. omega (arith, place-there p)) ∙ ap (bad c) (place-first p)
 
 -- What the call accepts the old one accepts, and it is of the profile.
 pub accepted-paired : (c : Cause) (bytes : List ℕ) → Octets bytes → (s : Sheet) (end : ℕ) → parsePaired c bytes ≡ got s end

@@ -100,6 +100,12 @@ after-keeps N s (c ∷ cs) =
     keeps-cong N (after (answer N c) cs) _ _ (λ f. sym (keeps-to-both (adds N c) (addedBy (answer N c) cs) f))
     (keeps-then N (answer N c) (after (answer N c) cs) _ _ k (after-keeps (answer N c) (k .still-sound) cs))
 
+-- Two lists of calls, one after the other.
+pub after-both : (N : Network) (cs ds : List Call) → after N (cs ++ ds) ≡ after (after N cs) ds
+unfolding after
+after-both N [] ds = refl
+after-both N (c ∷ cs) ds = after-both (answer N c) cs ds
+
 -- A call that is to add nothing adds nothing, refused or not.
 pub adds-none : (N : Network) (c : Call) → tablesOf c ≡ [] → adds N c ≡ []
 adds-none N c e = by-cases (eqb (refuses N c) 0) (λ t. adds-taken N c t ∙ e) (λ t. adds-refused N c t)

@@ -1,27 +1,34 @@
 -- Where all tables are functional both ways, no reduction leaves two free variables stated together (document 02, L14).
 use mathlib.Core.Bool.{Bool, true, false}
+use mathlib.Core.List.{List, [], _∷_, _++_}
 use mathlib.Core.Logic.{_↔_}
-use mathlib.Core.Path.{_≡_, sym, _∙_, ap₂, ap}
-use Prim.Native.Nat.{ℕ, _≤_, _<_}
+use mathlib.Core.Path.{_≡_, refl, sym, _∙_, ap₂, ap}
+use Prim.Native.Nat.{ℕ, pred, _≤_, _<_}
 use native.Mathlib.Omega.{arith}
-use lib.Dec.{ltb}
+use lib.Dec.{eqb, ltb}
+use lib.ListN.{length}
 use borrow.Author.Tests.{eqb-false, ltb-true, ltb-false}
-use Rattle.bounded.specs.Bool.{and, not}
+use Rattle.bounded.specs.Bool.{and, not, if}
 use Rattle.bounded.specs.Fold.{some}
 use Rattle.bounded.proofs.Bool.{by-cases, clash, not-true→false, and-i, and-l, and-r, and-comm, not-i, not-e}
 use Rattle.bounded.proofs.Fold.{every-i, every-e, some-i, some-e, none-of, first-below, first-some, first-passes}
 use Rattle.network.specs.Network.{Network, free, functional, solves}
 use Rattle.network.specs.Sound.{Sound}
-use Rattle.network.specs.Step.{legal, third, followed}
+use Rattle.network.specs.Step.{legal, third, relisted, followersTrimmed, followed}
 use Rattle.network.specs.Reduction.{reducible, reduce, Run, done, next}
 use Rattle.network.specs.Completion.{NONE, BUILT, OPEN, decided, verdict, shown}
+use Rattle.network.specs.Trimming.{liveTrimmed, Rounds, last, then}
+use Rattle.network.specs.Calls.{Call, follow-step, full-reduction, trimmed-reduction, led-reduction, add-table, refuses, made, answer, after, tablesOf, tableless}
 use Rattle.network.specs.Paired.{unpaired, hasUnpaired, paired, unpairedFirst, unpairedSecond}
 use Rattle.network.proofs.Pairs.{pair-case}
 use Rattle.network.proofs.Step.{Legal, legal-e, legal-i, third-e}
 use Rattle.network.proofs.Keep.{followed-sound, free-after}
 use Rattle.network.proofs.Completion.{verdict-none, verdict-open, decided-apart, exhausted-none, decided-none, decided-built}
 use Rattle.network.proofs.Reduction.{run-sound, run-solves, reduce-run, reduce-stops, not-reducible}
-use Rattle.network.proofs.Through.{followed-moves, functional-stays, functional-through, functional-back}
+use Rattle.network.proofs.Trimming.{live-sound, live-fewer, alternate-rounds}
+use Rattle.network.proofs.Lead.{lead-run}
+use Rattle.network.proofs.Calls.{not-refused-legal, answer-taken, answer-refused, answer-keeps, after-keeps, after-both}
+use Rattle.network.proofs.Through.{functional-fewer, followed-moves, functional-stays, functional-through, functional-back}
 
 -- Each two free variables that are stated together are functional, from either side since `stated` is alike from both.
 unfoldable pub Paired : Network → Type 0
@@ -110,6 +117,50 @@ module _ (N M : Network) {k : ℕ} (S : Sound N) (R : Run N M k) (P : Paired N) 
   profile-built v =
       let b = decided-built _ sound-end profile-decided v in
       (b .0, sym (profile-solves _) ∙ b .1)
+
+-- ---- after any list of calls that adds no table
+
+-- Trimming takes values alone,
+live-paired : (N : Network) → Sound N → Paired N → Paired (liveTrimmed N)
+unfolding Paired liveTrimmed followersTrimmed relisted free
+live-paired N S P x y fx fy s = functional-fewer N (liveTrimmed N) S x y (live-fewer N S) (λ a b h. h) (P x y fx fy s)
+
+-- and so do the rounds of it,
+rounds-paired : {N M : Network} {k : ℕ} → Sound N → Rounds N M k → Paired N → Paired M
+rounds-paired {N} S (last h) P = live-paired N S P
+rounds-paired {N} S (then d r) P =
+    let L = live-sound N S in
+    let R = reduce-run (liveTrimmed N) in
+    rounds-paired (run-sound L R) r (run-paired L R (live-paired N S P))
+
+-- and so every call that is to add no table: a clause for each.
+made-paired : (N : Network) → Sound N → (c : Call) → eqb (length (tablesOf c)) 0 ≡ true → eqb (refuses N c) 0 ≡ true → Paired N → Paired (made N c .network)
+unfolding refuses made tablesOf
+made-paired N S (follow-step l f) e t P = step-paired N S (pred l) (pred f) (not-refused-legal N l f t) P
+made-paired N S full-reduction e t P = run-paired S (reduce-run N) P
+made-paired N S trimmed-reduction e t P = rounds-paired S (alternate-rounds N S) P
+made-paired N S (led-reduction l) e t P = run-paired S (lead-run N (pred l)) P
+made-paired N S (add-table x y rows) e t P = clash e refl
+
+answer-paired : (N : Network) → Sound N → (c : Call) → eqb (length (tablesOf c)) 0 ≡ true → Paired N → Paired (answer N c)
+answer-paired N S c e P =
+    by-cases (eqb (refuses N c) 0)
+    (λ t. rw (answer-taken N c t) (made-paired N S c e t P))
+    (λ t. rw (answer-refused N c t) P)
+
+pub after-paired : (N : Network) → Sound N → (cs : List Call) → tableless cs ≡ true → Paired N → Paired (after N cs)
+unfolding after tableless
+after-paired N S [] e P = P
+after-paired N S (c ∷ cs) e P =
+    after-paired (answer N c) (answer-keeps N S c .still-sound) cs (and-r _ _ e) (answer-paired N S c (and-l _ _ e) P)
+
+-- "never OPEN after reduction": no two free variables are stated together then.
+pub after-decided : (N : Network) → Sound N → (cs : List Call) → tableless cs ≡ true → Paired N → decided (after N (cs ++ (full-reduction ∷ []))) ≡ true
+after-decided N S cs e P =
+    let M = after N cs in
+    let last : after N (cs ++ (full-reduction ∷ [])) ≡ reduce M .network =
+    after-both N cs (full-reduction ∷ []) ∙ (unfold after answer refuses made if in refl) in
+    rw last (profile-decided M M (after-keeps N S cs .still-sound) done (after-paired N S cs e P))
 
 -- The first pair of another kind: it is one, its first variable comes before its second, and no such pair comes before it, by a and then by b.
 module _ (N : Network) (S : Sound N) where

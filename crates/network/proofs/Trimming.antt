@@ -19,7 +19,7 @@ use Rattle.network.specs.Promise.{Keeps}
 use Rattle.network.specs.Trimming.{Lists, Partnered, Within, Cut, Largest, Removes, supported, consistent, pass, passesWithin, valueCount, largest}
 use Rattle.network.specs.Trimming.{liveTrimmed, moreSteps, alternateWithin, alternate, Rounds, last, then, Rests}
 use Rattle.network.proofs.Sound.{free-or-led, led-not-free}
-use Rattle.network.proofs.Trim.{trim-same, trim-solves, relisted-sound, relisted-free, relisted-trims}
+use Rattle.network.proofs.Trim.{trim-fewer, trim-same, trim-solves, relisted-sound, relisted-free, relisted-trims}
 use Rattle.network.proofs.Completion.{solves-domain, solves-pair, solves-i, some-free}
 use Rattle.network.proofs.Reduction.{keeps-trans, taken, run-keeps, run-free, reduce-run, reduce-count, reduce-stops}
 use Rattle.network.proofs.Reduction.{reduceWithin-stop, reduceWithin-step, reduceWithin-zero}
@@ -206,6 +206,11 @@ module _ (N : Network) (S : Sound N) where
   pub live-sound : Sound (liveTrimmed N)
   unfolding liveTrimmed
   live-sound = relisted-sound N S (largest N) largest-fewer largest-led
+
+  -- No list gains a value.
+  pub live-fewer : (x a : ℕ) → liveTrimmed N .domain x a ≡ true → N .domain x a ≡ true
+  unfolding liveTrimmed relisted
+  live-fewer x a h = largest-fewer x a (trim-fewer (relisted N (largest N)) x a h)
 
   -- A free variable's domain is its list,
   pub live-domain : (x a : ℕ) → free N x ≡ true → liveTrimmed N .domain x a ≡ largest N x a

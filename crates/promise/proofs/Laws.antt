@@ -126,7 +126,7 @@ sound-laws s h t =
 -- ---- after a list of calls
 
 -- Two lists of calls, one after the other.
-after-both : (s : State) (cs ds : List Call) → stateAfter s (cs ++ ds) ≡ stateAfter (stateAfter s cs) ds
+pub after-both : (s : State) (cs ds : List Call) → stateAfter s (cs ++ ds) ≡ stateAfter (stateAfter s cs) ds
 unfolding stateAfter
 after-both s [] ds = refl
 after-both s (c ∷ cs) ds = after-both (handedBack s c) cs ds

@@ -12,6 +12,7 @@ pub use cause::Cause;
 pub use cause::number as cause_number;
 pub use sheets::cut;
 pub use sheets::read;
+pub use sheets::read_paired;
 pub use sheets::write;
 pub use state::Answer;
 pub use state::CutAnswer;

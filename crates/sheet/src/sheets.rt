@@ -7,12 +7,13 @@ use state::State;
 use state::head_in;
 use state::state_of;
 use state_cut::cut_parts;
+use state_paired::read_paired_parts;
 use state_read::read_parts;
 use state_write::write_parts;
 ghost use mathlib.Core.Path.{_≡_};
 ghost use Rattle.answers.specs.Answers.{writeTold};
 ghost use Rattle.state.specs.Answers.{readTold};
-ghost use Rattle.state.specs.Read.{readSheet};
+ghost use Rattle.state.specs.Read.{readSheet, readPaired};
 ghost use Rattle.state.specs.Write.{writeSheet};
 ghost use Rattle.state.specs.Cut.{cutTold, cutSheet};
 
@@ -22,6 +23,19 @@ pub fn read(bytes: &[u8]) -> ReadAnswer
 {
     let mut rows = [0u32; PLACES];
     let read = read_parts(bytes, &mut rows);
+    let outcome = read.outcome;
+    let head = read.head;
+    let state = state_of(head, rows);
+    ReadAnswer { outcome, state }
+}
+
+// The same for the paired profile: "refuses with 31 and the zero state a sheet that has another kind of table, naming the place of the first such pair, after
+// all other tests of reading".
+pub fn read_paired(bytes: &[u8]) -> ReadAnswer
+    ensures { λ r. ⌜ readTold r ≡ readPaired (now (bytes .entry)) ⌝ }
+{
+    let mut rows = [0u32; PLACES];
+    let read = read_paired_parts(bytes, &mut rows);
     let outcome = read.outcome;
     let head = read.head;
     let state = state_of(head, rows);

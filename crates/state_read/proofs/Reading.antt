@@ -1,6 +1,6 @@
 -- What reading into arrays comes to as a state.
 use mathlib.Core.List.{List}
-use mathlib.Core.Path.{_≡_, sym, _∙_, ap}
+use mathlib.Core.Path.{_≡_, refl, sym, _∙_, ap}
 use Prim.Native.Nat.{ℕ, _+_, _≤_, _<_}
 use native.Mathlib.Omega.{arith}
 use lib.Dec.{ltb}
@@ -18,7 +18,7 @@ use Rattle.network.specs.Sheet.{Sheet, networkOf}
 use Rattle.pairs.specs.Pairs.{variables}
 use Rattle.head.specs.declared.Head.{Head}
 use Rattle.head.specs.Held.{mostValues, headOf, zeroHead, zeroRows}
-use Rattle.format.specs.Parse.{Octets, parse}
+use Rattle.format.specs.Parse.{Octets, bad, parse}
 use Rattle.format.proofs.RoundTrip as format
 use Rattle.format.proofs.SheetOf.{wellformed-size}
 use Rattle.read_field.specs.declared.field.Read.{Read}
@@ -90,6 +90,11 @@ read-head s n sizes stated rows e H =
       stated = H .stated-are i;
     }
 
+-- A refusal: its number, its place and the zero state.
+pub refused-told : (c : Cause) (at : ℕ) → readPartsTold (record { outcome = readOutcome.Refused c at; head = zeroHead }) zeroRows ≡ readAs (bad c at)
+unfolding readAs readPartsTold readNumber readPlace zeroState
+refused-told c at = refl
+
 module _ (bytes : List ℕ) {sizes stated rows : List ℕ} {r : Read} (R : SheetRead (parse bytes) sizes stated rows r) where
   -- An accepted sheet: the state of the arrays is the one of its network.
   pub read-accepted : {n next : ℕ} → r ≡ Value n next
@@ -100,11 +105,10 @@ module _ (bytes : List ℕ) {sizes stated rows : List ℕ} {r : Read} (R : Sheet
       rw (as-got _ r _ n next (R .parsed) e)
       (λ i. record { number = 0; place = 0; state = stateOf (read-head (R .sheet) n sizes stated rows (R .count-is n next e) H i) (H .rows-are i) })
 
-  -- A refused one: its number, its place and the zero state.
-  pub read-refused : {c : Cause} {at : ℕ} → r ≡ Refused c at
-      → readPartsTold (record { outcome = readOutcome.Refused c at; head = zeroHead }) zeroRows ≡ readSheet bytes
-  unfolding readSheet readAs readPartsTold readNumber readPlace zeroState
-  read-refused {c} {at} e = rw (as-bad _ r _ c at (R .parsed) e)
+  -- A refused one.
+  pub read-refused : {c : Cause} {at : ℕ} → r ≡ Refused c at → readAs (bad c at) ≡ readSheet bytes
+  unfolding readSheet
+  read-refused {c} {at} e = sym (ap readAs (as-bad _ r _ c at (R .parsed) e))
 
   -- The sizes of an accepted sheet are at most 16, 0 past them,
   pub read-past : {n next : ℕ} → r ≡ Value n next → (i : ℕ) → n ≤ i → getD sizes i 0 ≡ 0

@@ -7,9 +7,11 @@ ghost use Rattle.bounded.specs.Table.{tabulate};
 ghost use Rattle.words.specs.Word.{width, word};
 ghost use Rattle.pairs.specs.Pairs.{variables};
 ghost use Rattle.head.specs.Held.{zeroHead, zeroRows};
-ghost use Rattle.state.specs.Read.{readSheet};
+ghost use Rattle.format.specs.Parse.{bad};
+ghost use Rattle.state.specs.Read.{readAs, readSheet};
 ghost use Rattle.state_read.specs.Parts.{readPartsTold};
 use answers::ReadOutcome;
+use cause::Cause;
 use head::Head;
 use head::Rows;
 use head::VARIABLES;
@@ -52,7 +54,18 @@ fn zero_rows(rows: &mut Rows)
     *rows = [0; PLACES];
 }
 
-// The state of a sheet's bytes, of any length and contents, or why and where they are refused. "The zero state is zero throughout": so are then the rows.
+// A refusal, with its place. "The zero state is zero throughout": so are the rows, whatever had been read.
+pub fn refused(cause: Cause, place: usize, rows: &mut Rows) -> ReadParts
+    ensures { λ r. ⌜ readPartsTold r (now (rows .exit)) ≡ readAs (bad cause place) ⌝ }
+{
+    zero_rows(rows);
+    ReadParts {
+        outcome: ReadOutcome::Refused(cause, place),
+        head: zero_head(),
+    }
+}
+
+// The state of a sheet's bytes, of any length and contents, or why and where they are refused.
 pub fn read_parts(bytes: &[u8], rows: &mut Rows) -> ReadParts
     requires { ⌜ now rows ≡ zeroRows ⌝ }
     ensures { λ r. ⌜ readPartsTold r (now (rows .exit)) ≡ readSheet (now (bytes .entry)) ⌝ }
@@ -75,12 +88,6 @@ pub fn read_parts(bytes: &[u8], rows: &mut Rows) -> ReadParts
                 head,
             }
         }
-        Read::Refused(cause, place) => {
-            zero_rows(rows);
-            ReadParts {
-                outcome: ReadOutcome::Refused(cause, place),
-                head: zero_head(),
-            }
-        }
+        Read::Refused(cause, place) => refused(cause, place, rows),
     }
 }

@@ -1,6 +1,7 @@
 // The library's calls, with answers as plain numbers and buffers by value.
 use crate::states;
 use sheet::Answer;
+use sheet::ReadAnswer;
 use sheet::TestAnswer;
 use sheet::Verdict;
 pub use sheet::is_sound;
@@ -102,9 +103,7 @@ pub fn lead(state: State, leader: usize) -> Stepping {
     stepped(state.lead(leader))
 }
 
-// The reader, on all the bytes.
-pub fn read(bytes: &[u8]) -> Reading {
-    let answer = sheet::read(bytes);
+fn answered(answer: ReadAnswer) -> Reading {
     let outcome = answer.outcome;
     let state = answer.state;
     Reading {
@@ -112,6 +111,16 @@ pub fn read(bytes: &[u8]) -> Reading {
         place: answers::read_place(outcome),
         state,
     }
+}
+
+// The reader, on all the bytes.
+pub fn read(bytes: &[u8]) -> Reading {
+    answered(sheet::read(bytes))
+}
+
+// The reader for the paired profile, on all the bytes.
+pub fn read_paired(bytes: &[u8]) -> Reading {
+    answered(sheet::read_paired(bytes))
 }
 
 fn test_number(answer: TestAnswer) -> u8 {

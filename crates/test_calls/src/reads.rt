@@ -9,6 +9,7 @@ use test_inputs::families::ROOM;
 use test_oracle::brute;
 use test_oracle::fields;
 use test_oracle::judge;
+use test_oracle::paired;
 
 // Compares what the reader answers for the bytes with what the judge says of them.
 pub fn check(bytes: &[u8], reading: Reading, tally: Tally) -> Tally {
@@ -26,6 +27,19 @@ pub fn check(bytes: &[u8], reading: Reading, tally: Tally) -> Tally {
     let is_read = is_same & are_fresh & (state.n == brute::options(bytes));
     let read = tally::expect(tally, tally::READS, is_read);
     tally::expect(read, tally::SOUND, calls::is_sound(state))
+}
+
+// The reader for the paired profile answers what the judge says of the bytes: what the other reader answered, number, place and state, or 31 and the zero
+// state.
+pub fn is_paired_reading(bytes: &[u8], reading: Reading) -> bool {
+    let paired = calls::read_paired(bytes);
+    let judged = paired::judge(bytes);
+    let is_judged = (judged.number == paired.number) & (judged.place == paired.place);
+    if judged.number == 31 {
+        return is_judged & (reading.number == 0) & states::same(paired.state, states::zero());
+    }
+    let is_alike = (reading.number == paired.number) & (reading.place == paired.place);
+    is_judged & is_alike & states::same(paired.state, reading.state)
 }
 
 // What stands past the end of a written sheet.

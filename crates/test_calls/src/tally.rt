@@ -1,7 +1,7 @@
 // How often each thing was tried, how often it came out wrong, and where the random numbers are.
 
 // One more than the greatest of the kinds that are counted.
-pub const KINDS: usize = 74;
+pub const KINDS: usize = 78;
 
 // The counts, and the seed of the number that is drawn next. It goes by value, as loans make proofs longer.
 pub struct Tally {
@@ -137,6 +137,14 @@ pub const ORDERS_WRONG: usize = 71;
 pub const ORDERS_ROOM: usize = 72;
 
 pub const ORDERS_UNSOUND: usize = 73;
+// Bytes for the paired profile: sheets that are accepted, those of them without a build, sheets refused with 31, and bytes that no reader accepts.
+pub const KITS: usize = 74;
+
+pub const KITS_NONE: usize = 75;
+
+pub const KITS_OTHER: usize = 76;
+
+pub const KITS_REFUSED: usize = 77;
 
 // Nothing is counted yet.
 pub fn start(seed: u64) -> Tally {
@@ -246,6 +254,16 @@ pub fn with_orders(tally: Tally, other: Tally) -> Tally {
     add(after, ORDERS_ROOM, counts[ORDERS_ROOM])
 }
 
+// What another tally counted of bytes for the paired profile, and what came out wrong there.
+pub fn with_kits(tally: Tally, other: Tally) -> Tally {
+    let counts = other.counts;
+    let mut after = add(tally, KITS, counts[KITS]);
+    after = add(after, KITS_NONE, counts[KITS_NONE]);
+    after = add(after, KITS_OTHER, counts[KITS_OTHER]);
+    after = add(after, KITS_REFUSED, counts[KITS_REFUSED]);
+    add(after, DIFFERENCES, counts[DIFFERENCES])
+}
+
 fn print_number(number: u64) {
     io::write_all(1, b" ");
     io::print_decimal(1, number);
@@ -297,7 +315,9 @@ pub fn print_checks(counts: &[u64; KINDS]) {
         tests, completions, verdicts and searches after these\n\
         orders found\norders found that are not by number\n\
         tested lists that are good orders\ntested lists that are other orders\ntested lists refused with 30\n\
-        findings refused with 14\nfindings and tests of orders refused with 9\n",
+        findings refused with 14\nfindings and tests of orders refused with 9\n\
+        sheets of the paired profile\nsuch sheets without a build\nsheets refused with 31\n\
+        bytes that neither reader accepts\n",
         DAMAGED_STATES,
         counts,
     );

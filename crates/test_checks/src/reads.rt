@@ -7,6 +7,7 @@ use test_calls::reads::check_read_as;
 pub use test_calls::reads::check_refused;
 pub use test_calls::reads::check_unwritten;
 pub use test_calls::reads::check_written;
+pub use test_calls::reads::is_paired_reading;
 use test_calls::tally;
 use test_calls::tally::Tally;
 use test_calls::versions;

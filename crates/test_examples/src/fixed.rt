@@ -1,11 +1,12 @@
 // Fixed examples that are neither sheets nor lists of calls with tables added: refused bytes, texts, steps, answers on fixed states, searches, page nine,
-// lists of followers, and orders.
+// lists of followers, orders, and bytes for the paired profile.
 use crate::contrary;
 use crate::followers;
 use crate::lines::expect_text;
 use crate::lines::play;
 use crate::lines::read;
 use crate::orders;
+use crate::profile;
 use test_calls::states;
 use test_calls::tally::Tally;
 use test_checks::lists;
@@ -272,5 +273,6 @@ pub fn run(tally: Tally) -> Tally {
     run = fitted(run);
     run = followers::run(run);
     run = orders::run(run);
+    run = profile::run(run);
     run.tally
 }

@@ -14,6 +14,8 @@ mod orders;
 pub mod outcomes;
 // Parts of a line.
 pub mod parts;
+// Bytes for the paired profile.
+mod profile;
 // What a state answers.
 mod replies;
 // Calls that lead from a state to another.

@@ -1,5 +1,6 @@
 // Lists of examples. A line of a list is a letter and two parts, what is given and what it must come to; a part is a byte that counts its bytes, and these.
 // R: bytes; the number and the place that they are refused with, or 0 and 0. A run starts on the state handed back, and the lines after it act on that.
+// k: bytes; the number and the place that the reader for the paired profile refuses them with, or 0 and 0.
 // a: two options and the rows of a table; the number that it is refused with, or 0.
 // e: a leader and a follower; the number that the step is refused with, or 0.
 // r: a full reduction.
@@ -55,6 +56,15 @@ pub fn expect_text(bytes: &[u8], text: &[u8], tally: Tally) -> Tally {
     tally::expect(tally, tally::TEXTS, is_same)
 }
 
+// The reader for the paired profile refuses the bytes with a number at a place, or accepts them.
+fn expect_paired(bytes: &[u8], answer: &[u8], tally: Tally) -> Tally {
+    let paired = calls::read_paired(bytes);
+    let is_refused = paired.number == byte(answer, 0);
+    let is_placed = paired.place == byte(answer, 1) as usize;
+    let is_read = reads::is_paired_reading(bytes, calls::read(bytes));
+    tally::expect(tally, tally::EXAMPLES, is_refused & is_placed & is_read)
+}
+
 // The writer, in a version and on a buffer of so much room.
 fn check_unwritten(state: State, given: &[u8], answer: &[u8], tally: Tally) -> Tally {
     let version = number(given, 0);
@@ -67,6 +77,7 @@ fn check(run: Run, letter: u8, given: &[u8], answer: &[u8]) -> Tally {
     let tally = run.tally;
     match letter {
         b'p' => expect_text(given, answer, tally),
+        b'k' => expect_paired(given, answer, tally),
         b'v' => reads::check_written(answer, run.state, tally),
         b'n' => check_unwritten(run.state, given, answer, tally),
         _ => {

@@ -102,7 +102,7 @@ fn altered(kind: u64, sheet: Sheet, at: usize, seed: &mut u64) -> Sheet {
 }
 
 // One change to a sheet; it may leave a sheet that is accepted.
-fn changed(sheet: Sheet, seed: &mut u64) -> Sheet {
+pub fn changed(sheet: Sheet, seed: &mut u64) -> Sheet {
     let at = place(sheet.length, seed);
     let kind = random::below(seed, 10);
     let other = altered(kind, sheet, at, seed);

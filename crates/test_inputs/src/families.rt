@@ -34,6 +34,10 @@ pub const FULL: u8 = 10;
 // 16 options of 32 values and every table, in version 2 or 3: 15,621 bytes.
 pub const LARGEST: u8 = 11;
 
+// Each value of the second option in one row at most, and a row with at most one, but where version 3 has no empty rows. It is not of the kinds that are
+// tried one after the other.
+pub const PAIRED: u8 = 14;
+
 pub fn put(bytes: &mut [u8; ROOM], at: usize, byte: u8) -> usize {
     if ROOM <= at {
         return at;
@@ -154,7 +158,7 @@ fn is_stated(family: u8, a: usize, b: usize, seed: &mut u64) -> bool {
 
 // The kind of a table's rows: that of its family, or drawn for each table.
 fn kind_of(family: u8, seed: &mut u64) -> u8 {
-    if family < MIXED {
+    if (family < MIXED) | (family == PAIRED) {
         return family;
     }
     (random::below(seed, 5) % 256) as u8
@@ -188,6 +192,14 @@ fn one_or_none(r: u32, q: u32, size: u8) -> u32 {
     one_value(q as usize, size)
 }
 
+// Past the values of the second option no value, and once in four rows none, else one that no other row has.
+fn one_apart(r: u32, shift: u8, v: usize, size: u8) -> u32 {
+    if (size as usize <= v) | (r % 4 == 0) {
+        return 0;
+    }
+    one_value(std::num::wrapping_add_usize(v, shift as usize), size)
+}
+
 // The row of value `v`, from two words that are drawn for it.
 pub(crate) fn row(kind: u8, r: u32, q: u32, shift: u8, v: usize, size: u8) -> u32 {
     match kind {
@@ -195,6 +207,7 @@ pub(crate) fn row(kind: u8, r: u32, q: u32, shift: u8, v: usize, size: u8) -> u3
         CHAINS => one_value(r as usize, size),
         BIJECTIVE => one_value(std::num::wrapping_add_usize(v, shift as usize), size),
         DENSE => (r | q) & within(size),
+        PAIRED => one_apart(r, shift, v, size),
         _ => one_or_none(r, q, size),
     }
 }

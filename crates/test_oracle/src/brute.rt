@@ -55,7 +55,7 @@ pub fn row(bytes: &[u8], at: usize) -> usize {
 }
 
 // The place of the row of value `v`, where the row of value 0 is at `at`.
-fn row_place(bytes: &[u8], at: usize, v: usize) -> usize {
+pub(crate) fn row_place(bytes: &[u8], at: usize, v: usize) -> usize {
     if row_length(bytes) == 2 {
         return past(at, v % 256 * 2);
     }
@@ -102,7 +102,7 @@ fn table_allows(bytes: &[u8], at: usize, tuple: [u8; 16]) -> bool {
 }
 
 // The place after the table at a place.
-fn table_end(bytes: &[u8], at: usize) -> usize {
+pub(crate) fn table_end(bytes: &[u8], at: usize) -> usize {
     let rows = size_of(bytes, byte(bytes, at) as usize);
     row_place(bytes, past(at, 2), rows)
 }

@@ -12,6 +12,8 @@ pub mod fields;
 pub mod judge;
 // Orders of options, and lists of numbers.
 pub mod orders;
+// What the reading for the paired profile is to say of some bytes.
+pub mod paired;
 // Tables that calls added to a sheet, and the builds that keep to them.
 pub mod tables;
 // What the verdict and the search are to say.

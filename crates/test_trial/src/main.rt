@@ -4,6 +4,8 @@ use test_examples::fixed;
 
 // Fixed sheets, and tables added to them.
 mod examples;
+// Sheets of the paired profile.
+mod kits;
 // Lists of sheets.
 mod lists;
 // A second series of sheets, with runs that a named option leads, and orders.
@@ -23,7 +25,8 @@ fn run_examples() {
 
 fn run_trials() {
     let tried = trials::run(tally::start(12512540579826779257));
-    let run = series::run(2685821657736338717, tried);
+    let listed = series::run(2685821657736338717, tried);
+    let run = kits::run(9600629759793949339, 1000, listed);
     tally::print(
         b"sparse\nchains\nbijective\nempty rows\ndense\nmixed\nwide\nwider\nlarge\n\
         larger\nfull\nlargest\ndamaged\nrandom bytes\n",

@@ -84,7 +84,8 @@ fn check_run(family: u8, bytes: &[u8], state: State, tally: Tally) -> Tally {
 // Bytes that were read, and a list of calls where they are a sheet.
 fn check_bytes(family: u8, bytes: &[u8], reading: Reading, tally: Tally) -> Tally {
     let read = reads::check(bytes, reading, tally);
-    let cut = cuts::check(bytes, reading, read);
+    let paired = tally::hold(read, reads::is_paired_reading(bytes, reading));
+    let cut = cuts::check(bytes, reading, paired);
     if reading.number != 0 {
         return cut;
     }

@@ -1,3 +1,4 @@
+use mathlib.Core.Path.{_∙_}
 use native.Mathlib.Omega.{arith}
 use borrow.Author.Needs.{needs}
 use Rattle.format.specs.Parse.{Octets}
@@ -23,11 +24,9 @@ returns c =
     (read-accepted _ (c .before .before .before .before .read-into .ensures) (c .before .before .n .given .1))
 
 returns-2 : tie.Need-returns-2
-unfolding readPartsTold
 returns-2 c =
-    let k = c .before .before .before .before in
-    rw (c .zero-head .ensures, c .before .zero-rows .ensures)
-    (read-refused _ (k .before .before .read-into .ensures) (k .cause .given .1))
+    let k = c .before .before .before in
+    c .refused .ensures ∙ read-refused _ (k .before .before .read-into .ensures) (k .cause .given .1)
 
 pub read-parts-spec : {M : Type 1} → statement M
 read-parts-spec =
@@ -37,7 +36,6 @@ read-parts-spec =
     (λ c. search needs)
     full-domains-requires
     (λ c. search needs)
-    (λ c κs. search needs)
     (λ c κs. search needs)
     returns
     returns-2)

@@ -1,0 +1,2 @@
+-- The reading call for the paired profile, beside the other one.
+pub mod Beside
