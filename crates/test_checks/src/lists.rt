@@ -19,6 +19,7 @@ use test_rules::followers;
 use test_rules::live;
 use test_rules::refusals;
 use test_rules::rules;
+use test_rules::unions;
 
 // The state handed back last, how many steps were taken, the tables that calls not refused added, and what was counted.
 pub struct Run {
@@ -124,13 +125,21 @@ fn count_rounds(before: State, once: State, last: State, tally: Tally) -> Tally 
     tally::add(shorter, tally::TRIMS_AGAIN, is_again as u64)
 }
 
+// Where all choices of live lists can be gone through, trimming leaves the union of those in which every value has its partners.
+fn check_union(before: State, tally: Tally) -> Tally {
+    if !unions::is_small(before) {
+        return tally;
+    }
+    tally::hold(tally, unions::is_union(before, live::trimmed(before)))
+}
+
 // The live lists trimmed against each other, in turn with the full reduction; and again, which changes nothing and takes no step.
 pub fn check_trim(run: Run) -> Run {
     let once = live::round(run.state);
     let last = live::alternated(once);
     let first = check_trim_to(run, last);
     let tally = count_rounds(run.state, once, last, first.tally);
-    check_trim_to(counted(first, tally), last)
+    check_trim_to(counted(first, check_union(run.state, tally)), last)
 }
 
 // A table for a follower is counted by the leaders of its two options.

@@ -17,3 +17,5 @@ pub mod paths;
 pub mod refusals;
 // The rules of a legal follow step, and the full reduction by them.
 pub mod rules;
+// The largest live lists, as the union of all that are partnered.
+pub mod unions;

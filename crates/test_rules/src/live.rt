@@ -29,7 +29,13 @@ fn is_partnered(
 }
 
 // The values in the list of `i` that have such partners.
-fn left_of(free: u32, lists: [u32; 16], stated: [u32; 16], rows: &[u32; 3840], i: usize) -> u32 {
+pub(crate) fn left_of(
+    free: u32,
+    lists: [u32; 16],
+    stated: [u32; 16],
+    rows: &[u32; 3840],
+    i: usize,
+) -> u32 {
     let list = word_at(lists, i);
     let mut left: u32 = 0;
     for a in 0..32 {
