@@ -1,3 +1,4 @@
+pub mod Alone
 pub mod Crowded
 pub mod Members
 pub mod Reached

@@ -1,16 +1,16 @@
-// Whether a pair is functional, in one pass over all rows of the pair, with no branch for any.
+// Whether a pair is functional: most pairs that are not say so at once, and the others in one pass over their rows.
 use pairs::Rows;
 use pairs_read::stored_row;
 use words::WIDTH;
 use words::both;
 use words::crowded;
 use words::either;
-use words::member;
+use words::lowest;
+ghost use mathlib.Core.Bool.{true, false};
 ghost use mathlib.Core.Path.{_≡_};
-ghost use Prim.Native.Nat.{ℕ, _<_};
-ghost use Rattle.bounded.specs.Bool.{and};
-ghost use Rattle.words.specs.Word.{width, has, word};
-ghost use Rattle.pairs.specs.Pairs.{variables, allowsOf, partnersWithin};
+ghost use Prim.Native.Nat.{_<_};
+ghost use Rattle.words.specs.Word.{width};
+ghost use Rattle.pairs.specs.Pairs.{variables, partnersWithin};
 ghost use Rattle.order_paths.specs.Crowded.{crowdedOf};
 
 // The values of `i` that have two partners or more in the domain `dj` of the higher `j`: their rows say it.
@@ -26,30 +26,33 @@ fn crowded_up(rows: &Rows, i: usize, j: usize, dj: u32) -> u32
     members
 }
 
-// The row of value `b` of `j`, as long as that is in the domain `dj`; `i` is higher.
-fn row_within(rows: &Rows, i: usize, j: usize, dj: u32, b: usize) -> u32
-    requires { ⌜ (j < i) × (i < variables) × (b < width) ⌝ }
-    ensures { λ r. ⌜ r ≡ word width (λ (a : ℕ). and (has dj b) (allowsOf width (now (rows .entry)) i j a b)) ⌝ }
+// The lowest value of the domain `di` of `i` has two partners or more in the domain `dj` of the higher `j`. It says no to most tables that are not functional.
+fn lowest_crowded(rows: &Rows, i: usize, j: usize, di: u32, dj: u32) -> bool
+    requires { ⌜ (i < j) × (j < variables) ⌝ }
+    ensures { λ r. ⌜ (r ≡ true → partnersWithin width (now (rows .entry)) i j di dj 0 1 ≡ false) ⌝ }
 {
-    if !member(dj, b) {
-        return 0;
+    if di == 0 {
+        return false;
     }
-    stored_row(rows, j, i, b)
+    crowded(both(dj, stored_row(rows, i, j, lowest(di))))
 }
 
-// The values of `i` that have two partners or more in the domain `dj` of the lower `j`: those that stand in two of its rows.
-fn crowded_down(rows: &Rows, i: usize, j: usize, dj: u32) -> u32
+// No value of the domain `di` of `i` stands in two rows of the values of the domain `dj` of the lower `j`. It leaves at the first row that shares one.
+fn functional_down(rows: &Rows, i: usize, j: usize, di: u32, dj: u32) -> bool
     requires { ⌜ (j < i) × (i < variables) ⌝ }
-    ensures { λ r. ⌜ r ≡ crowdedOf width (now (rows .entry)) i j dj ⌝ }
+    ensures { λ r. ⌜ r ≡ partnersWithin width (now (rows .entry)) i j di dj 0 1 ⌝ }
 {
     let mut seen: u32 = 0;
-    let mut again: u32 = 0;
-    for b in 0..WIDTH {
-        let row = row_within(rows, i, j, dj, b);
-        again = either(again, both(seen, row));
+    let mut rest = dj;
+    while rest != 0 {
+        let row = both(di, stored_row(rows, j, i, lowest(rest)));
+        if both(seen, row) != 0 {
+            return false;
+        }
         seen = either(seen, row);
+        rest = words::dropped(rest);
     }
-    again
+    true
 }
 
 // No value of the domain `di` of `i` has two partners in the domain `dj` of `j`.
@@ -58,7 +61,10 @@ pub fn functional(rows: &Rows, i: usize, j: usize, di: u32, dj: u32) -> bool
     ensures { λ r. ⌜ r ≡ partnersWithin width (now (rows .entry)) i j di dj 0 1 ⌝ }
 {
     if i < j {
+        if lowest_crowded(rows, i, j, di, dj) {
+            return false;
+        }
         return both(di, crowded_up(rows, i, j, dj)) == 0;
     }
-    both(di, crowded_down(rows, i, j, dj)) == 0
+    functional_down(rows, i, j, di, dj)
 }
