@@ -41,7 +41,7 @@ fn cut_row(rows: &Rows, table: &[u32], first: Side, second: Side, was: bool, a: 
 }
 
 // The same for all values, each stored where it is.
-fn cut_pair(rows: &mut Rows, table: &[u32], first: Side, second: Side, was: bool)
+fn cut_rows(rows: &mut Rows, table: &[u32], first: Side, second: Side, was: bool)
     requires { ⌜ Placed first × Placed second × Apart first second × (first .leader < second .leader) × PartnersIn width (now rows) (now table) first × (length (now rows) ≡ 3840) ⌝ }
     ensures { λ _. ⌜ Stored width (now (rows .entry)) (now (rows .exit)) (first .leader) (second .leader) (cutAt width (now (rows .entry)) (now (table .entry)) first second was) width ⌝ }
 {
@@ -51,6 +51,57 @@ fn cut_pair(rows: &mut Rows, table: &[u32], first: Side, second: Side, was: bool
         let row = cut_row(rows, table, first, second, was, a);
         pairs::put_row(rows, p, q, a, row);
     }
+}
+
+// Both variables named are free.
+fn both_free(first: Side, second: Side) -> bool
+    ensures { λ r. ⌜ (r ≡ true → (first .leader ≡ first .named) × (second .leader ≡ second .named)) ⌝ }
+{
+    (first.leader == first.named) & (second.leader == second.named)
+}
+
+// Of two free variables, each value is its own partner: the values of the second that go with value `a` of the first are in its row of the table.
+fn cut_free_row(rows: &Rows, table: &[u32], first: Side, second: Side, was: bool, a: usize) -> u32
+    requires { ⌜ Placed first × Placed second × Apart first second × (first .leader < second .leader) × (a < width) × PartnersIn width (now rows) (now table) first
+        × (first .leader ≡ first .named) × (second .leader ≡ second .named) ⌝ }
+    ensures { λ r. ⌜ r ≡ word width (cutAt width (now (rows .entry)) (now (table .entry)) first second was a) ⌝ }
+{
+    let p = first.leader;
+    let q = second.leader;
+    if !member(first.values, a) {
+        return 0;
+    }
+    let row = both(second.values, table[a]);
+    if !was {
+        return row;
+    }
+    both(row, pairs_read::stored_row(rows, p, q, a))
+}
+
+// The same for all values: nothing is told through leaders, so that the loop is short.
+fn cut_free_rows(rows: &mut Rows, table: &[u32], first: Side, second: Side, was: bool)
+    requires { ⌜ Placed first × Placed second × Apart first second × (first .leader < second .leader) × PartnersIn width (now rows) (now table) first × (length (now rows) ≡ 3840)
+        × (first .leader ≡ first .named) × (second .leader ≡ second .named) ⌝ }
+    ensures { λ _. ⌜ Stored width (now (rows .entry)) (now (rows .exit)) (first .leader) (second .leader) (cutAt width (now (rows .entry)) (now (table .entry)) first second was) width ⌝ }
+{
+    let p = first.leader;
+    let q = second.leader;
+    for a in 0..WIDTH {
+        let row = cut_free_row(rows, table, first, second, was, a);
+        pairs::put_row(rows, p, q, a, row);
+    }
+}
+
+// The same, whoever leads the two.
+fn cut_pair(rows: &mut Rows, table: &[u32], first: Side, second: Side, was: bool)
+    requires { ⌜ Placed first × Placed second × Apart first second × (first .leader < second .leader) × PartnersIn width (now rows) (now table) first × (length (now rows) ≡ 3840) ⌝ }
+    ensures { λ _. ⌜ Stored width (now (rows .entry)) (now (rows .exit)) (first .leader) (second .leader) (cutAt width (now (rows .entry)) (now (table .entry)) first second was) width ⌝ }
+{
+    if both_free(first, second) {
+        cut_free_rows(rows, table, first, second, was);
+        return;
+    }
+    cut_rows(rows, table, first, second, was);
 }
 
 // The same whichever leader is lower. A pair is held from the lower one: where that is the second, the table is turned once, so that whole rows are read

@@ -12,7 +12,7 @@ use Rattle.bounded.specs.Fold.{first}
 use Rattle.bounded.proofs.Bool.{and-assoc, and-holds, and-true, if-true, if-false}
 use Rattle.bounded.proofs.Fold.{some-cong, first-cong}
 use Rattle.words.specs.Word.{has, word}
-use Rattle.words.proofs.Laws.{has-ruled, is-word, word-cong}
+use Rattle.words.proofs.Laws.{has-word, has-ruled, is-word, word-cong}
 use Rattle.pairs.specs.Pairs.{allowsOf, partnersOf}
 use Rattle.pairs.specs.Frames.{RowPut, Stored}
 use Rattle.pairs.proofs.Frames.{stored-more}
@@ -84,6 +84,16 @@ module _ (w : ℕ) (rows table : List ℕ) (s t : Side) (a : ℕ) where
     cut-stated {old} f oe e =
         e ∙ word-cong w _ _ (λ b k.
         rw (has-ruled w _ re b k, has-ruled w _ me b k, has-ruled w _ oe b k, d, f) (cut-again _ _ _))
+
+  -- Of two free variables, each value is its own partner.
+  module _ (se : s .leader ≡ s .named) (te : t .leader ≡ t .named) where
+    free-reach : (b : ℕ) → has (getD table a 0) b ≡ reachAt w rows table s t a b
+    unfolding reachAt toldAt
+    free-reach b = ap (λ (c : ℕ). has (getD table c 0) b) (partner-own w rows s a se) ∙ sym (if-true _ _ _ (eq-eqb _ _ te))
+
+    pub free-row : {row : ℕ} → row ≡ word w (λ (u : ℕ). and (has (t .values) u) (has (getD table a 0) u))
+        → row ≡ word w (λ (u : ℕ). and (has (t .values) u) (has (word w (reachAt w rows table s t a)) u))
+    free-row e = e ∙ word-cong w _ _ (λ b k. ap (and (has (t .values) b)) (free-reach b ∙ sym (has-word w _ b k)))
 
   pub kept-some : {reached : ℕ} → a < w → has (s .values) a ≡ true → reached ≡ word w (reachAt w rows table s t a)
       → has reached a ≡ keptAt w rows table s t a

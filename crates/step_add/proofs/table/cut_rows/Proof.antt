@@ -7,8 +7,8 @@ use Rattle.pairs.specs.Frames.{Stored}
 use Rattle.pairs.proofs.Frames.{stored-none}
 use Rattle.step_sides.specs.Sides.{cutAt}
 use Rattle.step_sides.proofs.Cut.{partners-stay, cut-more}
-use Rattle.step_add.proofs.table.cut_pair.Statement.{statement}
-use Rattle.step_add.proofs.table.cut_pair.Tie as tie
+use Rattle.step_add.proofs.table.cut_rows.Statement.{statement}
+use Rattle.step_add.proofs.table.cut_rows.Tie as tie
 
 abbrev Inv-loop : tie.InvT-loop
 Inv-loop rows₀ table first second was p q a₀ rows a =
@@ -35,8 +35,8 @@ loop-again c =
 returns : tie.Need-returns Inv-loop μ-loop
 returns c = rw (let e : c .before .loop .a ≡ 32 = omega arith in e) at (c .before .loop .inv .1)
 
-pub cut-pair-spec : {M : Type 1} → statement M
-cut-pair-spec =
+pub cut-rows-spec : {M : Type 1} → statement M
+cut-rows-spec =
     tie.close
     (tie.spec
     Inv-loop
