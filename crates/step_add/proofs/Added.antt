@@ -27,9 +27,9 @@ use Rattle.head.proofs.Held.{rows-of-held, held-sound, held-n, held-size}
 use Rattle.step_trim.specs.Trimmed.{Led, trimmedAt}
 use Rattle.step_trim.proofs.Trimmed.{leaders-led, network-trimmed}
 use Rattle.step_sides.specs.declared.sides.Side.{Side}
-use Rattle.step_sides.specs.Sides.{leaderOf, sideOf, Apart, PartnersIn, cutAt, keptAt}
+use Rattle.step_sides.specs.Sides.{leaderOf, sideOf, Apart, PartnersIn, PartnersTold, cutAt, keptAt}
 use Rattle.step_sides.specs.Turned.{Turns}
-use Rattle.step_add.proofs.Meaning.{cut-is, kept-is, partners-in, turns}
+use Rattle.step_add.proofs.Meaning.{cut-is, kept-is, partners-in, partners-told, turns}
 use Rattle.step_add.proofs.Stored.{narrowed-head, constrained-head, constrained-rows}
 
 -- What is known of a table that is not refused.
@@ -68,6 +68,11 @@ module _ {h : Head} {rows : List ℕ} {x y : ℕ} {table : List ℕ} (G : Given 
   -- Each value of the first leader has a row.
   pub rows-in : {s : Side} → s ≡ sideOf h x → PartnersIn width rows table s
   rows-in e = rw e (partners-in h rows (G .shaped) (G .is-sound) x y table (omega (arith, row-for-each)))
+
+  -- Of one leader, each value has its one partner in the second.
+  pub told-in : {s t : Side} → s ≡ sideOf h x → t ≡ sideOf h y → s .leader ≡ t .leader → PartnersTold width rows s t
+  unfolding sideOf
+  told-in se te e = rw (se, te) (partners-told h rows (G .shaped) (G .is-sound) x y (rw (se, te) at e))
 
   -- A leader is free, so that it is led by no other.
   not-led : (u v : ℕ) → (leaderOf h u ≡ leaderOf h v → ⊥) → u ≡ leaderOf h v → ⊥

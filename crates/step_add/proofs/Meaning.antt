@@ -20,7 +20,7 @@ use Rattle.pairs.proofs.Laws.{allows-alike}
 use Rattle.head.specs.declared.Head.{Head}
 use Rattle.head.specs.Held.{HeadShaped, held, soundIn}
 use Rattle.head.proofs.Held.{held-sound, held-size}
-use Rattle.step_sides.specs.Sides.{leaderOf, sideOf, partnerAt, PartnersIn, toldAt, reachAt, cutAt, keptAt}
+use Rattle.step_sides.specs.Sides.{leaderOf, sideOf, partnerAt, PartnersIn, PartnersTold, toldAt, reachAt, cutAt, keptAt}
 use Rattle.step_sides.specs.Turned.{turnedOf, Turns}
 use Rattle.step_sides.proofs.Turning.{columns-length, turned-allows}
 
@@ -110,11 +110,18 @@ module _ (h : Head) (rows : List ℕ) (S : HeadShaped h) (t : soundIn h rows ≡
     unfolding sideOf leaderOf traced free held
     partners-in e a d = rw (partner-is x a d) (omega (arith, sound .domain-in x _ (partner-in x a d)))
 
+  partner-fits : (z a : ℕ) → N .domain (traced N z) a ≡ true → partnerIn N z a < width
+  partner-fits z a d = omega (arith, sound .domain-in z _ (partner-in z a d), size-fits z)
+
+  -- Of one leader, each value has its one partner in the second.
+  pub partners-told : (x y : ℕ) → leaderOf h x ≡ leaderOf h y → PartnersTold width rows (sideOf h x) (sideOf h y)
+  unfolding sideOf leaderOf traced free held
+  partners-told x y e a d =
+      let d′ : N .domain (traced N y) a ≡ true = rw e at d in
+      (rw (partner-is y a d′) (partner-fits y a d′), λ row. told-is y row a d′ ∙ ap (has row) (sym (partner-is y a d′)))
+
   -- From its other side the table says the same of the leaders' values.
   module _ (x y : ℕ) (table : List ℕ) where
-    partner-fits : (z a : ℕ) → N .domain (traced N z) a ≡ true → partnerIn N z a < width
-    partner-fits z a d = omega (arith, sound .domain-in z _ (partner-in z a d), size-fits z)
-
     reach-turns : (a b : ℕ) → N .domain (traced N x) a ≡ true → N .domain (traced N y) b ≡ true
         → reachAt width rows (turnedOf width (sideOf h y .domain) table) (sideOf h y) (sideOf h x) b a ≡ reachAt width rows table (sideOf h x) (sideOf h y) a b
     unfolding allowsPartners sideOf held

@@ -2,6 +2,7 @@
 use head::Head;
 use pairs::Rows;
 use step_sides::Side;
+use step_sides::partner;
 use step_sides::reach;
 use step_sides::side_of;
 use step_sides::turned;
@@ -19,7 +20,7 @@ ghost use Rattle.words.specs.Word.{width, word};
 ghost use Rattle.network.specs.Added.{addRefusal, added};
 ghost use Rattle.pairs.specs.Frames.{Stored};
 ghost use Rattle.head.specs.Held.{RowsShaped, Represents, held, soundIn};
-ghost use Rattle.step_sides.specs.Sides.{Placed, Apart, PartnersIn, keptAt, cutAt};
+ghost use Rattle.step_sides.specs.Sides.{Placed, Apart, PartnersIn, PartnersTold, keptAt, cutAt};
 ghost use Rattle.step_sides.specs.Turned.{Turns};
 
 // The first leader is lower: the values of the second leader that go with value `a` of the first. A value outside its domain has none, and a pair that was stated
@@ -118,20 +119,22 @@ fn cut(rows: &mut Rows, table: &[u32], first: Side, second: Side, was: bool)
     cut_pair(rows, &columns, second, first, was);
 }
 
-// One leader: its value `a` stays where the table allows its partners.
+// One leader: its value `a` stays where the table allows its two partners, which are one each.
 fn keeps(rows: &Rows, table: &[u32], first: Side, second: Side, a: usize) -> bool
-    requires { ⌜ Placed first × Placed second × (a < width) × PartnersIn width (now rows) (now table) first ⌝ }
+    requires { ⌜ Placed first × Placed second × (a < width) × PartnersIn width (now rows) (now table) first × PartnersTold width (now rows) first second ⌝ }
     ensures { λ r. ⌜ r ≡ keptAt width (now (rows .entry)) (now (table .entry)) first second a ⌝ }
 {
     if !member(first.values, a) {
         return false;
     }
-    member(reach(rows, table, first, second, a), a)
+    let c = partner(rows, first, a);
+    let d = partner(rows, second, a);
+    member(table[c], d)
 }
 
 // The values that stay.
 fn kept(rows: &Rows, table: &[u32], first: Side, second: Side) -> u32
-    requires { ⌜ Placed first × Placed second × PartnersIn width (now rows) (now table) first ⌝ }
+    requires { ⌜ Placed first × Placed second × PartnersIn width (now rows) (now table) first × PartnersTold width (now rows) first second ⌝ }
     ensures { λ r. ⌜ r ≡ word width (keptAt width (now (rows .entry)) (now (table .entry)) first second) ⌝ }
 {
     let mut members: u32 = 0;

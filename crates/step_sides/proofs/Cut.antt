@@ -95,10 +95,11 @@ module _ (w : ℕ) (rows table : List ℕ) (s t : Side) (a : ℕ) where
         → row ≡ word w (λ (u : ℕ). and (has (t .values) u) (has (word w (reachAt w rows table s t a)) u))
     free-row e = e ∙ word-cong w _ _ (λ b k. ap (and (has (t .values) b)) (free-reach b ∙ sym (has-word w _ b k)))
 
-  pub kept-some : {reached : ℕ} → a < w → has (s .values) a ≡ true → reached ≡ word w (reachAt w rows table s t a)
-      → has reached a ≡ keptAt w rows table s t a
-  unfolding keptAt
-  kept-some {reached} l d e = has-ruled w _ e a l ∙ sym (and-holds _ _ d)
+  -- Of one leader, a value stays where the table allows its two partners.
+  pub kept-one : {c d : ℕ} {r : Bool} → has (s .values) a ≡ true → ((row : ℕ) → toldAt w rows t row a ≡ has row (partnerAt w rows t a))
+      → c ≡ partnerAt w rows s a → d ≡ partnerAt w rows t a → r ≡ has (getD table c 0) d → r ≡ keptAt w rows table s t a
+  unfolding keptAt reachAt
+  kept-one h te ce de re = re ∙ ap₂ (λ (x y : ℕ). has (getD table x 0) y) ce de ∙ sym (te _) ∙ sym (and-holds _ _ h)
 
 -- ---- all values
 

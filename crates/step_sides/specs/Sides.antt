@@ -52,6 +52,11 @@ toldAt w rows t row b =
     if (eqb (t .leader) (t .named)) (has row b)
     (some w (λ (d : ℕ). and (and (has (t .domain) d) (has row d)) (allowsOf w rows (t .named) (t .leader) d b)))
 
+-- The partner in t of each value in the leader's domain is a value, and its leader is told of a row what the row says of it.
+abbrev pub PartnersTold : ℕ → List ℕ → Side → Side → Type 0
+PartnersTold w rows s t =
+    (a : ℕ) → has (s .values) a ≡ true → (partnerAt w rows t a < w) × ((row : ℕ) → toldAt w rows t row a ≡ has row (partnerAt w rows t a))
+
 -- "the new table allows their partners", of value a of the first leader and value b of the second
 unfoldable pub reachAt : ℕ → List ℕ → List ℕ → Side → Side → ℕ → ℕ → Bool
 reachAt w rows table s t a b = toldAt w rows t (getD table (partnerAt w rows s a) 0) b

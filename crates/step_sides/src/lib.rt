@@ -3,6 +3,7 @@ mod sides;
 mod turn;
 
 pub use sides::Side;
+pub use sides::partner;
 pub use sides::reach;
 pub use sides::side_of;
 pub use turn::turned;

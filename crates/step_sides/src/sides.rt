@@ -47,7 +47,7 @@ pub fn side_of(head: Head, x: usize) -> Side
 }
 
 // The partner of value `a` of the leader: itself where the variable named is free, and else the lowest of row AND domain, in a sound state the only one.
-fn partner(rows: &Rows, side: Side, a: usize) -> usize
+pub fn partner(rows: &Rows, side: Side, a: usize) -> usize
     requires { ⌜ Placed side × (a < width) ⌝ }
     ensures { λ r. ⌜ r ≡ partnerAt width (now (rows .entry)) side a ⌝ }
 {

@@ -1,7 +1,7 @@
 -- The variables and their leaders are within the arrays, and each way leaves the network with the table added: `added-same`, `added-apart`.
 use borrow.Author.Needs.{needs}
 use Rattle.head.proofs.Held.{shape}
-use Rattle.step_add.proofs.Added.{Given, first-in, second-in, rows-in, leaders-in, sides-apart, sides-turn, added-same, added-apart}
+use Rattle.step_add.proofs.Added.{Given, first-in, second-in, rows-in, leaders-in, told-in, sides-apart, sides-turn, added-same, added-apart}
 use Rattle.step_add.proofs.table.add.Statement.{statement}
 use Rattle.step_add.proofs.table.add.Tie as tie
 
@@ -18,9 +18,15 @@ side-of-requires-2 c κs = second-in (given (c .before))
 
 kept-requires : tie.Need-kept-requires
 kept-requires c κs =
-    let second = c .before .before .before .before in
+    let one = c .before .before .before in
+    let second = one .before in
     let first = second .before in
-    (first .side-of .ensures .1, second .side-of2 .ensures .1, rows-in (given (first .before)) (first .side-of .ensures .0))
+    let g = given (first .before) in (
+      first .side-of .ensures .1,
+      second .side-of2 .ensures .1,
+      rows-in g (first .side-of .ensures .0),
+      told-in g (first .side-of .ensures .0) (second .side-of2 .ensures .0) (one .if1 .taken),
+    )
 
 trim-followers-requires : tie.Need-trim-followers-requires
 trim-followers-requires c κs =
