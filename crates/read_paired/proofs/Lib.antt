@@ -1,2 +1,3 @@
 pub mod OnePass
+pub mod Turned
 pub mod Walk

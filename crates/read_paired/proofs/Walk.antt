@@ -207,6 +207,10 @@ module _ (bytes : List ℕ) where
         next = rw same at (T .next-is);
       }
 
+  -- It is a byte.
+  pub rows-few : {rows : ℕ} (a : ℕ) → Octets bytes → rows ≡ getD bytes (3 + a) 0 → rows < 256
+  rows-few a octets e = omega (arith, octets (3 + a))
+
   -- The bytes before the tables.
   pub header-room : Octets bytes → Accepted bytes → 5 + getD bytes 3 0 ≤ length bytes
   unfolding firstTable options byte

@@ -1,53 +1,37 @@
--- The loop's invariant: the first `a` rows have been passed.
-use mathlib.Core.Path.{sym, _∙_}
-use Prim.Native.Nat.{ℕ, _+_, _-_, _*_, _≤_}
+-- A number of bytes that is not two is four. Turned round they make the number: `rows-standing`.
+use mathlib.Core.Path.{_≡_, refl, _∙_}
 use native.Mathlib.Omega.{arith}
-use borrow.Author.Needs.{needs}
-use borrow.Author.Tests.{not-true, not-false}
-use Rattle.format.specs.Parse.{numberAt}
-use Rattle.read_number.proofs.Numbers.{row-inside}
-use Rattle.read_paired.proofs.OnePass.{Passed, passed-none, passed-more, passed-not, passed-all}
+use Rattle.format.specs.Parse.{Octets}
+use Rattle.read_paired.proofs.Turned.{rows-standing}
 use Rattle.read_paired.proofs.rows_paired.Statement.{statement}
 use Rattle.read_paired.proofs.rows_paired.Tie as tie
 
-abbrev Inv-loop : tie.InvT-loop
-Inv-loop bytes from k rows seen₀ a₀ seen a = (a ≤ rows) × Passed 32 (λ (c : ℕ). numberAt k bytes (from + k * c)) a seen
+octets : (c : tie.After-shared-slice-known) → Octets (c .before .args .bytes .now)
+octets c = λ k. omega (arith, c .shared-slice-known .given k)
 
-abbrev μ-loop : tie.MeasureT-loop
-μ-loop bytes from k rows seen₀ a₀ seen a = rows - a
+two : (c : tie.Then1) → c .before .before .args .k ≡ 2
+two c = c .if1 .taken
 
-loop-holds : tie.Need-loop-holds Inv-loop μ-loop
-loop-holds c = (omega arith, passed-none 32)
+four : (c : tie.Else1) → c .before .before .args .k ≡ 4
+four c = omega (arith, c .before .before .pre .0, c .if1 .left)
 
-returns : tie.Need-returns Inv-loop μ-loop
-returns c =
-    let r = c .before .before in
-    let t = r .before in
-    passed-not 32 (t .before .loop .inv .1) (r .number .ensures) _ (t .loop-test .taken) (sym (c .before .alone .ensures) ∙ not-true _ (c .if1 .taken))
+pass-rows-requires : tie.Need-pass-rows-requires
+pass-rows-requires c κs =
+    let pre = c .before .before .pre in
+    let end : _ = rw (two c) at (pre .1) in
+    ((omega arith, omega arith, refl), omega (arith, end), pre .2)
 
-loop-again : tie.Need-loop-again Inv-loop μ-loop
-loop-again c =
-    let e = c .before in
-    let r = e .before .before in
-    (omega arith, passed-more 32 (r .before .before .loop .inv .1) (r .number .ensures) (sym (e .before .alone .ensures) ∙ not-false _ (e .if1 .left)) (c .either .ensures))
+returns : tie.Need-returns
+returns c = rw (two (c .before)) (c .pass-rows .ensures ∙ rows-standing _ (octets (c .before .before)) 2 _ _ (omega arith))
 
-returns-2 : tie.Need-returns-2 Inv-loop μ-loop
-returns-2 c = passed-all 32 _ (c .loop-test .left) (c .before .loop .inv .1)
+pass-rows-requires-2 : tie.Need-pass-rows-requires-2
+pass-rows-requires-2 c κs =
+    let pre = c .before .before .pre in
+    let end : _ = rw (four c) at (pre .1) in
+    ((omega arith, omega arith, refl), omega (arith, end), pre .2)
+
+returns-2 : tie.Need-returns-2
+returns-2 c = rw (four (c .before)) (c .pass-rows2 .ensures ∙ rows-standing _ (octets (c .before .before)) 4 _ _ (omega arith))
 
 pub rows-paired-spec : {M : Type 1} → statement M
-rows-paired-spec =
-    tie.close
-    (tie.spec
-    Inv-loop
-    μ-loop
-    loop-holds
-    (λ c. omega (arith, row-inside (c .before .before .before .args .k) (c .loop-test .taken)))
-    (λ c. omega (arith, row-inside (c .before .before .before .args .k) (c .loop-test .taken)))
-    (λ c κs. omega (arith, row-inside (c .before .before .before .args .k) (c .loop-test .taken)))
-    (λ c κs. search needs)
-    returns
-    (λ c κs. search needs)
-    (λ c. search needs)
-    (λ c. search needs)
-    loop-again
-    returns-2)
+rows-paired-spec = tie.close (tie.spec pass-rows-requires returns pass-rows-requires-2 returns-2)

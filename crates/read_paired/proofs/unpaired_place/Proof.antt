@@ -1,6 +1,6 @@
 -- The loop's invariant: so many tables have been passed, and the place that is named is that of the first of another kind among the rest.
 use mathlib.Core.Path.{_≡_, sym, _∙_}
-use Prim.Native.Nat.{_+_, _-_, _≤_}
+use Prim.Native.Nat.{_+_, _-_, _≤_, _<_}
 use native.Mathlib.Omega.{arith}
 use lib.ListN.{length, getD}
 use borrow.Author.Needs.{needs}
@@ -9,7 +9,7 @@ use Rattle.format.specs.Builds as sheet
 use Rattle.format.specs.Parse.{Octets}
 use Rattle.format.specs.Profile.{tablePaired}
 use Rattle.read_number.specs.Bytes.{RowBytes}
-use Rattle.read_paired.proofs.Walk.{TableAt, begins, Walking, walking-none, table-here, walking-here, walking-more, walking-end, Here, size-room, rows-here, header-room, count-read, first-read}
+use Rattle.read_paired.proofs.Walk.{TableAt, begins, Walking, walking-none, table-here, walking-here, walking-more, walking-end, Here, size-room, rows-here, rows-few, header-room, count-read, first-read}
 use Rattle.read_paired.proofs.unpaired_place.Statement.{statement}
 use Rattle.read_paired.proofs.unpaired_place.Tie as tie
 
@@ -41,6 +41,11 @@ here c = let i = c .before .loop .inv in table-here _ _ (i .2) (omega (arith, i 
 rows : (c : tie.After-wide4 Inv-loop μ-loop) → let t = c .before .before .before .before in let k = t .before .before .before .before .before .before in
     Here (k .before .before .before .args .bytes .now) (k .row-bytes .result) (t .before .loop .at) (c .wide4 .result)
 rows c = let a = c .before .before in rows-here _ (here (a .before .before)) (a .wide3 .ensures) (c .wide4 .ensures)
+
+few : (c : tie.After-wide4 Inv-loop μ-loop) → c .wide4 .result < 256
+few c =
+    let s = c .before .before .before .before .before .before .before .before .before .before .before .before in
+    rows-few (s .before .args .bytes .now) (c .before .before .wide3 .result) (octets s) (c .wide4 .ensures)
 
 -- Whether it is of the profile.
 told : (c : tie.After-rows-paired Inv-loop μ-loop) → let t = c .before .before .before .before .before in
@@ -81,7 +86,7 @@ unpaired-place-spec =
     (λ c. let l = size-room _ (here (c .before .before .before)) (c .before .wide3 .ensures) in search needs)
     (λ c κs. search needs)
     (λ c. let l = rows c .room in search needs)
-    (λ c κs. let l = rows c .room in (c .before .before .before .before .before .loop .inv .1, omega arith))
+    (λ c κs. let l = rows c .room in (c .before .before .before .before .before .loop .inv .1, omega arith, few c))
     returns
     (λ c. let l = rows (c .before .before) .room in omega arith)
     (λ c. let l = rows (c .before .before) .room in omega arith)
