@@ -37,7 +37,7 @@ fn put_digits(buffer: &mut [u8], at: usize, n: usize) -> usize
     put_byte(buffer, next, 48 + (n % 10) as u8)
 }
 
-// The same. Most numbers have one digit, for which nothing is called.
+// Writes a number in decimal. Most numbers have one digit, for which nothing is called.
 pub fn put_decimal(buffer: &mut [u8], at: usize, n: usize) -> usize
     requires { ⌜ at + length (decimal n) ≤ length (now buffer) ⌝ }
     ensures { λ r. ⌜ Wrote (now (buffer .entry)) (now (buffer .exit)) (decimal n) at r ⌝ }

@@ -43,7 +43,7 @@ module _ {n : ℕ} {sizes lists leaders stated rows lists′ leaders′ stated�
   pub made-state : stateWith n sizes lists′ leaders′ stated′ rows′ ≡ s
   made-state = by-cases (eqb number 0) (λ e. done (eqb-true _ _ e)) (λ e. not-done (eqb-false _ _ e))
 
--- The same with the number and the count of a step, a reduction or a table added.
+-- What is left, with the number and the count of a step, a run of steps or a table added.
 module _ {n : ℕ} {sizes lists leaders stated rows lists′ leaders′ stated′ rows′ : List ℕ} {w : Worked} {r : SheetStepped} {t : Told}
     (told : workedTold w rows′ ≡ t) (L : Left w r lists leaders stated lists′ leaders′ stated′)
     (kept : (t .state .n ≡ n) × (t .state .sizes ≡ sizes))

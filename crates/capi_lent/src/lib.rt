@@ -80,7 +80,7 @@ pub fn put_made(
     number
 }
 
-// The same of a step, a reduction or a table added, with its count.
+// Stores what a step, a run of steps or a table added has made, and tells the number and the count of steps.
 pub fn left(
     worked: Worked,
     lists: &mut [u32; VARIABLES],

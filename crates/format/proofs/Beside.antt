@@ -34,7 +34,7 @@ bind-stricter f g (both-get l) k = k _ _ l
 bind-stricter f g both-refuse k = both-refuse
 bind-stricter f g is-blank k = is-blank
 
--- The same before two parses: a refusal, or neither.
+-- A test before two parses: it refuses both, or neither.
 unless-stricter : {A : Type 0} (b : Bool) (c : Cause) (at : ℕ) {p q : Parse A} → Stricter p q → Stricter (if b (bad c at) p) (if b (bad c at) q)
 unfolding if
 unless-stricter true c at h = both-refuse

@@ -95,7 +95,7 @@ module _ {S A : Type 0} (step : S → A → S) (Fits : S → A → Type 0) (show
         accepts = λ bytes at xs next r. rw (← r .fits .so-many) (many-accepts (r .fits .chain) bytes at next (r .stands));
       }
 
--- The same, with what fits and what is printed said in other words.
+-- The round trip with what fits and what is printed said in other words.
 module _ {A : Type 0} {Fits Fits′ : A → Type 0} {show show′ : A → List ℕ} {item : List ℕ → ℕ → Parse A}
     (there : (x : A) → Fits x → Fits′ x) (back : (x : A) → Fits′ x → Fits x) (same : (x : A) → Fits x → show x ≡ show′ x) where
   restate : Inverse Fits show item → Inverse Fits′ show′ item

@@ -59,7 +59,7 @@ module _ (i j : ℕ) (T : ℕ → Bool) where
           (λ t. subst Q (sym (eqb-true z p (and-l _ _ t))) (f (and-r _ _ t)))
           (λ t. g (not-and-e z p (T k) t))
 
-  -- The same for what is alike on both sides.
+  -- The cases of a pair, for what is alike on both sides.
   pub pair-case-sym : (P : ℕ → ℕ → Type 0) → ((x y : ℕ) → P x y → P y x)
       → ((k : ℕ) → T k ≡ true → P i k) → ((k : ℕ) → T k ≡ true → P j k) → ((x y : ℕ) → Stays i j T x y → P x y)
       → (x y : ℕ) → P x y

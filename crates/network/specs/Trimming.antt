@@ -90,7 +90,7 @@ alternateWithin (suc most) N =
 unfoldable pub alternate : Network → Reduced
 alternate N = alternateWithin (N .n) N
 
--- The same as rounds, with no bound on them.
+-- Trimming and reducing in turn as rounds, with no bound on them.
 pub data Rounds : Network → Network → ℕ → Type 0 where
   last : {N : Network} → reduce (liveTrimmed N) .steps ≡ 0 → Rounds N (liveTrimmed N) 0
   then : {N M : Network} {k : ℕ} → (reduce (liveTrimmed N) .steps ≡ 0 → ⊥) → Rounds (reduce (liveTrimmed N) .network) M k

@@ -29,7 +29,7 @@ pub fn stored_row(rows: &Rows, i: usize, j: usize, a: usize) -> u32
     known(rows[place(i, j) + a])
 }
 
-// The same, whichever is lower.
+// The values of `j` that go with value `a` of `i`, whichever of the two is lower.
 pub fn row(rows: &Rows, i: usize, j: usize, a: usize) -> u32
     requires { ⌜ (i < variables) × (j < variables) × (i ≡ j → ⊥) × (a < width) ⌝ }
     ensures { λ r. ⌜ r ≡ word width (allowsOf width (now (rows .entry)) i j a) ⌝ }

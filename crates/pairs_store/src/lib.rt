@@ -39,7 +39,7 @@ fn put_column(rows: &mut Rows, i: usize, j: usize, a: usize, x: u32)
     }
 }
 
-// The same, whichever is lower.
+// Value `a` of `i` goes with the members of `x`, whichever of the two is lower.
 pub fn put(rows: &mut Rows, i: usize, j: usize, a: usize, x: u32)
     requires { ⌜ (i < variables) × (j < variables) × (i ≡ j → ⊥) × (a < width) × (length (now rows) ≡ 3840) ⌝ }
     ensures { λ _. ⌜ RowPut width (now (rows .entry)) (now (rows .exit)) i j a x ⌝ }

@@ -42,7 +42,7 @@ module _ {S A : Type 0} (whole : Parse (List A)) (step : S → A → S) (item : 
       unfolding prepend bind many
       many-stops c place e = so-far ∙ rw (one, e)
 
--- The same of fields, which know nothing of the ones before.
+-- Many fields, each of which knows nothing of the ones before.
 module _ (k : ℕ) (test : ℕ → Test) (bytes : List ℕ) where
   module _ (whole : Parse (List ℕ)) (done : List ℕ) (left at : ℕ) (so-far : whole ≡ prepend done (fields k test left bytes at)) where
     pub fields-end : left ≡ zero → whole ≡ got done at

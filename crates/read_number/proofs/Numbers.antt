@@ -51,7 +51,7 @@ pub number-two : (bytes : List ℕ) (at : ℕ) → ((j : ℕ) → Fits w8 (getD 
 unfolding numberAt
 number-two bytes at known x e = rw (← add-one at) (omega (arith, known at, known (at + 1)))
 
--- The same of four: each byte is what x has of its weight.
+-- Four bytes of a number: each byte is what x has of its weight.
 low-digit : (q r y : ℕ) → r < 256 → y ≡ q * 256 + r → y % 256 ≡ r
 low-digit q r y h e = omega arith
 

@@ -94,7 +94,7 @@ fn pass_rows(bytes: &[u8], from: usize, k: usize, rows: usize) -> bool
     (more == 0) & (count(seen) + blanks as usize == rows)
 }
 
-// The same of the numbers that they are. The bytes of a row are a constant in each pass, without which the compiler takes the rows one by one.
+// Whether a table of so many rows of `k` bytes, as the numbers that they are, is functional both ways. The bytes of a row are a constant in each pass, without which the compiler takes the rows one by one.
 fn rows_paired(bytes: &[u8], from: usize, k: usize, rows: usize) -> bool
     requires { ⌜ RowBytes k × (from + k * rows ≤ length (now bytes)) × (rows < 256) ⌝ }
     ensures { λ r. ⌜ r ≡ rowsPaired rows width (λ (a : ℕ). numberAt k (now (bytes .entry)) (from + k * a)) ⌝ }

@@ -41,7 +41,7 @@ fn store_rows(
     Joined { union, filled }
 }
 
-// The same. Where the bytes of a row are a constant the compiler reads several rows at once.
+// Stores and joins all rows. Where the bytes of a row are a constant the compiler reads several rows at once.
 fn join_rows(
     bytes: &[u8],
     from: usize,

@@ -29,7 +29,7 @@ pub fn read(bytes: &[u8]) -> ReadAnswer
     ReadAnswer { outcome, state }
 }
 
-// The same for the paired profile: "refuses with 31 and the zero state a sheet that has another kind of table, naming the place of the first such pair, after
+// Reading for the paired profile: "refuses with 31 and the zero state a sheet that has another kind of table, naming the place of the first such pair, after
 // all other tests of reading".
 pub fn read_paired(bytes: &[u8]) -> ReadAnswer
     ensures { λ r. ⌜ readTold r ≡ readPaired (now (bytes .entry)) ⌝ }

@@ -41,7 +41,7 @@ fn cut_row(rows: &Rows, table: &[u32], first: Side, second: Side, was: bool, a: 
     both(row, pairs_read::stored_row(rows, p, q, a))
 }
 
-// The same for all values, each stored where it is.
+// Cuts the pair for every value of the lower leader, each row stored where it is.
 fn cut_rows(rows: &mut Rows, table: &[u32], first: Side, second: Side, was: bool)
     requires { ⌜ Placed first × Placed second × Apart first second × (first .leader < second .leader) × PartnersIn width (now rows) (now table) first × (length (now rows) ≡ 3840) ⌝ }
     ensures { λ _. ⌜ Stored width (now (rows .entry)) (now (rows .exit)) (first .leader) (second .leader) (cutAt width (now (rows .entry)) (now (table .entry)) first second was) width ⌝ }
@@ -79,7 +79,7 @@ fn cut_free_row(rows: &Rows, table: &[u32], first: Side, second: Side, was: bool
     both(row, pairs_read::stored_row(rows, p, q, a))
 }
 
-// The same for all values: nothing is told through leaders, so that the loop is short.
+// Cuts the pair of two live options for every value: nothing is told through leaders, so that the loop is short.
 fn cut_free_rows(rows: &mut Rows, table: &[u32], first: Side, second: Side, was: bool)
     requires { ⌜ Placed first × Placed second × Apart first second × (first .leader < second .leader) × PartnersIn width (now rows) (now table) first × (length (now rows) ≡ 3840)
         × (first .leader ≡ first .named) × (second .leader ≡ second .named) ⌝ }
@@ -93,7 +93,7 @@ fn cut_free_rows(rows: &mut Rows, table: &[u32], first: Side, second: Side, was:
     }
 }
 
-// The same, whoever leads the two.
+// Cuts the pair for every value, whoever leads the two.
 fn cut_pair(rows: &mut Rows, table: &[u32], first: Side, second: Side, was: bool)
     requires { ⌜ Placed first × Placed second × Apart first second × (first .leader < second .leader) × PartnersIn width (now rows) (now table) first × (length (now rows) ≡ 3840) ⌝ }
     ensures { λ _. ⌜ Stored width (now (rows .entry)) (now (rows .exit)) (first .leader) (second .leader) (cutAt width (now (rows .entry)) (now (table .entry)) first second was) width ⌝ }
@@ -105,7 +105,7 @@ fn cut_pair(rows: &mut Rows, table: &[u32], first: Side, second: Side, was: bool
     cut_rows(rows, table, first, second, was);
 }
 
-// The same whichever leader is lower. A pair is held from the lower one: where that is the second, the table is turned once, so that whole rows are read
+// Cuts the pair whichever leader is lower. A pair is held from the lower one: where that is the second, the table is turned once, so that whole rows are read
 // and stored.
 fn cut(rows: &mut Rows, table: &[u32], first: Side, second: Side, was: bool)
     requires { ⌜ Placed first × Placed second × Apart first second × PartnersIn width (now rows) (now table) first × Turns width (now rows) (now table) first second × (length (now rows) ≡ 3840) ⌝ }

@@ -83,7 +83,7 @@ module _ {who : Leader} (N : Network) where
   unfolding whoLeads
   leads-named e = ap (λ (l : Leader). followerPair N (whoLeads l N)) e
 
--- The same on the words of a sound head and rows.
+-- The next pair on the words of a sound head and rows.
 module _ {h : Head} (rows : List ℕ) (S : HeadShaped h) (t : soundIn h rows ≡ true) where
   leads-none : (x : ℕ) → x < h .n → ((y : ℕ) → y < h .n → legalAt (h .leaders) (h .domains) (h .stated) rows x y ≡ false)
       → leading (held h rows) x ≡ false

@@ -17,7 +17,7 @@ use Rattle.step_compose.specs.Compose.{composedAt}
 unfoldable pub leaderAfter : ℕ → ℕ → ℕ → ℕ → ℕ
 leaderAfter i j x l = if (or (eqb x j) (eqb l (suc j))) (suc i) l
 
--- The same for another than j.
+-- Rule 3 for another than j.
 unfoldable pub ledAfter : ℕ → ℕ → ℕ → ℕ
 ledAfter i j l = if (eqb l (suc j)) (suc i) l
 

@@ -45,7 +45,7 @@ fn column(rows: &[u32; WIDTH], domain: u32, d: usize) -> u32
     members
 }
 
-// The same for all values.
+// The table from its second variable: such a word for each of its values.
 pub fn turned(table: &[u32], domain: u32) -> [u32; WIDTH]
     requires { ⌜ length (now table) ≤ width ⌝ }
     ensures { λ r. ⌜ r ≡ turnedOf width domain (now (table .entry)) ⌝ }

@@ -80,7 +80,7 @@ pub fn check_unwritten(
     )
 }
 
-// The same into all the room there is, and into none.
+// The state is refused with this number into all the room there is, and into none.
 pub fn check_refused(state: State, version: usize, number: u8, tally: Tally) -> Tally {
     let refused = check_unwritten(state, version, ROOM, number, tally);
     check_unwritten(state, version, 0, number, refused)

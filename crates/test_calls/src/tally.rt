@@ -221,7 +221,7 @@ fn with_list(tally: Tally, k: usize, other: Tally) -> Tally {
     add(after, DIFFERENCES, counts[DIFFERENCES])
 }
 
-// The same of a list that has trimmings among its calls.
+// With what was counted of a list that has trimmings among its calls.
 pub fn with_trims(tally: Tally, other: Tally) -> Tally {
     let counts = other.counts;
     let mut after = with_list(tally, TRIM_LISTS, other);
@@ -231,7 +231,7 @@ pub fn with_trims(tally: Tally, other: Tally) -> Tally {
     add(after, TRIMS_AGAIN, counts[TRIMS_AGAIN])
 }
 
-// The same of a list that has runs among its calls that a named option leads.
+// With what was counted of a list that has runs among its calls that a named option leads.
 pub fn with_leads(tally: Tally, other: Tally) -> Tally {
     let counts = other.counts;
     let mut after = with_list(tally, LEAD_LISTS, other);

@@ -143,7 +143,7 @@ fn stepped(run: Run) -> Run {
 
 // Sheet A as read. The tester says yes (64), no (65), or 15, which comes before a plain no. All options are live for the completer: 15 before 16. Numbers 14
 // and 17.
-// The same reduced, where option 1 alone is live. Numbers 14 and 18, with 18 before 17.
+// That sheet reduced, where option 1 alone is live. Numbers 14 and 18, with 18 before 17.
 fn replied(run: Run) -> Run {
     play(
         run,

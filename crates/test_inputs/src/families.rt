@@ -63,7 +63,7 @@ pub fn first(bytes: &[u8], n: usize) -> &[u8] {
     bytes
 }
 
-// The same of a buffer.
+// The first `n` bytes of a buffer, or all where there are fewer.
 pub fn first_room(buffer: &mut [u8], n: usize) -> &mut [u8] {
     if n < buffer.len() {
         return &mut buffer[0..n];

@@ -115,7 +115,7 @@ fn stored(rows: &[u32; 3840], i: usize, j: usize, a: usize) -> u32 {
     rows[at]
 }
 
-// The same from the higher option: the values of `i` whose rows have value `b` of `j`.
+// That row from the higher option: the values of `i` whose rows have value `b` of `j`.
 fn column(rows: &[u32; 3840], i: usize, j: usize, b: usize) -> u32 {
     let mut word: u32 = 0;
     for a in 0..32 {

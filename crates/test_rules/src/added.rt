@@ -134,7 +134,7 @@ fn is_allowed(
     was_allowed(stated, rows, p, q, a, b) & allows_partners(domains, rows, table, sides, a, b)
 }
 
-// The same for value `a` of the lower of the two leaders and `b` of the higher.
+// What the table allows for value `a` of the lower of the two leaders and `b` of the higher.
 fn is_allowed_from(
     domains: [u32; 16],
     stated: [u32; 16],

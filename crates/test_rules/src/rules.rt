@@ -54,7 +54,7 @@ fn is_composed(
     are_listed & (both != 0) & was_allowed(stated, rows, i, k, a, c)
 }
 
-// The same for the values `a` of `p` and `c` of `q`, where one of the two is `i` and the other a third option.
+// Rule 2 for the values `a` of `p` and `c` of `q`, where one of the two is `i` and the other a third option.
 fn is_composed_from(
     domains: [u32; 16],
     stated: [u32; 16],

@@ -58,7 +58,7 @@ pub fn report_into(bytes: &[u8], text: &mut [u8; LONGEST]) -> usize
     written(cut_parts(bytes, &mut rows), text)
 }
 
-// The same, by value.
+// What sheetcut prints, by value.
 pub fn report(bytes: &[u8]) -> Text
     ensures { λ r. ⌜ Printed 512 (textOf (now (bytes .entry))) (r .bytes) (r .length) ⌝ }
 {

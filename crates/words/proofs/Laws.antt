@@ -84,7 +84,7 @@ has-word (suc w) p v h =
     (λ e. rw e (digit-is _ w (p w) (ap (λ (n : ℕ). n % 2) (high (bit (p w)) w (word-lt w p)) ∙ bit-mod (p w))))
     (λ l. has-low (bit (p w)) w (word w p) v l ∙ has-word w p v l))
 
--- The same of a word that is given by a rule.
+-- Members of a word that is given by a rule.
 pub has-ruled : (w : ℕ) {x : ℕ} (p : ℕ → Bool) → x ≡ word w p → (v : ℕ) → v < w → has x v ≡ p v
 has-ruled w p e v l = ap (λ (n : ℕ). has n v) e ∙ has-word w p v l
 
