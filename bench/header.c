@@ -536,6 +536,139 @@ static void check_builds(void) {
     completed(&zero, low, 3, SHEET_CAUSE_NOT_SOUND, low);
 }
 
+/* All bins of a state, each with this count; how many they are. */
+static size_t fill(const struct sheet_state *state, struct sheet_bin *bins, uint32_t count) {
+    size_t at = 0;
+    for (size_t i = 0; i < state->n; i++) {
+        for (uint8_t v = 0; v < state->sizes[i]; v++, at++) {
+            bins[at].option = (uint8_t)(i + 1), bins[at].value = v, bins[at].count = count;
+        }
+    }
+    return at;
+}
+
+/* The bins of case J: two values of option 1 and one of option 2, with these counts. */
+static bool bins_are(const struct sheet_bin *bins, uint32_t first, uint32_t second, uint32_t third) {
+    static const uint8_t places[3][2] = {{1, 0}, {1, 1}, {2, 0}};
+    for (int k = 0; k < 3; k++) {
+        if (bins[k].option != places[k][0] || bins[k].value != places[k][1]) return false;
+    }
+    return bins[0].count == first && bins[1].count == second && bins[2].count == third;
+}
+
+/* A list of entries on case J, whose option 1 has a value that no build has: each with its answer and the counts that it leaves. */
+static void run_stock(const struct sheet_state *j, struct sheet_bin *bins) {
+    static const uint8_t build[] = {0, 0, 0}, other[] = {1, 0, 0};
+    const uint32_t most = UINT32_MAX;
+    CHECK(fill(j, bins, 0) == 3);
+    bins[0].count = 5, bins[2].count = 9;
+    CHECK(sheet_deliver(j, bins, 3, 1, 1, most) == 0 && bins_are(bins, 5, most, 9));
+    CHECK(sheet_deliver(j, bins, 3, 1, 1, 1) == SHEET_CAUSE_NOT_IN_STOCK && bins_are(bins, 5, most, 9));
+    CHECK(sheet_deliver(j, bins, 3, 1, 1, 0) == 0 && bins_are(bins, 5, most, 9));
+    CHECK(sheet_deliver(j, bins, 3, 1, 2, 0) == SHEET_CAUSE_NOT_IN_STOCK);
+    CHECK(sheet_call_off(j, bins, 3, build, 2, 3) == 0 && bins_are(bins, 2, most, 6));
+    CHECK(sheet_call_off(j, bins, 3, build, 2, 3) == SHEET_CAUSE_BIN_TOO_LOW && bins_are(bins, 2, most, 6));
+    CHECK(sheet_call_off(j, bins, 3, other, 2, 0) == SHEET_CAUSE_NOT_IN_STOCK);
+    CHECK(sheet_call_off(j, bins, 3, build, 3, 3) == SHEET_CAUSE_NOT_IN_STOCK && bins_are(bins, 2, most, 6));
+    CHECK(sheet_call_off(j, bins, 3, build, 2, 2) == 0 && bins_are(bins, 0, most, 4));
+    CHECK(sheet_call_off(j, bins, 3, build, 2, 0) == 0 && bins_are(bins, 0, most, 4));
+}
+
+/* What names no value of case J, and what is no build of it. */
+static void check_not_in_stock(const struct sheet_state *j, struct sheet_bin *bins) {
+    static const size_t wrongs[][2] = {{0, 0}, {3, 0}, {2, 1}, {17, 0}, {257, 0}, {1, 256}, {1, 257}, {SIZE_MAX, 0}, {1, SIZE_MAX}};
+    static const uint8_t other[] = {1, 0}, beyond[] = {2, 0};
+    for (size_t k = 0; k < sizeof wrongs / sizeof *wrongs; k++) {
+        CHECK(sheet_deliver(j, bins, 3, wrongs[k][0], wrongs[k][1], 1) == SHEET_CAUSE_NOT_IN_STOCK);
+        CHECK(sheet_deliver(j, bins, 3, wrongs[k][0], wrongs[k][1], 0) == SHEET_CAUSE_NOT_IN_STOCK);
+    }
+    /* 28 precedes 29 */
+    CHECK(sheet_call_off(j, bins, 3, other, 2, UINT32_MAX) == SHEET_CAUSE_NOT_IN_STOCK);
+    CHECK(sheet_call_off(j, bins, 3, beyond, 2, UINT32_MAX) == SHEET_CAUSE_NOT_IN_STOCK);
+    CHECK(sheet_call_off(j, bins, 3, beyond, 1, 0) == SHEET_CAUSE_NOT_IN_STOCK);
+    CHECK(sheet_call_off(j, bins, 3, NULL, 0, 0) == SHEET_CAUSE_NOT_IN_STOCK);
+}
+
+/* Records that are not those of case J: 27 follows 9 and precedes 28 and 29. No bin changes. */
+static void check_records(const struct sheet_state *j) {
+    static const struct sheet_bin wrongs[][4] = {
+        {{1, 1, 7}, {1, 0, 7}, {2, 0, 7}, {2, 1, 7}}, {{2, 0, 7}, {1, 0, 7}, {1, 1, 7}, {2, 1, 7}}, {{1, 0, 7}, {1, 0, 7}, {2, 0, 7}, {2, 1, 7}},
+        {{0, 0, 7}, {0, 1, 7}, {1, 0, 7}, {2, 0, 7}}, {{1, 0, 7}, {1, 1, 7}, {2, 1, 7}, {2, 0, 7}}, {{1, 0, 7}, {1, 1, 7}, {3, 0, 7}, {2, 0, 7}},
+    };
+    static const uint8_t build[] = {0, 0}, other[] = {1, 0};
+    struct sheet_bin bins[4];
+    for (size_t k = 0; k < sizeof wrongs / sizeof *wrongs; k++) {
+        memcpy(bins, wrongs[k], sizeof bins);
+        CHECK(sheet_deliver(j, bins, 3, 1, 0, 1) == SHEET_CAUSE_BIN_RECORDS && sheet_deliver(j, bins, 3, 0, 0, 1) == SHEET_CAUSE_BIN_RECORDS);
+        CHECK(sheet_call_off(j, bins, 3, build, 2, 1) == SHEET_CAUSE_BIN_RECORDS && sheet_call_off(j, bins, 3, other, 2, 9) == SHEET_CAUSE_BIN_RECORDS);
+        CHECK(sheet_deliver(&zero, bins, 3, 1, 0, 1) == SHEET_CAUSE_NOT_SOUND && sheet_call_off(&zero, bins, 3, build, 2, 1) == SHEET_CAUSE_NOT_SOUND);
+        CHECK(memcmp(bins, wrongs[k], sizeof bins) == 0);
+    }
+    /* too few, none, and one too many */
+    CHECK(fill(j, bins, 7) == 3);
+    bins[3] = bins[2];
+    CHECK(sheet_call_off(j, bins, 2, build, 2, 1) == SHEET_CAUSE_BIN_RECORDS && sheet_call_off(j, bins, 4, build, 2, 1) == SHEET_CAUSE_BIN_RECORDS);
+    CHECK(sheet_deliver(j, NULL, 0, 1, 0, 1) == SHEET_CAUSE_BIN_RECORDS && sheet_deliver(&zero, NULL, 0, 1, 0, 1) == SHEET_CAUSE_NOT_SOUND);
+    CHECK(bins_are(bins, 7, 7, 7) && bins[3].count == 7);
+}
+
+/* Case A, to which a table is added between two entries: a build of the sheet is none any more, and the bins stay those that they were.
+ * Nothing is drawn where a bin is too low, whichever it is. */
+static void check_stock_after_table(void) {
+    static const uint32_t table[] = {0x0004, 0x0006};
+    static const uint8_t low[] = {0, 0, 1}, high[] = {1, 2, 0};
+    static const uint32_t left[] = {5, 3, 5, 6, 3, 3, 5};
+    struct sheet_state s = fresh;
+    struct sheet_bin bins[7];
+    CHECK(fill(&s, bins, 6) == 7);
+    CHECK(sheet_call_off(&s, bins, 7, low, 3, 1) == 0 && sheet_add_table(&s, 3, 2, table, 2).number == 0);
+    CHECK(sheet_call_off(&s, bins, 7, low, 3, 1) == SHEET_CAUSE_NOT_IN_STOCK && sheet_call_off(&s, bins, 7, high, 3, 3) == 0);
+    CHECK(sheet_reduce(&s).number == 0 && sheet_call_off(&s, bins, 7, high, 3, 4) == SHEET_CAUSE_BIN_TOO_LOW);
+    /* the last of its bins alone is too low, and then the first alone */
+    for (int k = 0; k < 2; k++) {
+        bins[6].count = k == 0 ? 0 : 5, bins[0].count = k == 0 ? 5 : 0;
+        CHECK(sheet_call_off(&fresh, bins, 7, low, 3, 1) == SHEET_CAUSE_BIN_TOO_LOW);
+        CHECK(bins[0].count == (k == 0 ? 5 : 0) && bins[2].count == 5 && bins[6].count == (k == 0 ? 0 : 5));
+    }
+    bins[0].count = 5;
+    for (int k = 0; k < 7; k++) CHECK(bins[k].count == left[k]);
+}
+
+/* Bins on a page between two that may not be touched: at its start, at its end, and 512 that fill it. */
+static void check_stock(void) {
+    enum { PAGE = 4096 };
+    static const uint8_t case_j[] = {1, 0, 10, 2, 2, 1, 1, 1, 2, 0, 1, 0, 0};
+    struct sheet_state j, most = flat;
+    struct sheet_bin bins[3];
+    CHECK(sheet_read(case_j, sizeof case_j, &j).number == 0);
+    run_stock(&j, bins);
+    check_not_in_stock(&j, bins);
+    CHECK(bins_are(bins, 0, UINT32_MAX, 4));
+    check_records(&j);
+    check_stock_after_table();
+    CHECK(sheet_reduce(&j).steps == 1); /* its value 1 is in no list then */
+    run_stock(&j, bins);
+    void *pages = mmap(NULL, 3 * PAGE, PROT_READ | PROT_WRITE, MAP_PRIVATE | MAP_ANONYMOUS, -1, 0);
+    CHECK(pages != MAP_FAILED);
+    if (pages == MAP_FAILED) return;
+    uint8_t *page = (uint8_t *)pages + PAGE;
+    struct sheet_bin *held = (struct sheet_bin *)(void *)page;
+    CHECK(mprotect(pages, PAGE, PROT_NONE) == 0 && mprotect(page + PAGE, PAGE, PROT_NONE) == 0);
+    CHECK(PAGE == SHEET_MOST_BINS * sizeof *held);
+    run_stock(&j, held);
+    run_stock(&j, held + SHEET_MOST_BINS - 3);
+    check_not_in_stock(&j, held + SHEET_MOST_BINS - 3);
+    uint8_t last[16];
+    for (int i = 0; i < 16; i++) most.sizes[i] = 32, most.lists[i] = UINT32_MAX, last[i] = (uint8_t)(31 - i);
+    CHECK(fill(&most, held, 10) == SHEET_MOST_BINS);
+    CHECK(sheet_deliver(&most, held, SHEET_MOST_BINS, 16, 31, 5) == 0 && sheet_call_off(&most, held, SHEET_MOST_BINS, last, 16, 10) == 0);
+    CHECK(sheet_call_off(&most, held, SHEET_MOST_BINS, last, 16, 1) == SHEET_CAUSE_BIN_TOO_LOW);
+    for (int k = 0; k < SHEET_MOST_BINS; k++) {
+        CHECK(held[k].count == (k == 511 ? 15u : k % 32 == 31 - k / 32 ? 0u : 10u) && held[k].option == k / 32 + 1 && held[k].value == k % 32);
+    }
+    munmap(pages, 3 * PAGE);
+}
+
 /* The writer answers this and leaves this at the start of the buffer, and the bytes past it as they were. */
 static void written(const struct sheet_state *state, size_t length, int number, size_t answered) {
     uint8_t buffer[LENGTH_A + 2], left[LENGTH_A + 2];
@@ -590,6 +723,7 @@ static void check_allows(void) {
 struct locked {
     struct sheet_state fresh, stepped, blank, zero;
     uint8_t bytes[LENGTH_A], values[3];
+    struct sheet_bin bins[7];
 };
 
 static void check_read_only(void) {
@@ -599,6 +733,9 @@ static void check_read_only(void) {
     struct locked *held = (struct locked *)page;
     held->fresh = held->blank = fresh, held->stepped = stepped, held->zero = zero;
     held->blank.rows[sheet_row_place(0, 1, 0)] = 0, held->values[0] = 2;
+    static const uint8_t low[] = {0, 0, 1};
+    CHECK(fill(&fresh, held->bins, 0) == 7);
+    held->bins[0].count = 5, held->bins[1].count = UINT32_MAX;
     CHECK(mprotect(page, sizeof(struct locked), PROT_READ) == 0);
     CHECK(sheet_eliminate(&held->zero, 1, 2).number == SHEET_CAUSE_NOT_SOUND);
     CHECK(sheet_eliminate(&held->fresh, 0, 2).number == SHEET_CAUSE_OPTION_NUMBER);
@@ -622,6 +759,14 @@ static void check_read_only(void) {
     CHECK(sheet_complete(&held->fresh, held->bytes, 3) == SHEET_CAUSE_VALUES_FORBIDDEN);
     CHECK(sheet_find_order(&held->zero, held->bytes, 3) == SHEET_CAUSE_NOT_SOUND);
     CHECK(sheet_find_order(&held->fresh, held->bytes, 4) == SHEET_CAUSE_BUILD_LENGTH);
+    CHECK(sheet_deliver(&held->zero, held->bins, 7, 1, 0, 1) == SHEET_CAUSE_NOT_SOUND);
+    CHECK(sheet_deliver(&held->fresh, held->bins, 6, 1, 0, 1) == SHEET_CAUSE_BIN_RECORDS);
+    CHECK(sheet_deliver(&held->fresh, held->bins, 7, 4, 0, 1) == SHEET_CAUSE_NOT_IN_STOCK);
+    CHECK(sheet_deliver(&held->fresh, held->bins, 7, 1, 1, 1) == SHEET_CAUSE_NOT_IN_STOCK);
+    CHECK(sheet_call_off(&held->zero, held->bins, 7, low, 3, 1) == SHEET_CAUSE_NOT_SOUND);
+    CHECK(sheet_call_off(&held->fresh, held->bins + 1, 6, low, 3, 1) == SHEET_CAUSE_BIN_RECORDS);
+    CHECK(sheet_call_off(&held->fresh, held->bins, 7, held->values, 3, 1) == SHEET_CAUSE_NOT_IN_STOCK);
+    CHECK(sheet_call_off(&held->fresh, held->bins, 7, low, 3, 1) == SHEET_CAUSE_BIN_TOO_LOW);
     CHECK(sheet_write(&held->zero, 1, held->bytes, LENGTH_A).number == SHEET_CAUSE_NOT_SOUND);
     CHECK(sheet_write(&held->stepped, 1, held->bytes, LENGTH_A).number == SHEET_CAUSE_NOT_AS_READ);
     CHECK(sheet_write(&held->fresh, 4, held->bytes, LENGTH_A).number == SHEET_CAUSE_NOT_IN_VERSION);
@@ -652,6 +797,7 @@ static uint8_t stack[16 * SHEET_STACK_BYTES];
 static uint8_t bytes[LENGTH_A];
 static struct sheet_state held;
 static struct sheet_state deep; /* of all but its last option the last value goes */
+static struct sheet_bin stock[64]; /* of the 16 options of four values */
 static ucontext_t outer, inner;
 
 static void read_it(void) { sheet_read(CASE_A, LENGTH_A, &held); }
@@ -671,6 +817,11 @@ static void test_it(void) { bytes[0] = sheet_test(&reduced, bytes, 3).number; }
 static void complete_it(void) { memset(bytes, 0, 3), sheet_complete(&reduced, bytes, 3); }
 static void order_it(void) { bytes[0] = 1, bytes[1] = 2, bytes[2] = 3, bytes[0] = sheet_test_order(&fresh, bytes, 3).number; }
 static void find_it(void) { bytes[0] = sheet_find_order(&fresh, bytes, 3); }
+static void deliver_it(void) { fill(&flat, stock, 1), bytes[0] = sheet_deliver(&flat, stock, 64, 1, 0, 1); }
+static void call_off_it(void) {
+    static const uint8_t build[16] = {0};
+    fill(&flat, stock, 1), bytes[0] = sheet_call_off(&flat, stock, 64, build, 16, 1);
+}
 static void verdict_it(void) { bytes[0] = sheet_verdict(&reduced).kind; }
 static void search_it(void) { bytes[0] = sheet_search(&deep).kind; }
 static void cut_it(void) { sheet_cut(CASE_A, LENGTH_A, &held); }
@@ -694,9 +845,9 @@ static void check_stack(void) {
     for (int k = 1; k < 4; k++) {
         for (int b = 0; b < 31; b++) allow(&deep, k, 30, k + 1, b);
     }
-    static void (*const calls[])(void) = {read_it, paired_it, write_it,    sound_it,   follow_it, reduce_it, trim_it, lead_it, add_it,
-                                          test_it, complete_it, order_it,   find_it,   verdict_it, search_it, cut_it,  text_it,
-                                          meter_it};
+    static void (*const calls[])(void) = {read_it,  paired_it,   write_it, sound_it, follow_it,  reduce_it,   trim_it,
+                                          lead_it,  add_it,      test_it,  complete_it, order_it, find_it,    deliver_it,
+                                          call_off_it, verdict_it, search_it, cut_it, text_it, meter_it};
     for (size_t k = 0; k < sizeof calls / sizeof *calls; k++) {
         size_t untouched = 0;
         run_on_own_stack(calls[k]);
@@ -718,6 +869,7 @@ int main(void) {
     check_search();
     check_builds();
     check_orders();
+    check_stock();
     check_writing();
     check_blank_row();
     check_allows();

@@ -11,15 +11,15 @@
  * "Stack", "Threads" and "Platform", and the inline functions of this header.
  *
  * Refusals. `number` is 0 where a call is not refused, else the number of the cause, one of `enum sheet_cause`. Where several
- * causes hold, the one tested first is answered. A refused call on a state leaves it, and a buffer that it is lent, equal to
+ * causes hold, the one tested first is answered. A refused call on a state leaves it, and a buffer or bins that it is lent, equal to
  * what they were, and all other parts of its answer are zero, but for a place: that is proved. It also stores nothing there, so
- * that both may be read-only, and others may read them meanwhile: that is tried, on pages that may only be read, and not
+ * that all of them may be read-only, and others may read them meanwhile: that is tried, on pages that may only be read, and not
  * proved. sheet_read, sheet_read_paired and sheet_cut always store a state: the zero state where the sheet is refused.
  *
  * Memory. Bytes and buffers cross as a pointer and a length: so many bytes may be read there (of a buffer, also written) until
- * the call returns. With length 0 the pointer may be anything, NULL too: nothing is read or written through it. Any other
- * pointer points to what its type says. What a call writes must not overlap anything else that it is lent. Nothing is
- * allocated, and nothing is kept after a call.
+ * the call returns. So do the rows of a table and bins, whose length counts rows or bins. With length 0 the pointer may be
+ * anything, NULL too: nothing is read or written through it. Any other pointer points to what its type says. What a call writes
+ * must not overlap anything else that it is lent. Nothing is allocated, and nothing is kept after a call.
  *
  * States. Every call on a state takes a pointer to one, to a const one where it only looks. Each such call is an inline
  * function that hands the state's arrays to the function of the library, NAME_parts; callers in a language that cannot use an
@@ -42,13 +42,14 @@
 /* The version of these declarations: MAJOR rises where a caller has to be changed or compiled anew, or a state that he has kept may
  * now be refused, MINOR where something is added. The version in byte 0 of a sheet is another number. */
 #define SHEET_VERSION_MAJOR 5
-#define SHEET_VERSION_MINOR 4
+#define SHEET_VERSION_MINOR 5
 
 #define SHEET_LARGEST_BYTES 15621 /* "The largest version 2 sheet has 15,621 bytes, which is the limit in number 1" */
 #define SHEET_MOST_OPTIONS 16    /* length of the arrays that hold something for each option */
 #define SHEET_MOST_VALUES 32     /* the largest size: bits of a list or row that may be set */
 #define SHEET_PAIR_ROWS 32       /* rows that a state has room for in each pair */
 #define SHEET_ROWS 3840          /* 120 pairs of SHEET_PAIR_ROWS rows */
+#define SHEET_MOST_BINS 512      /* bins of a sheet of 16 options of 32 values */
 #define SHEET_TEXT_BYTES 512     /* room for every text that sheetcut prints */
 #define SHEET_STACK_BYTES 24576  /* the object code takes at most 16,872 (sheet_text); the rest is for memcpy and memset, and margin */
 
@@ -56,8 +57,7 @@
 extern "C" {
 #endif
 
-/* The causes of a refusal by their numbers, each in the words of document 01, or of document 02 where that changed it. No call of this
- * version answers 27 to 29. */
+/* The causes of a refusal by their numbers, each in the words of document 01, or of document 02 where that changed it. */
 enum sheet_cause {
     SHEET_NOT_REFUSED = 0,
     SHEET_CAUSE_LENGTH = 1,             /* "under 3 bytes, over 4,101, or not 3 plus the count", with 15,621 for 4,101 */
@@ -190,6 +190,13 @@ struct sheet_order_answer {
     bool is_good;
 };
 
+/* A bin of the stock: how many there are of one value of one option. */
+struct sheet_bin {
+    uint8_t option;  /* counted from 1 */
+    uint8_t value;   /* counted from 0 */
+    uint32_t count;
+};
+
 /* What a verdict or a search can say, a search never OPEN. 0 goes with a refusal. */
 enum sheet_verdict_kind { SHEET_NO_VERDICT = 0, SHEET_NONE = 1, SHEET_BUILT = 2, SHEET_OPEN = 3 };
 
@@ -264,6 +271,14 @@ struct sheet_verdict_answer sheet_search_parts(size_t n, const uint8_t sizes[SHE
                                                const uint32_t lists[SHEET_MOST_OPTIONS],
                                                const uint8_t leaders[SHEET_MOST_OPTIONS],
                                                const uint32_t stated[SHEET_MOST_OPTIONS], const uint32_t rows[SHEET_ROWS]);
+uint8_t sheet_deliver_parts(size_t n, const uint8_t sizes[SHEET_MOST_OPTIONS], const uint32_t lists[SHEET_MOST_OPTIONS],
+                            const uint8_t leaders[SHEET_MOST_OPTIONS], const uint32_t stated[SHEET_MOST_OPTIONS],
+                            const uint32_t rows[SHEET_ROWS], struct sheet_bin *bins, size_t bin_count, size_t option, size_t value,
+                            uint32_t amount);
+uint8_t sheet_call_off_parts(size_t n, const uint8_t sizes[SHEET_MOST_OPTIONS], const uint32_t lists[SHEET_MOST_OPTIONS],
+                             const uint8_t leaders[SHEET_MOST_OPTIONS], const uint32_t stated[SHEET_MOST_OPTIONS],
+                             const uint32_t rows[SHEET_ROWS], struct sheet_bin *bins, size_t bin_count, const uint8_t *build,
+                             size_t length, uint32_t amount);
 struct sheet_cut_answer sheet_cut_parts(const uint8_t *bytes, size_t length, size_t *n, uint8_t sizes[SHEET_MOST_OPTIONS],
                                         uint32_t lists[SHEET_MOST_OPTIONS], uint8_t leaders[SHEET_MOST_OPTIONS],
                                         uint32_t stated[SHEET_MOST_OPTIONS], uint32_t rows[SHEET_ROWS]);
@@ -417,6 +432,32 @@ static inline struct sheet_verdict_answer sheet_search(const struct sheet_state 
     return sheet_search_parts(state->n, state->sizes, state->lists, state->leaders, state->stated, state->rows);
 }
 
+/* A delivery: adds `amount` to the bin of `value` of `option`, options counted from 1. Answers the number.
+ * "The bins are a list of records, one for each value below each option's size, ascending by option and then by value": of values
+ * that are in no list any more, too. They are the caller's, and no call keeps them.
+ * Numbers 9, 27, 28, tested in this order: 27 "when the records aren't exactly those options and values in that order", 28 for "an option
+ * number 0 or above n, a value at or above the size, or a count that would exceed 32 bits". A refusal changes no bin. An amount of 0 is
+ * taken, and so is a value that no build has.
+ * "Each entry is one call with its own answer, and the next entry meets the bins as that call left them." Over any list of deliveries
+ * and call-offs, on one state or on several, "opening count plus accepted deliveries equals count on hand plus accepted call-offs" for
+ * each bin. */
+static inline uint8_t sheet_deliver(const struct sheet_state *state, struct sheet_bin *bins, size_t bin_count, size_t option,
+                                    size_t value, uint32_t amount) {
+    return sheet_deliver_parts(state->n, state->sizes, state->lists, state->leaders, state->stated, state->rows, bins, bin_count,
+                               option, value, amount);
+}
+
+/* A call-off: "names a build and a number, and draws that number from the bin of each of its values, or from none". Every bin is looked
+ * at before any is drawn. The build has n bytes, a value for each option. Answers the number.
+ * Numbers 9, 27, 28, 29, tested in this order: 27 as sheet_deliver; 28 for "a non-build (a wrong number of bytes included)", that is for
+ * what sheet_test does not say yes to; 29 for "a bin too low". A refusal changes no bin. Of a build an amount of 0 is taken.
+ * What is called off after any calls on an accepted sheet is a build of that sheet that keeps to the tables added. */
+static inline uint8_t sheet_call_off(const struct sheet_state *state, struct sheet_bin *bins, size_t bin_count, const uint8_t *build,
+                                     size_t length, uint32_t amount) {
+    return sheet_call_off_parts(state->n, state->sizes, state->lists, state->leaders, state->stated, state->rows, bins, bin_count,
+                                build, length, amount);
+}
+
 /* What sheet_read, sheet_reduce and sheet_verdict answer one after the other; the reduced state is stored in `state`.
  * Numbers 1 to 8, 19, 20 and 26, as sheet_read. A refusal answers its number and place, 0 steps, SHEET_NO_VERDICT and no build, and
  * stores the zero state. */
@@ -454,6 +495,7 @@ size_t sheet_text(const uint8_t *bytes, size_t length, uint8_t text[SHEET_TEXT_B
 #define SHEET_AT(type, field, at) SHEET_HOLDS(type##_##field, offsetof(struct type, field) == (at))
 #define SHEET_HAS(type, bytes) SHEET_HOLDS(type##_whole, sizeof(struct type) == (bytes))
 
+SHEET_HOLDS(bins, SHEET_MOST_BINS == SHEET_MOST_OPTIONS * SHEET_MOST_VALUES);
 SHEET_HOLDS(arrays, SHEET_ROWS == SHEET_MOST_OPTIONS * (SHEET_MOST_OPTIONS - 1) / 2 * SHEET_PAIR_ROWS);
 SHEET_AT(sheet_state, n, 0);
 SHEET_AT(sheet_state, sizes, 8);
@@ -472,6 +514,9 @@ SHEET_AT(sheet_test_answer, is_build, 1);
 SHEET_HAS(sheet_test_answer, 2);
 SHEET_AT(sheet_order_answer, is_good, 1);
 SHEET_HAS(sheet_order_answer, 2);
+SHEET_AT(sheet_bin, value, 1);
+SHEET_AT(sheet_bin, count, 4);
+SHEET_HAS(sheet_bin, 8);
 SHEET_AT(sheet_verdict_answer, kind, 1);
 SHEET_AT(sheet_verdict_answer, build, 2);
 SHEET_HAS(sheet_verdict_answer, 18);

@@ -1,5 +1,5 @@
 //! Sheets, states and buffers to try.
-use crate::proved::{row_place, State, ROWS};
+use crate::proved::{row_place, Bin, State, ROWS};
 
 /// A small generator of random numbers (splitmix64), so that a run can be repeated.
 pub struct Random(pub u64);
@@ -19,6 +19,11 @@ impl Random {
 
     pub fn chance(&mut self, one_in: usize) -> bool {
         self.below(one_in) == 0
+    }
+
+    /// Numbers beside these: what comes of these does not depend on how many of those are taken.
+    pub fn beside(&self) -> Random {
+        Random(!self.0)
     }
 }
 
@@ -375,6 +380,77 @@ pub fn any_order(n: usize, random: &mut Random) -> Vec<u8> {
         _ => {}
     }
     order
+}
+
+/// A count of a bin, or an amount: mostly small, some near 2^32.
+fn any_count(random: &mut Random) -> u32 {
+    match random.below(8) {
+        0 => 0,
+        1 => u32::MAX - random.below(4) as u32,
+        2 => random.next() as u32,
+        _ => random.below(40) as u32,
+    }
+}
+
+/// The bins of a state; some with a record that is wrong, missing, out of order or too many.
+pub fn any_bins(state: &State, random: &mut Random) -> Vec<Bin> {
+    let mut bins = Vec::new();
+    for i in 0..state.n.min(16) {
+        for value in 0..state.sizes[i] {
+            let (option, count) = (i as u8 + 1, any_count(random));
+            bins.push(Bin { option, value, count });
+        }
+    }
+    let last = bins.len().max(1) - 1;
+    let (at, other) = (random.below(last + 1), random.below(last + 1));
+    match random.below(32) {
+        _ if bins.is_empty() => {}
+        0 => bins.swap(at, other),
+        1 => bins.truncate(at),
+        2 => drop(bins.remove(at)),
+        3 => bins.insert(at, bins[other]),
+        4 => bins.push(bins[other]),
+        5 => bins[at].option = [0, bins[at].option.wrapping_add(1), random.next() as u8][random.below(3)],
+        6 => bins[at].value = [0, bins[at].value.wrapping_add(1), random.next() as u8][random.below(3)],
+        _ => {}
+    }
+    bins
+}
+
+/// An entry of a year's list.
+pub enum Entry {
+    Delivery { option: usize, value: usize, amount: u32 },
+    CallOff { build: Vec<u8>, amount: u32 },
+}
+
+/// An entry for a state: most deliveries name a value of it, and half of the builds are the one given.
+pub fn any_entry(state: &State, build: &[u8], random: &mut Random) -> Entry {
+    let n = state.n.clamp(1, 16);
+    let amount = if random.chance(2) {
+        random.below(4) as u32
+    } else {
+        any_count(random)
+    };
+    if random.chance(2) {
+        let build = match random.below(4) {
+            0 => buffer(build, random.below(21), random),
+            1 => buffer(build, n, random),
+            _ => build.to_vec(),
+        };
+        return Entry::CallOff { build, amount };
+    }
+    let option = match random.below(12) {
+        0 => random.next() as usize,
+        1 => [0, n + 1, 17, 257][random.below(4)],
+        _ => 1 + random.below(n),
+    };
+    let size = state.sizes[option.clamp(1, 16) - 1].max(1) as usize;
+    let value = match random.below(12) {
+        0 => random.next() as usize,
+        1 => [size, 32, 256, 257][random.below(4)],
+        _ => random.below(size),
+    };
+    Entry::Delivery { option, value, amount }
 }
 
 /// A table for two options of these sizes; value `a` is to go with value `b`.

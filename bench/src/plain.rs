@@ -1,5 +1,5 @@
 //! Documents 01 and 02 in plain Rust, written for speed: bit-parallel, in place, early ways out, no copy of a state.
-use crate::proved::{State, Stepped, Tested, TestedOrder, Verdict, Written, BUILT, NONE, NO_VERDICT, OPEN, PAIR_ROWS, ROWS};
+use crate::proved::{Bin, State, Stepped, Tested, TestedOrder, Verdict, Written, BUILT, NONE, NO_VERDICT, OPEN, PAIR_ROWS, ROWS};
 
 const LARGEST: usize = 15621;
 
@@ -898,6 +898,59 @@ pub fn test(s: &State, build: &[u8]) -> Tested {
     }
     let inside = build.iter().zip(&s.lists).all(|(value, list)| list >> value & 1 == 1);
     answer(0, inside && pairs_allow(s, full(s.n), build))
+}
+
+/// Where the bins of each option begin; none unless the records are exactly the values of each option, in order.
+#[inline(always)]
+fn shelves(s: &State, bins: &[Bin]) -> Option<[usize; 16]> {
+    let (mut starts, mut at) = ([0; 16], 0);
+    for i in 0..s.n {
+        let shelf = bins.get(at..at + s.sizes[i] as usize)?;
+        let in_place = |(value, bin): (usize, &Bin)| bin.option as usize == i + 1 && bin.value as usize == value;
+        if !shelf.iter().enumerate().all(in_place) {
+            return None;
+        }
+        starts[i] = at;
+        at += shelf.len();
+    }
+    (at == bins.len()).then_some(starts)
+}
+
+pub fn deliver(s: &State, bins: &mut [Bin], option: usize, value: usize, amount: u32) -> u8 {
+    if !is_sound(s) {
+        return 9;
+    }
+    let Some(starts) = shelves(s, bins) else { return 27 };
+    if option == 0 || option > s.n || value >= s.sizes[option - 1] as usize {
+        return 28;
+    }
+    let bin = &mut bins[starts[option - 1] + value];
+    match bin.count.checked_add(amount) {
+        Some(count) => {
+            bin.count = count;
+            0
+        }
+        None => 28,
+    }
+}
+
+pub fn call_off(s: &State, bins: &mut [Bin], build: &[u8], amount: u32) -> u8 {
+    let tested = test(s, build);
+    if tested.number == 9 {
+        return 9;
+    }
+    let Some(starts) = shelves(s, bins) else { return 27 };
+    if !tested.is_build {
+        return 28;
+    }
+    let place = |i: usize| starts[i] + build[i] as usize;
+    if (0..s.n).any(|i| bins[place(i)].count < amount) {
+        return 29;
+    }
+    for i in 0..s.n {
+        bins[place(i)].count -= amount;
+    }
+    0
 }
 
 /// Writes the followers' values; the number that refuses.

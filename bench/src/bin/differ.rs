@@ -1,7 +1,7 @@
 //! Compares the proved library with plain Rust: number, place, state, buffer and text of every call. `differ [SHEETS]` sets how many sheets are made.
 use bench::inputs::*;
 use bench::plain;
-use bench::proved::{self, Cause, Cut, Read, State};
+use bench::proved::{self, Bin, Cause, Cut, Read, State};
 
 /// What was compared, and how the calls answered.
 struct Counts {
@@ -11,7 +11,7 @@ struct Counts {
     differences: usize,
 }
 
-const CALLS: [&str; 17] = [
+const CALLS: [&str; 19] = [
     "read",
     "write",
     "sound",
@@ -29,6 +29,8 @@ const CALLS: [&str; 17] = [
     "test_order",
     "find_order",
     "read_paired",
+    "deliver",
+    "call_off",
 ];
 /// The numbers that a call can answer: 0, which stands for "not refused", and those of the causes.
 const NUMBERS: usize = Cause::GREATEST as usize + 1;
@@ -183,6 +185,75 @@ fn orders(state: &State, order: &[u8], counts: &mut Counts) {
     counts.note(15, one, &(one, here, good), &(other, there, true));
 }
 
+/// Bins, those that both leave, and what was accepted for each: deliveries and call-offs.
+struct Year {
+    opening: Vec<Bin>,
+    here: Vec<Bin>,
+    there: Vec<Bin>,
+    accepted: Vec<(u64, u64)>,
+}
+
+impl Year {
+    fn of(state: &State, random: &mut Random) -> Year {
+        let opening = any_bins(state, random);
+        Year {
+            here: opening.clone(),
+            there: opening.clone(),
+            accepted: vec![(0, 0); opening.len()],
+            opening,
+        }
+    }
+
+    /// Some entries, each with its own answer. A refusal changes no bin, and after each entry every bin balances.
+    fn run(&mut self, state: &State, build: &[u8], random: &mut Random, counts: &mut Counts) {
+        for _ in 0..1 + random.below(5) {
+            let entry = any_entry(state, build, random);
+            let before = self.here.clone();
+            let (call, one, other) = match &entry {
+                &Entry::Delivery { option, value, amount } => (
+                    17,
+                    proved::deliver(state, &mut self.here, option, value, amount),
+                    plain::deliver(state, &mut self.there, option, value, amount),
+                ),
+                Entry::CallOff { build, amount } => (
+                    18,
+                    proved::call_off(state, &mut self.here, build, *amount),
+                    plain::call_off(state, &mut self.there, build, *amount),
+                ),
+            };
+            if one == 0 {
+                self.accept(&entry);
+            }
+            let kept = one == 0 || self.here == before;
+            counts.note(
+                call,
+                one,
+                &(one, &self.here, kept, self.balances()),
+                &(other, &self.there, true, true),
+            );
+        }
+    }
+
+    fn accept(&mut self, entry: &Entry) {
+        for (bin, sums) in self.opening.iter().zip(&mut self.accepted) {
+            match entry {
+                &Entry::Delivery { option, value, amount } if (bin.option as usize, bin.value as usize) == (option, value) => {
+                    sums.0 += amount as u64
+                }
+                Entry::CallOff { build, amount } if build[bin.option as usize - 1] == bin.value => sums.1 += *amount as u64,
+                _ => {}
+            }
+        }
+    }
+
+    fn balances(&self) -> bool {
+        let bins = self.opening.iter().zip(&self.here).zip(&self.accepted);
+        bins.into_iter().all(|((open, now), (delivered, called_off))| {
+            open.count as u64 + delivered == now.count as u64 + called_off && (open.option, open.value) == (now.option, now.value)
+        })
+    }
+}
+
 /// Every call on one state.
 fn calls(state: &State, build: &[u8], random: &mut Random, counts: &mut Counts) {
     let sound = proved::is_sound(state);
@@ -214,6 +285,8 @@ fn calls(state: &State, build: &[u8], random: &mut Random, counts: &mut Counts) 
     for _ in 0..2 {
         orders(state, &any_order(n, random), counts);
     }
+    let mut stock = random.beside();
+    Year::of(state, &mut stock).run(state, build, &mut stock, counts);
     write(
         state,
         any_version(random),
@@ -239,7 +312,11 @@ fn from_sheet(sheet: &Sheet, random: &mut Random, counts: &mut Counts) {
     for version in 1..=3 {
         write(&state, version, 15621, random, counts);
     }
+    // bins that go along, while the state changes between entries
+    let mut stock = random.beside();
+    let mut year = Year::of(&state, &mut stock);
     for _ in 0..1 + random.below(6) {
+        year.run(&state, &sheet.build, &mut stock, counts);
         let n = state.n;
         state = match random.below(10) {
             0 => reduce(&state, counts),

@@ -1,7 +1,7 @@
 //! How long each call takes in the proved library and in plain Rust: nanoseconds, medians, both in one run by turns.
 use bench::inputs::{half_table, hard_sheet, sheet_in, Random, Sheet, Table, FAMILIES, HARD, NEAR_MILLION};
 use bench::plain;
-use bench::proved::{self, State};
+use bench::proved::{self, Bin, State};
 use std::hint::black_box;
 use std::time::Instant;
 
@@ -61,8 +61,27 @@ fn case(sheet: Sheet, random: &mut Random) -> Case {
     }
 }
 
-/// A call on a case, with a scratch state and a buffer.
-type Call = fn(&Case, &mut State, &mut [u8]);
+/// What calls write into beside a state: a buffer, and the bins of the cases, which have the same sizes, full enough for every call-off.
+struct Room {
+    bytes: Vec<u8>,
+    bins: Vec<Bin>,
+}
+
+fn room(case: &Case) -> Room {
+    let sizes = &case.fresh.sizes[..case.fresh.n];
+    let count = 1 << 30;
+    let bins = sizes
+        .iter()
+        .zip(1..)
+        .flat_map(|(&size, option)| (0..size).map(move |value| Bin { option, value, count }));
+    Room {
+        bytes: vec![0; 15621],
+        bins: bins.collect(),
+    }
+}
+
+/// A call on a case, with a scratch state and room.
+type Call = fn(&Case, &mut State, &mut Room);
 
 /// The scratch state of a call, as just read or reduced.
 type Start = fn(&Case) -> &State;
@@ -72,8 +91,8 @@ const REDUCED: Start = |case| &case.reduced;
 
 /// Each call in the proved library and in plain Rust. Both are lent the state, and work in place. "paired" reads a sheet of the
 /// paired profile, which the bijective ones are; "lead" has option 1 lead; "led" adds a table to a reduced
-/// state, whose options may follow others.
-const CALLS: [(&str, Start, Call, Call); 18] = [
+/// state, whose options may follow others; "deliver" and "call_off" are accepted.
+const CALLS: [(&str, Start, Call, Call); 20] = [
     (
         "read",
         AS_READ,
@@ -137,8 +156,8 @@ const CALLS: [(&str, Start, Call, Call); 18] = [
     (
         "complete",
         AS_READ,
-        |c, _, b| look(proved::complete(&c.reduced, build(c, b))),
-        |c, _, b| look(plain::complete(&c.reduced, build(c, b))),
+        |c, _, r| look(proved::complete(&c.reduced, build(c, r))),
+        |c, _, r| look(plain::complete(&c.reduced, build(c, r))),
     ),
     (
         "test",
@@ -155,14 +174,26 @@ const CALLS: [(&str, Start, Call, Call); 18] = [
     (
         "find_order",
         AS_READ,
-        |c, _, b| look(proved::find_order(&c.fresh, build(c, b))),
-        |c, _, b| look(plain::find_order(&c.fresh, build(c, b))),
+        |c, _, r| look(proved::find_order(&c.fresh, build(c, r))),
+        |c, _, r| look(plain::find_order(&c.fresh, build(c, r))),
+    ),
+    (
+        "deliver",
+        AS_READ,
+        |c, _, r| look(proved::deliver(&c.fresh, &mut r.bins, 1, 0, 1)),
+        |c, _, r| look(plain::deliver(&c.fresh, &mut r.bins, 1, 0, 1)),
+    ),
+    (
+        "call_off",
+        AS_READ,
+        |c, _, r| look(proved::call_off(&c.fresh, &mut r.bins, &c.sheet.build, 1)),
+        |c, _, r| look(plain::call_off(&c.fresh, &mut r.bins, &c.sheet.build, 1)),
     ),
     (
         "write",
         AS_READ,
-        |c, _, b| look(proved::write(&c.fresh, c.sheet.bytes[0] as usize, b)),
-        |c, _, b| look(plain::write(&c.fresh, c.sheet.bytes[0] as usize, b)),
+        |c, _, r| look(proved::write(&c.fresh, c.sheet.bytes[0] as usize, &mut r.bytes)),
+        |c, _, r| look(plain::write(&c.fresh, c.sheet.bytes[0] as usize, &mut r.bytes)),
     ),
     (
         "cut",
@@ -173,8 +204,8 @@ const CALLS: [(&str, Start, Call, Call); 18] = [
     (
         "text",
         AS_READ,
-        |c, _, b| look(proved::text(&c.sheet.bytes, b.first_chunk_mut().unwrap())),
-        |c, _, b| look(plain::text(&c.sheet.bytes, b.first_chunk_mut().unwrap())),
+        |c, _, r| look(proved::text(&c.sheet.bytes, r.bytes.first_chunk_mut().unwrap())),
+        |c, _, r| look(plain::text(&c.sheet.bytes, r.bytes.first_chunk_mut().unwrap())),
     ),
     (
         "search",
@@ -190,14 +221,14 @@ fn look<T>(answer: T) {
 }
 
 /// The case's build at the start of the buffer.
-fn build<'a>(case: &Case, buffer: &'a mut [u8]) -> &'a mut [u8] {
-    let build = &mut buffer[..case.sheet.build.len()];
+fn build<'a>(case: &Case, room: &'a mut Room) -> &'a mut [u8] {
+    let build = &mut room.bytes[..case.sheet.build.len()];
     build.copy_from_slice(&case.sheet.build);
     build
 }
 
 /// The time of one call over all cases: each scratch state is set anew outside the time that is taken.
-fn timed(cases: &[Case], start: Start, scratch: &mut [Lined], buffer: &mut [u8], call: Call) -> f64 {
+fn timed(cases: &[Case], start: Start, scratch: &mut [Lined], room: &mut Room, call: Call) -> f64 {
     let mut total = 0;
     for _ in 0..REPEATS {
         for (case, state) in cases.iter().zip(scratch.iter_mut()) {
@@ -205,7 +236,7 @@ fn timed(cases: &[Case], start: Start, scratch: &mut [Lined], buffer: &mut [u8],
         }
         let clock = Instant::now();
         for (case, state) in cases.iter().zip(scratch.iter_mut()) {
-            call(black_box(case), &mut state.0, buffer);
+            call(black_box(case), &mut state.0, room);
         }
         total += clock.elapsed().as_nanos();
     }
@@ -220,11 +251,11 @@ fn median(mut times: Vec<f64>) -> f64 {
 /// Both by turns; the medians.
 fn both(cases: &[Case], start: Start, one: Call, other: Call) -> (f64, f64) {
     let mut scratch = vec![Lined(State::ZERO); cases.len()];
-    let mut buffer = vec![0u8; 15621];
+    let mut room = room(&cases[0]);
     let (mut ones, mut others) = (Vec::new(), Vec::new());
     for _ in 0..ROUNDS {
-        ones.push(timed(cases, start, &mut scratch, &mut buffer, one));
-        others.push(timed(cases, start, &mut scratch, &mut buffer, other));
+        ones.push(timed(cases, start, &mut scratch, &mut room, one));
+        others.push(timed(cases, start, &mut scratch, &mut room, other));
     }
     (median(ones), median(others))
 }

@@ -1,8 +1,7 @@
 use std::error::Error;
 use std::fmt;
 
-/// The causes of a refusal, each with its number and in the words of document 01, or of document 02 where that changed it. No call of
-/// this version answers 27 to 29.
+/// The causes of a refusal, each with its number and in the words of document 01, or of document 02 where that changed it.
 #[derive(Clone, Copy, PartialEq, Eq, Hash, Debug)]
 #[non_exhaustive]
 #[repr(u8)]

@@ -160,6 +160,32 @@ extern "C" {
         order: *mut u8,
         length: usize,
     ) -> u8;
+    fn sheet_deliver_parts(
+        n: usize,
+        sizes: &[u8; MOST_OPTIONS],
+        lists: &[u32; MOST_OPTIONS],
+        leaders: &[u8; MOST_OPTIONS],
+        stated: &[u32; MOST_OPTIONS],
+        rows: &Rows,
+        bins: *mut Bin,
+        bin_count: usize,
+        option: usize,
+        value: usize,
+        amount: u32,
+    ) -> u8;
+    fn sheet_call_off_parts(
+        n: usize,
+        sizes: &[u8; MOST_OPTIONS],
+        lists: &[u32; MOST_OPTIONS],
+        leaders: &[u8; MOST_OPTIONS],
+        stated: &[u32; MOST_OPTIONS],
+        rows: &Rows,
+        bins: *mut Bin,
+        bin_count: usize,
+        build: *const u8,
+        length: usize,
+        amount: u32,
+    ) -> u8;
     fn sheet_verdict_parts(
         n: usize,
         sizes: &[u8; MOST_OPTIONS],
@@ -524,6 +550,80 @@ pub fn verdict(state: &State) -> Verdict {
 pub fn search(state: &State) -> Verdict {
     let s = state;
     unsafe { sheet_search_parts(s.n, &s.sizes, &s.lists, &s.leaders, &s.stated, &s.rows) }
+}
+
+/// A delivery: adds `amount` to the bin of `value` of `option`, options counted from 1. Answers the number.
+///
+/// "The bins are a list of records, one for each value below each option's size, ascending by option and then by value": of values that
+/// are in no list any more, too.
+///
+/// Numbers 9, 27, 28, tested in this order: 27 "when the records aren't exactly those options and values in that order", 28 for "an option
+/// number 0 or above n, a value at or above the size, or a count that would exceed 32 bits". A refusal changes no bin. An amount of 0 is
+/// taken, and so is a value that no build has. "Each entry is one call with its own answer, and the next entry meets the bins as that call
+/// left them." Over any list of deliveries and call-offs, on one state or on several, "opening count plus accepted deliveries equals count
+/// on hand plus accepted call-offs" for each bin.
+///
+/// ```
+/// let case_j = [1, 0, 10, 2, 2, 1, 1, 1, 2, 0, 1, 0, 0];
+/// let mut state = sheet::State::ZERO;
+/// assert_eq!(sheet::read(&case_j, &mut state).number, 0);
+/// let bin = |option, value, count| sheet::Bin { option, value, count };
+/// let mut bins = [bin(1, 0, 5), bin(1, 1, 0), bin(2, 0, 9)];
+/// assert_eq!(sheet::deliver(&state, &mut bins, 1, 1, u32::MAX), 0); // no build has value 1 of option 1
+/// assert_eq!(sheet::deliver(&state, &mut bins, 1, 1, 1), sheet::Cause::NotInStock.number());
+/// assert_eq!(sheet::call_off(&state, &mut bins, &[0, 0], 3), 0);
+/// assert_eq!(bins, [bin(1, 0, 2), bin(1, 1, u32::MAX), bin(2, 0, 6)]);
+/// assert_eq!(sheet::call_off(&state, &mut bins, &[0, 0], 3), sheet::Cause::BinTooLow.number());
+/// assert_eq!(sheet::call_off(&state, &mut bins, &[1, 0], 0), sheet::Cause::NotInStock.number());
+/// assert_eq!(sheet::call_off(&state, &mut bins[..2], &[0, 0], 0), sheet::Cause::BinRecords.number());
+/// assert_eq!(bins[2].count, 6);
+/// ```
+#[inline]
+#[must_use]
+pub fn deliver(state: &State, bins: &mut [Bin], option: usize, value: usize, amount: u32) -> u8 {
+    let s = state;
+    unsafe {
+        sheet_deliver_parts(
+            s.n,
+            &s.sizes,
+            &s.lists,
+            &s.leaders,
+            &s.stated,
+            &s.rows,
+            bins.as_mut_ptr(),
+            bins.len(),
+            option,
+            value,
+            amount,
+        )
+    }
+}
+
+/// A call-off: "names a build and a number, and draws that number from the bin of each of its values, or from none". Every bin is looked at
+/// before any is drawn. The build has n bytes, a value for each option. Answers the number.
+///
+/// Numbers 9, 27, 28, 29, tested in this order: 27 as [`deliver`]; 28 for "a non-build (a wrong number of bytes included)", that is for what
+/// [`test`] does not say yes to; 29 for "a bin too low". A refusal changes no bin. Of a build an amount of 0 is taken. What is called off
+/// after any calls on an accepted sheet is a build of that sheet that keeps to the tables added.
+#[inline]
+#[must_use]
+pub fn call_off(state: &State, bins: &mut [Bin], build: &[u8], amount: u32) -> u8 {
+    let s = state;
+    unsafe {
+        sheet_call_off_parts(
+            s.n,
+            &s.sizes,
+            &s.lists,
+            &s.leaders,
+            &s.stated,
+            &s.rows,
+            bins.as_mut_ptr(),
+            bins.len(),
+            build.as_ptr(),
+            build.len(),
+            amount,
+        )
+    }
 }
 
 /// What [`read`], [`reduce`] and [`verdict`] answer one after the other; the reduced state is stored.

@@ -11,6 +11,8 @@ pub const MOST_VALUES: usize = 32;
 pub const PAIR_ROWS: usize = 32;
 /// The rows of the 120 pairs.
 pub const ROWS: usize = MOST_OPTIONS * (MOST_OPTIONS - 1) / 2 * PAIR_ROWS;
+/// The bins of a sheet of 16 options of 32 values.
+pub const MOST_BINS: usize = MOST_OPTIONS * MOST_VALUES;
 /// Room for every text that sheetcut prints.
 pub const TEXT_BYTES: usize = 512;
 
@@ -104,6 +106,17 @@ pub struct TestedOrder {
     pub is_good: bool,
 }
 
+/// A bin of the stock: how many there are of one value of one option.
+#[repr(C)]
+#[derive(Clone, Copy, PartialEq, Eq, Debug)]
+pub struct Bin {
+    /// Counted from 1.
+    pub option: u8,
+    /// Counted from 0.
+    pub value: u8,
+    pub count: u32,
+}
+
 /// What a verdict or a search can say, a search never OPEN: nothing, with a refusal;
 pub const NO_VERDICT: u8 = 0;
 /// there is no build;
@@ -146,6 +159,7 @@ const _: () = {
     assert!(offset_of!(Written, length) == 8 && size_of::<Written>() == 16);
     assert!(offset_of!(Tested, is_build) == 1 && size_of::<Tested>() == 2);
     assert!(offset_of!(TestedOrder, is_good) == 1 && size_of::<TestedOrder>() == 2);
+    assert!(offset_of!(Bin, value) == 1 && offset_of!(Bin, count) == 4 && size_of::<Bin>() == 8);
     assert!(offset_of!(Verdict, kind) == 1 && offset_of!(Verdict, build) == 2 && size_of::<Verdict>() == 18);
     assert!(offset_of!(Cut, place) == 8 && offset_of!(Cut, steps) == 16 && offset_of!(Cut, kind) == 24);
     assert!(offset_of!(Cut, build) == 25 && size_of::<Cut>() == 48);

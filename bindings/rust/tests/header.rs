@@ -1,5 +1,5 @@
 //! What stands in `include/sheet.h` too is the same there. (Layouts are asserted in both.)
-use sheet::{Cause, LARGEST_BYTES, MOST_OPTIONS, MOST_VALUES, PAIR_ROWS, ROWS, TEXT_BYTES};
+use sheet::{Cause, LARGEST_BYTES, MOST_BINS, MOST_OPTIONS, MOST_VALUES, PAIR_ROWS, ROWS, TEXT_BYTES};
 
 const HEADER: &str = include_str!("../../../include/sheet.h");
 
@@ -40,6 +40,7 @@ fn constants_are_the_same() {
         ("MOST_VALUES", MOST_VALUES),
         ("PAIR_ROWS", PAIR_ROWS),
         ("ROWS", ROWS),
+        ("MOST_BINS", MOST_BINS),
         ("TEXT_BYTES", TEXT_BYTES),
     ] {
         let words = ["#define".to_string(), format!("SHEET_{name}"), value.to_string()];

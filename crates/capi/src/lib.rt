@@ -5,7 +5,9 @@ mod change;
 mod fit;
 mod look;
 mod sheets;
+mod stock;
 
+pub use bins::Bin;
 pub use capi_answers::SheetCut;
 pub use capi_answers::SheetRead;
 pub use capi_answers::SheetTested;
@@ -30,3 +32,5 @@ pub use sheets::sheet_cut_parts;
 pub use sheets::sheet_read_paired_parts;
 pub use sheets::sheet_read_parts;
 pub use sheets::sheet_text;
+pub use stock::sheet_call_off_parts;
+pub use stock::sheet_deliver_parts;

@@ -1,0 +1,4 @@
+pub mod Shape
+pub mod Lists
+pub mod Laws
+pub mod Places
