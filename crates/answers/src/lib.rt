@@ -1,4 +1,6 @@
 // What a call answers besides states and buffers, and document 01's numbers for each case.
+#![tactic(auto)]
+
 ghost use Rattle.std.specs.Prelude.{List, ◌≡◌, ℕ};
 ghost use Rattle.answers.specs.Answers.{number_read, read_place, outcome_number, write_told, test_told, test_number, test_agrees, value_told, verdict_told, verdict_number, verdict_kind};
 

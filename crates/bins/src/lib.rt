@@ -1,4 +1,6 @@
 // A record of stock, and what one entry, a delivery or a call-off, finds in it and makes of it.
+#![tactic(auto)]
+
 ghost use Rattle.std.specs.Prelude.{◌≡◌, ◌<◌, get_or};
 ghost use Rattle.bounded.specs.Bool.{or};
 ghost use Rattle.bins.specs.Bins.{is_of, of_solution};

@@ -1,4 +1,6 @@
 // The bins' counts in an array, and sums beside them.
+#![tactic(auto)]
+
 ghost use Rattle.std.specs.Prelude.{◌≡◌, ◌-◌, ◌≤◌, ◌<◌, ◌^◌, get_or};
 ghost use Rattle.bins_counts.specs.Counts.{spot, Inside, changed_at, changed_each, plus, minus, is_low, lowest};
 

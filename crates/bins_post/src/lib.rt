@@ -1,4 +1,6 @@
 // The one thin function over lent bins: it draws or adds.
+#![tactic(auto)]
+
 ghost use Rattle.std.specs.Prelude.{◌≡◌, ◌≤◌, ◌++◌, take, drop};
 ghost use Rattle.bins.specs.Plans.{plan_number, plan_bins};
 

@@ -1,4 +1,6 @@
 // The text of the bins, handed over in any parts: a line `option,value,count` for each bin, in their order. The counts go into a lent array.
+#![tactic(auto)]
+
 ghost use Rattle.std.specs.Prelude.{◌≡◌, List, ℕ, ◌<◌};
 ghost use Rattle.bins_text.specs.Machine.{place_index, in_order, bins_count, refused_at, passed, taken, read_case, start_reading, judged_end, at_end};
 ghost use Rattle.bins_text.specs.Fed.{read, at, program};

@@ -1,4 +1,6 @@
 // Texts written into a lent buffer. Each function returns the place past its text.
+#![tactic(auto)]
+
 ghost use Rattle.std.specs.Prelude.{[], ◌∷◌, ◌++◌, ◌≡◌, ◌+◌, ◌/◌, ◌%◌, ◌^◌, ◌<◌, ◌≤◌, length};
 ghost use Rattle.buffers.specs.Digits.{decimal, hex_digit, hex_text};
 ghost use Rattle.buffers.specs.Wrote.{Wrote};

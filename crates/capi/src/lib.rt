@@ -1,6 +1,8 @@
 // The calls of the library for C and Rust. Enums do not cross, so an answer is a struct of document 01's numbers; 0 stands for "not refused".
 // A state is lent as its arrays, of which any contents are taken, and no state is copied. `include/sheet.h` declares all of this in C, with a call on a
 // pointer to a state over each of these functions.
+#![tactic(auto)]
+
 mod change;
 mod fit;
 mod look;

@@ -1,4 +1,6 @@
 // What the calls for C and Rust tell. Enums do not cross, so an answer is a struct of document 01's numbers; 0 stands for "not refused".
+#![tactic(auto)]
+
 mod told;
 mod version;
 

@@ -1,4 +1,6 @@
 // The arrays of a state that C and Rust lend one by one: its head read off them, and what a call stores in them.
+#![tactic(auto)]
+
 ghost use Rattle.std.specs.Prelude.{◌≡◌};
 ghost use Rattle.head.specs.Held.{zero_rows};
 ghost use Rattle.capi_lent.specs.Lent.{head_with, Made, Left};

@@ -1,1 +1,2 @@
 // Worked cases: definitions and what is computed of them.
+#![tactic(auto)]

@@ -1,4 +1,6 @@
 // The causes of a refusal, and the number that documents 01 and 02 give each.
+#![tactic(auto)]
+
 ghost use Rattle.std.specs.Prelude.{◌≡◌};
 ghost use Rattle.cause.specs.Number.{number_of};
 

@@ -1,4 +1,6 @@
 // A state as its head, which goes by value, and its rows, which are lent.
+#![tactic(auto)]
+
 ghost use Rattle.head.specs.Held.{RowsShaped};
 
 pub use pairs::{Rows, VARIABLES};

@@ -1,4 +1,6 @@
 // The flat meter: page nine as a layer above the sheets. It calls the public calls of `sheet`, and its proofs cite the laws of `promise`.
+#![tactic(auto)]
+
 ghost use Rattle.std.specs.Prelude.{◌≡◌};
 ghost use Rattle.cause.specs.Number.{number_of};
 ghost use Rattle.meter.specs.Fitted.{meter_told, flat_meter, turned_away, fitted};

@@ -1,4 +1,6 @@
 // Page nine of the flat meter on a head by value and lent rows.
+#![tactic(auto)]
+
 ghost use Rattle.std.specs.Prelude.{true, List, ◌≡◌, ℕ};
 ghost use Rattle.cause.specs.Number.{number_of};
 ghost use Rattle.head.specs.Held.{RowsShaped};

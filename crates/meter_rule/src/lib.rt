@@ -1,4 +1,6 @@
 // Page nine: which cell goes with which sending interval, computed from the rule.
+#![tactic(auto)]
+
 ghost use Rattle.std.specs.Prelude.{◌≡◌, ◌*◌, ◌≤◌};
 ghost use Rattle.bounded.specs.Bool.{bit};
 ghost use Rattle.meter_rule.specs.PageNine.{goes_with, row_of, page_nine};

@@ -1,4 +1,6 @@
 // In which order to plan: an order is tested, or the first good one is found.
+#![tactic(auto)]
+
 mod find;
 mod test;
 

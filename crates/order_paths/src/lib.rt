@@ -1,4 +1,6 @@
 // Who reaches whom "through tables functional along the way", one word for each variable, and so who governs whom.
+#![tactic(auto)]
+
 mod partners;
 mod reach;
 

@@ -1,4 +1,6 @@
 // The array of rows, each pair held once: the rows of one pair where they stand, and `put_row`, which stores one.
+#![tactic(auto)]
+
 mod run;
 mod store;
 

@@ -1,4 +1,6 @@
 // What two variables allow, whichever of them is lower: rows are read through `row` and `partners`.
+#![tactic(auto)]
+
 ghost use Rattle.std.specs.Prelude.{◌≡◌, ◌^◌, ◌<◌, leb};
 ghost use Rattle.bounded.specs.Bool.{and};
 ghost use Rattle.words.specs.Word.{width, word};

@@ -1,4 +1,6 @@
 // Storing what two variables allow, whichever of them is lower.
+#![tactic(auto)]
+
 ghost use Rattle.std.specs.Prelude.{◌≡◌, ℕ, ◌+◌, ◌≤◌, ◌<◌, eqb, length};
 ghost use Rattle.bounded.specs.Bool.{and, if};
 ghost use Rattle.words.specs.Word.{width, has, word};

@@ -1,4 +1,6 @@
 // What the arguments of sheetplan ask for, taken one word at a time.
+#![tactic(auto)]
+
 ghost use Rattle.std.specs.Prelude.{◌≡◌, ◌≤◌, min, eqb, length, get_or};
 ghost use Rattle.plan_asked.specs.Asked.{same, is_digit, is_number, grown, number_of, nothing, faulty, helped, with_page, with_lead, with_number, with_file, with_word, takes, ends_at};
 

@@ -1,4 +1,6 @@
 // The lines of the planning table that tell which value goes with which, each put at a place of a lent buffer. The state is sound.
+#![tactic(auto)]
+
 ghost use Rattle.std.specs.Prelude.{true, ◌≡◌, ℕ, ◌+◌, ◌<◌, ◌≤◌, eqb, get_or};
 ghost use Rattle.bounded.specs.Fold.{some};
 ghost use Rattle.words.specs.Word.{width, has};

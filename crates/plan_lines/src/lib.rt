@@ -1,4 +1,6 @@
 // The lines of the planning table that tell of options and their values, each put at a place of a lent buffer.
+#![tactic(auto)]
+
 mod options;
 mod ruling;
 mod stock;

@@ -1,4 +1,6 @@
 // The planning table of a sound state, put at a place of a lent buffer.
+#![tactic(auto)]
+
 mod plan;
 mod rulings;
 mod survey;

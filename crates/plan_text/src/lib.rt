@@ -1,4 +1,6 @@
 // The text that sheetplan prints for the bytes of a sheet.
+#![tactic(auto)]
+
 ghost use Rattle.std.specs.Prelude.{true, ◌≡◌, ◌<◌, length};
 ghost use Rattle.cause.specs.Number.{number_of};
 ghost use Rattle.head.specs.Held.{RowsShaped, sound_in, zero_rows};

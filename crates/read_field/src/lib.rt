@@ -1,4 +1,6 @@
 // One field of a sheet at a time, and what is tested before any field.
+#![tactic(auto)]
+
 mod field;
 mod header;
 

@@ -1,4 +1,6 @@
 // The number in two bytes or in four: "All numbers are unsigned and big-endian."
+#![tactic(auto)]
+
 ghost use Rattle.std.specs.Prelude.{◌≡◌, ◌+◌, ◌*◌, ◌/◌, ◌%◌, ◌≤◌, length};
 ghost use Rattle.format.specs.Parse.{number_at};
 ghost use Rattle.read_number.specs.Bytes.{RowBytes};

@@ -1,4 +1,6 @@
 // The paired profile: where the first table of an accepted sheet stands that is not functional both ways.
+#![tactic(auto)]
+
 ghost use Rattle.std.specs.Prelude.{◌≡◌, ℕ, ◌+◌, ◌*◌, ◌<◌, ◌≤◌, eqb, leb, length};
 ghost use Rattle.bounded.specs.Bool.{bit, if};
 ghost use Rattle.bounded.specs.Fold.{count};

@@ -1,5 +1,7 @@
 // The rows of a table: one of `k` bytes for each of `count` values of `i`, against the `size` values of `j`. They are stored as the file has them, from
 // the lower variable `i`.
+#![tactic(auto)]
+
 ghost use Rattle.std.specs.Prelude.{◌≡◌, ◌+◌, ◌*◌, ◌<◌, ◌≤◌, length};
 ghost use Rattle.words.specs.Word.{width};
 ghost use Rattle.pairs.specs.Pairs.{variables};

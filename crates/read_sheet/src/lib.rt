@@ -1,4 +1,6 @@
 // A sheet's bytes, read into arrays that were zero.
+#![tactic(auto)]
+
 ghost use Rattle.std.specs.Prelude.{◌≡◌, replicate};
 ghost use Rattle.pairs.specs.Pairs.{variables};
 ghost use Rattle.format.specs.Parse.{parse};

@@ -1,4 +1,6 @@
 // The tables of a sheet, stored as they are read. Their rows have `k` bytes each, and must be `filled`, or need not.
+#![tactic(auto)]
+
 ghost use Rattle.std.specs.Prelude.{◌≡◌, ◌<◌, ◌≤◌, length, replicate};
 ghost use Rattle.pairs.specs.Pairs.{variables};
 ghost use Rattle.read_number.specs.Bytes.{RowBytes};

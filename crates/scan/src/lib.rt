@@ -1,4 +1,6 @@
 // A line of text, byte by byte: a letter and numbers (an entry of a list), or numbers alone (a bin). Every function takes anything.
+#![tactic(auto)]
+
 ghost use Rattle.std.specs.Prelude.{◌≡◌};
 ghost use Rattle.scan.specs.Bytes.{within, one_of, is_letter, kind_of};
 ghost use Rattle.scan.specs.Scan.{first_kind, opening, up, faulted, phased, going, digit_on, first_digit, digit, stored, close, separator, end_place, ended, lettered, letter, returned, taken, begin_after, ticked, step};

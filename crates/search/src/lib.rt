@@ -1,4 +1,6 @@
 // The search over a head and lent rows: the first choice of the free variables, completed.
+#![tactic(auto)]
+
 mod turns;
 
 ghost use Rattle.std.specs.Prelude.{true, ◌≡◌};

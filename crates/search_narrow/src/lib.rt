@@ -1,4 +1,6 @@
 // A value that a variable takes narrows the domains of those that are still to be chosen: the search and the survey share this.
+#![tactic(auto)]
+
 ghost use Rattle.std.specs.Prelude.{true, ◌≡◌, ℕ, ◌<◌, length};
 ghost use Rattle.words.specs.Word.{width, has};
 ghost use Rattle.pairs.specs.Pairs.{variables};

@@ -1,4 +1,6 @@
 // How many choices a search may have to try.
+#![tactic(auto)]
+
 ghost use Rattle.std.specs.Prelude.{true, List, ◌≡◌, ℕ, min, ◌≤◌};
 ghost use Rattle.network.specs.Search.{choice_product};
 ghost use Rattle.pairs.specs.Pairs.{variables};

@@ -1,4 +1,6 @@
 // Option sheets: the public calls, and the types of what they answer. What they promise together stands in the crate `promise`.
+#![tactic(auto)]
+
 mod sheets;
 mod states;
 

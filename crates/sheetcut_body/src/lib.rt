@@ -1,5 +1,7 @@
 // All that the program sheetcut does: a sheet from standard input, its text to standard output. No contract can speak of what is read and written: what
 // holds this code is that it is run, by several program crates, each on an input of its own.
+#![tactic(auto)]
+
 use libc::{STDERR_FILENO, STDIN_FILENO, STDOUT_FILENO};
 use text_report::{INPUT, report_input};
 

@@ -1,5 +1,7 @@
 // All that the program sheetplan does: the words of its arguments, a sheet from a file or standard input, its planning table to standard output. No contract
 // can speak of what is read and written: what holds this code is that it is run, by several program crates, each on an input of its own.
+#![tactic(auto)]
+
 use libc::{STDERR_FILENO, STDIN_FILENO, STDOUT_FILENO};
 use plan_asked::{Asked, Phase, end_words, nothing_asked, take_word};
 use plan_text::{Ask, ROOM, plan_into};

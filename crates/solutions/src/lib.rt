@@ -1,4 +1,6 @@
 // What the tester and the completer ask of lent arrays, and write.
+#![tactic(auto)]
+
 mod values;
 
 pub use values::{

@@ -1,4 +1,6 @@
 // What the verdict and the writer ask of a state's head, and the solution of lowest values.
+#![tactic(auto)]
+
 ghost use Rattle.std.specs.Prelude.{◌≡◌, ℕ, ◌≤◌, get_or};
 ghost use Rattle.bounded.specs.Table.{tabulate};
 ghost use Rattle.words.specs.Word.{width};

@@ -1,4 +1,6 @@
 // Soundness of a state, as its head and its rows: the head by itself, the rows beside it, the followers.
+#![tactic(auto)]
+
 ghost use Rattle.std.specs.Prelude.{◌≡◌, false, ℕ, ◌<◌, ◌≤◌, get_or};
 ghost use Rattle.words.specs.Word.{has};
 ghost use Rattle.pairs.specs.Pairs.{variables};

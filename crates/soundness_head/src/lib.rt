@@ -1,5 +1,7 @@
 // Soundness of a head by itself: each sentence of document 01 is a test of its own. A sound state passes them all, so no test of one array leaves
 // early. Every bit of every word is looked at, whatever the sizes.
+#![tactic(auto)]
+
 ghost use Rattle.std.specs.Prelude.{◌≡◌, ℕ, ◌<◌, ◌≤◌, get_or};
 ghost use Rattle.pairs.specs.Pairs.{variables};
 ghost use Rattle.head.specs.Held.{values_at_most};

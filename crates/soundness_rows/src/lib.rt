@@ -1,4 +1,6 @@
 // Soundness of the rows beside a head that is sound by itself. They are tested where they stand, a run at a time, and every bit of every word is looked at.
+#![tactic(auto)]
+
 ghost use Rattle.std.specs.Prelude.{◌≡◌, ℕ, ◌+◌, ◌<◌, ◌≤◌, get_or};
 ghost use Rattle.words.specs.Word.{width};
 ghost use Rattle.pairs.specs.Pairs.{variables};

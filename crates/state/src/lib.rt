@@ -1,4 +1,6 @@
 // The state of a sheet, what each public call on it answers, and those that hand a state back changed.
+#![tactic(auto)]
+
 mod answer;
 mod lead;
 mod reduction;

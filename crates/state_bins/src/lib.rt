@@ -1,4 +1,6 @@
 // Deliveries and call-offs against the bins of a state: what each asks, as plain data, and the public calls on lent bins.
+#![tactic(auto)]
+
 ghost use Rattle.std.specs.Prelude.{◌≡◌};
 ghost use Rattle.bounded.specs.Table.{tabulate};
 ghost use Rattle.answers.specs.Answers.{outcome_number};

@@ -1,4 +1,6 @@
 // Reading, the full reduction and the verdict in one.
+#![tactic(auto)]
+
 ghost use Rattle.std.specs.Prelude.{◌≡◌};
 ghost use Rattle.head.specs.Held.{zero_rows};
 ghost use Rattle.state.specs.Cut.{cut_sheet};

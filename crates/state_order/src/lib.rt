@@ -1,4 +1,6 @@
 // In which order to plan, on a head and lent rows: an order is tested, or the first good one is found. Nothing is reduced.
+#![tactic(auto)]
+
 ghost use Rattle.std.specs.Prelude.{◌≡◌};
 ghost use Rattle.answers.specs.Answers.{test_told, outcome_number};
 ghost use Rattle.state.specs.View.{state_of};

@@ -1,4 +1,6 @@
 // Reading a sheet of the paired profile, its rows into a lent array.
+#![tactic(auto)]
+
 ghost use Rattle.std.specs.Prelude.{◌≡◌};
 ghost use Rattle.head.specs.Held.{zero_rows};
 ghost use Rattle.state.specs.Read.{read_paired};

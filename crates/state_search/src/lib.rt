@@ -1,4 +1,6 @@
 // The search on a head and lent rows.
+#![tactic(auto)]
+
 ghost use Rattle.std.specs.Prelude.{◌≡◌};
 ghost use Rattle.answers.specs.Answers.{verdict_told};
 ghost use Rattle.state.specs.View.{state_of};

@@ -1,4 +1,6 @@
 // The tester, the completer and the value of a follower on a head and lent rows.
+#![tactic(auto)]
+
 mod follower;
 
 ghost use Rattle.std.specs.Prelude.{◌≡◌};

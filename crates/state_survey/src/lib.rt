@@ -1,4 +1,6 @@
 // The survey on a head and lent rows: how many builds a state has, and which values they have.
+#![tactic(auto)]
+
 ghost use Rattle.std.specs.Prelude.{◌≡◌};
 ghost use Rattle.answers.specs.Answers.{outcome_number};
 ghost use Rattle.state.specs.View.{state_of};

@@ -1,4 +1,6 @@
 // The verdict on a head and lent rows.
+#![tactic(auto)]
+
 ghost use Rattle.std.specs.Prelude.{◌≡◌, true};
 ghost use Rattle.head.specs.Held.{sound_in};
 ghost use Rattle.answers.specs.Answers.{verdict_told};

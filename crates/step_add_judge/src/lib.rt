@@ -1,4 +1,6 @@
 // What refuses a table for two variables.
+#![tactic(auto)]
+
 ghost use Rattle.std.specs.Prelude.{List, ◌≡◌, ℕ, ◌-◌, ◌≤◌, eqb, ltb, get_or};
 ghost use Rattle.bounded.specs.Bool.{or, not, if};
 ghost use Rattle.words.specs.Word.{width};

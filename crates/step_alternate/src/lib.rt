@@ -1,4 +1,6 @@
 // The reduction that alternates with the trimming of live lists.
+#![tactic(auto)]
+
 ghost use Rattle.std.specs.Prelude.{true, ◌≡◌};
 ghost use Rattle.network.specs.Trimming.{alternate};
 ghost use Rattle.head.specs.Held.{RowsShaped, held, sound_in};

@@ -1,4 +1,6 @@
 // Which step is legal, and which comes next. The head goes by value once a call, and each pair is judged by the words that it needs.
+#![tactic(auto)]
+
 ghost use Rattle.std.specs.Prelude.{List, ◌≡◌, true, ℕ, ◌≤◌};
 ghost use Rattle.head.specs.Held.{held, sound_in};
 ghost use Rattle.pairs.specs.Pairs.{variables};

@@ -1,4 +1,6 @@
 // Rules 1 and 2 of a follow step, on the array of rows.
+#![tactic(auto)]
+
 ghost use Rattle.std.specs.Prelude.{◌≡◌, List, ℕ, suc, ◌≤◌, ◌<◌, length};
 ghost use Rattle.words.specs.Word.{width, word};
 ghost use Rattle.pairs.specs.Pairs.{variables};

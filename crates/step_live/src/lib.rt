@@ -1,4 +1,6 @@
 // The live variables' lists trimmed against each other, and their followers' with them.
+#![tactic(auto)]
+
 ghost use Rattle.std.specs.Prelude.{true, false, ◌≡◌, ℕ, ◌<◌, eqb, length, get_or};
 ghost use Rattle.words.specs.Word.{width, has, word};
 ghost use Rattle.network.specs.Trimming.{live_trimmed};

@@ -1,4 +1,6 @@
 // The parts of a follow step: who leads, who is stated with whom, and the rows of the third variables.
+#![tactic(auto)]
+
 mod head_after;
 mod rows_after;
 

@@ -1,4 +1,6 @@
 // Runs of follow steps on a head and rows: step after step, until none is left; the full reduction is one.
+#![tactic(auto)]
+
 ghost use Rattle.std.specs.Prelude.{true, ◌≡◌};
 ghost use Rattle.network.specs.Reduction.{run_within, reduce, lead};
 ghost use Rattle.head.specs.Held.{RowsShaped, held, sound_in};

@@ -1,4 +1,6 @@
 // The rules of a follow step on a head and rows: `j` comes to follow `i`, both counted from 0.
+#![tactic(auto)]
+
 ghost use Rattle.std.specs.Prelude.{true, ◌≡◌};
 ghost use Rattle.network.specs.Step.{legal, followed};
 ghost use Rattle.head.specs.Held.{RowsShaped, Represents, held, sound_in};

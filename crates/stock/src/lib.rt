@@ -1,4 +1,6 @@
 // Deliveries and call-offs on counts of bins that stand in an array, as a program holds them. The calls on records stand in `state_bins`.
+#![tactic(auto)]
+
 ghost use Rattle.std.specs.Prelude.{true, List, ◌≡◌, ℕ, ◌+◌, ◌≤◌, ◌<◌, length, get_or, take};
 ghost use Rattle.bins.specs.Bins.{no_bin};
 ghost use Rattle.bins_counts.specs.Counts.{spot, bin_of_place};

@@ -1,4 +1,6 @@
 // The survey over a head and lent rows: how many solutions there are, and which values they have.
+#![tactic(auto)]
+
 mod settle;
 mod spread;
 mod tally;

@@ -1,4 +1,6 @@
 // Which variables are stated with another free one, and how many choices of them a survey may have to try.
+#![tactic(auto)]
+
 ghost use Rattle.std.specs.Prelude.{true, List, ◌≡◌, ℕ, min, ◌<◌, ◌≤◌};
 ghost use Rattle.words.specs.Word.{width};
 ghost use Rattle.network.specs.Survey.{tied_product};

@@ -1,4 +1,5 @@
 // The library's calls and what they are compared by.
+#![tactic(auto)]
 
 // The calls, with answers as plain numbers and buffers by value.
 pub mod calls;

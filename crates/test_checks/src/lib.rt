@@ -1,4 +1,5 @@
 // What is claimed of each call, checked and counted.
+#![tactic(auto)]
 
 // The tester, the completer, the verdict and the search, on every tuple of a small sheet and on some of a large one.
 pub mod builds;

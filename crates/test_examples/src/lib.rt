@@ -1,4 +1,5 @@
 // Fixed examples, each with what it must come to.
+#![tactic(auto)]
 
 // A state that no sheet of a list has.
 mod contrary;

@@ -1,4 +1,5 @@
 // Inputs for the tests. No crate of the library is known here.
+#![tactic(auto)]
 
 // Sheets with a fault, and bytes of any kind.
 pub mod damage;

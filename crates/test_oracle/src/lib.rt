@@ -1,4 +1,5 @@
 // What a sheet means, by code of its own. No crate of the library is known here, so that what it says is judged by other code.
+#![tactic(auto)]
 
 // The builds of a sheet, read off its bytes.
 pub mod brute;

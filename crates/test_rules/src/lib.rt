@@ -1,5 +1,6 @@
 // What a follow step, an added table, trimming and a run that a named option leads make of a state, and states with a fault, by code of its own. Of the
 // library only the type of a state is known here.
+#![tactic(auto)]
 
 // What an added table is to be refused with, and what it makes of a state.
 pub mod added;

@@ -1,4 +1,6 @@
 // The test program: fixed examples, each with what it must come to, and random inputs, each tried against a brute force over the bytes.
+#![tactic(auto)]
+
 use test_calls::tally;
 use test_examples::fixed;
 

@@ -1,6 +1,8 @@
 // A year's list over bins held by value. First the examples, on sheet J with bins 5, 0, 9, one line for each entry: its number, and the three counts that it
 // leaves. Then years of random entries on five sheets: answers by number, how many differ from what the counts say, and a word that every answer and every
 // last count goes into.
+#![tactic(auto)]
+
 use bins::Bin;
 use libc::STDOUT_FILENO;
 use state::State;

@@ -1,4 +1,6 @@
 // The lines of an option and of a refusal, each written at a place of a lent buffer that has room for it; each function returns the place past its part.
+#![tactic(auto)]
+
 ghost use Rattle.std.specs.Prelude.{◌+◌, ◌<◌, ◌≤◌, length};
 ghost use Rattle.buffers.specs.Wrote.{Wrote};
 ghost use Rattle.text_lines.specs.Text.{refused_text, pair_line, live_line, option_line, option_lines};

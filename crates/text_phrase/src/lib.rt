@@ -1,4 +1,6 @@
 // A refusal in words: its number and the phrase of its cause.
+#![tactic(auto)]
+
 ghost use Rattle.cause.specs.Number.{number_of};
 ghost use Rattle.text_put.specs.Put.{Put};
 ghost use Rattle.text_phrase.specs.Phrase.{phrase, phrase_end, refusal_line, refusal_at_line};

@@ -1,5 +1,7 @@
 // Texts put into a lent buffer as far as it has room: no call asks for room, so that only the whole text has to be shown to fit. Each function returns
 // the place past its text.
+#![tactic(auto)]
+
 ghost use Rattle.std.specs.Prelude.{[], ◌∷◌, ◌++◌};
 ghost use Rattle.buffers.specs.Digits.{decimal};
 ghost use Rattle.text_put.specs.Put.{Put};

@@ -1,4 +1,6 @@
 // The text that sheetcut prints.
+#![tactic(auto)]
+
 mod cut;
 mod input;
 mod text;

@@ -1,4 +1,6 @@
 // The lines of a verdict and of its build, each written at a place of a lent buffer that has room for it; each function returns the place past its part.
+#![tactic(auto)]
+
 ghost use Rattle.std.specs.Prelude.{◌+◌, ◌≤◌, length};
 ghost use Rattle.buffers.specs.Wrote.{Wrote};
 ghost use Rattle.answers.specs.Answers.{verdict_told};

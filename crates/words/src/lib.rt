@@ -1,4 +1,6 @@
 // A `u32` as a set of values below 32.
+#![tactic(auto)]
+
 ghost use Rattle.std.specs.Prelude.{◌≡◌, ℕ, ◌<◌, ◌≤◌, eqb, leb, ltb};
 ghost use Rattle.bounded.specs.Bool.{and, or, implies, not};
 ghost use Rattle.bounded.specs.Fold.{every, count, first};

@@ -1,4 +1,6 @@
 // The tables of a sheet, and numbers of any bytes, written into a lent buffer. Each function returns the place past what it wrote.
+#![tactic(auto)]
+
 ghost use Rattle.std.specs.Prelude.{true, ◌≡◌, ℕ, ◌+◌, ◌-◌, ◌/◌, ◌%◌, ◌^◌, ◌<◌, ◌≤◌, length, get_or};
 ghost use Rattle.buffers.specs.Wrote.{Wrote};
 ghost use Rattle.words.specs.Word.{width, has};

@@ -1,4 +1,6 @@
 // What a version fixes for the writer, and which states it takes.
+#![tactic(auto)]
+
 mod blank;
 mod layout;
 

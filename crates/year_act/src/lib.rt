@@ -1,4 +1,6 @@
 // What a line of the list does to what a program keeps of a year, and what is printed for it.
+#![tactic(auto)]
+
 ghost use Rattle.std.specs.Prelude.{true, ◌≡◌, ◌-◌, ◌≤◌, ◌<◌, ◌^◌, get_or};
 ghost use Rattle.bounded.specs.Bool.{if};
 ghost use Rattle.bins_counts.specs.Counts.{spot, plus, changed_at};

@@ -1,4 +1,6 @@
 // The lines of the end of a year, from the arrays that a program keeps; and the refusal of the bins' text. A text is put as far as it has room.
+#![tactic(auto)]
+
 ghost use Rattle.std.specs.Prelude.{◌≡◌, ℕ, suc, ◌≤◌, ◌<◌, length, get_or};
 ghost use Rattle.bins.specs.Bins.{Place};
 ghost use Rattle.bins_counts.specs.Counts.{plus};

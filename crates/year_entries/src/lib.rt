@@ -1,4 +1,6 @@
 // What an entry of a list does to the counts of bins and to the sums of what was delivered to each and called off from it.
+#![tactic(auto)]
+
 ghost use Rattle.std.specs.Prelude.{true, List, ◌≡◌, ℕ, ◌+◌, ◌-◌, ◌≤◌, ◌<◌, ltb, length, get_or, take, drop};
 ghost use Rattle.bounded.specs.Fold.{every};
 ghost use Rattle.bins.specs.Bins.{no_bin};

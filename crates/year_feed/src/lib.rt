@@ -1,4 +1,6 @@
 // A list of entries, handed over in any parts.
+#![tactic(auto)]
+
 ghost use Rattle.std.specs.Prelude.{true, ◌≡◌};
 ghost use Rattle.state.specs.View.{state_of, sound_state};
 ghost use Rattle.year_act.specs.Kept.{Whole};

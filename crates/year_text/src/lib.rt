@@ -1,4 +1,6 @@
 // The lines that the program of a year prints, put into a lent buffer as far as it has room. Each function returns the place past its line.
+#![tactic(auto)]
+
 ghost use Rattle.text_put.specs.Put.{Put};
 ghost use Rattle.year_text.specs.Lines.{text_phrase, fault_end, ok_line, refused_line, short_line, fault_line, line_of_bin, first_line, short_entries, entries_line, end_line};
 ghost use Rattle.text_phrase.specs.Phrase.{phrase_end};
