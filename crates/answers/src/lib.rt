@@ -6,7 +6,7 @@ ghost use Rattle.answers.specs.Answers.{number_read, read_place, outcome_number,
 
 use cause::Cause;
 
-#[derive(Drop)]
+#[derive(Clone, Copy)]
 pub enum ReadOutcome {
     Accepted,
     // Why not, and at which byte.
@@ -14,20 +14,20 @@ pub enum ReadOutcome {
 }
 
 // A step, a reduction or a completion.
-#[derive(Drop)]
+#[derive(Clone, Copy)]
 pub enum Outcome {
     Done,
     Refused(Cause),
 }
 
-#[derive(Drop)]
+#[derive(Clone, Copy)]
 pub enum WriteAnswer {
     // How many bytes were written.
     Length(usize),
     Refused(Cause),
 }
 
-#[derive(Drop)]
+#[derive(Clone, Copy)]
 pub enum TestAnswer {
     Yes,
     No,
@@ -35,13 +35,13 @@ pub enum TestAnswer {
 }
 
 // The value of a follower at a value of its leader.
-#[derive(Drop)]
+#[derive(Clone, Copy)]
 pub enum ValueAnswer {
     Value(u8),
     Refused(Cause),
 }
 
-#[derive(Drop)]
+#[derive(Clone, Copy)]
 pub enum Verdict {
     None,
     Built,
@@ -49,7 +49,7 @@ pub enum Verdict {
     Refused(Cause),
 }
 
-#[derive(Drop)]
+#[derive(Clone, Copy)]
 pub struct VerdictAnswer {
     pub verdict: Verdict,
     // The solution shown, zero past n; all zero unless the verdict is Built.

@@ -8,7 +8,7 @@ ghost use Rattle.bins.specs.Plans.{named, is_next, next_variable, next_value, to
 
 // A value of a variable, which counts from 1, and how many are on hand.
 #[repr(C)]
-#[derive(Drop)]
+#[derive(Clone, Copy)]
 pub struct Bin {
     pub variable: u8,
     pub value: u8,
@@ -17,7 +17,7 @@ pub struct Bin {
 
 // What one entry asks, as plain data: what is refused whatever the bins hold, the variables' sizes, and either the one bin of a delivery or the values of the
 // solution that is called off.
-#[derive(Drop)]
+#[derive(Clone, Copy)]
 pub struct Plan {
     pub refusal: u8,
     pub n: usize,
@@ -30,7 +30,7 @@ pub struct Plan {
 }
 
 // How far the bins have been looked at: the variable, counted from 0, and the value that come next, and what was found.
-#[derive(Drop)]
+#[derive(Clone, Copy)]
 pub struct Seen {
     pub variable: usize,
     pub value: usize,

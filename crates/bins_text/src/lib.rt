@@ -10,7 +10,7 @@ use bins_counts::{BINS, spot};
 use scan::{Line, Scan, finish, opening, step, up};
 
 // How far the text was read.
-#[derive(Drop)]
+#[derive(Clone, Copy)]
 pub struct Reading {
     // 0, or why it is refused: 101 to 106, or 27; then `line` and `place` say where. A 27 has no place.
     pub number: u8,
@@ -22,7 +22,7 @@ pub struct Reading {
 }
 
 // A text in part.
-#[derive(Drop)]
+#[derive(Clone, Copy)]
 pub struct BinsRun {
     pub scan: Scan,
     // A byte of the line was seen.

@@ -14,7 +14,7 @@ use state_survey::SurveyAnswer;
 
 // Reading: the number that refuses, and its place.
 #[repr(C)]
-#[derive(Drop)]
+#[derive(Clone, Copy)]
 pub struct SheetRead {
     pub number: u8,
     pub place: usize,
@@ -22,7 +22,7 @@ pub struct SheetRead {
 
 // Writing: the number that refuses, and how many bytes the sheet has.
 #[repr(C)]
-#[derive(Drop)]
+#[derive(Clone, Copy)]
 pub struct SheetWritten {
     pub number: u8,
     pub length: usize,
@@ -30,7 +30,7 @@ pub struct SheetWritten {
 
 // Testing: the number that refuses, and whether the values are a build.
 #[repr(C)]
-#[derive(Drop)]
+#[derive(Clone, Copy)]
 pub struct SheetTested {
     pub number: u8,
     pub agrees: bool,
@@ -38,7 +38,7 @@ pub struct SheetTested {
 
 // The value of a follower: the number that refuses, and the value.
 #[repr(C)]
-#[derive(Drop)]
+#[derive(Clone, Copy)]
 pub struct SheetValue {
     pub number: u8,
     pub value: u8,
@@ -47,7 +47,7 @@ pub struct SheetValue {
 // The verdict, or what the search says: the number that refuses; 1 for NONE, 2 for BUILT, 3 for OPEN, 0 with a refusal; and the build shown, all zero unless
 // BUILT. The search never says OPEN.
 #[repr(C)]
-#[derive(Drop)]
+#[derive(Clone, Copy)]
 pub struct SheetVerdict {
     pub number: u8,
     pub kind: u8,
@@ -57,7 +57,7 @@ pub struct SheetVerdict {
 // Reading, the full reduction and the verdict: the number that refuses the sheet, its place, the steps, the kind of the verdict and the build shown; zero
 // but for number and place where the sheet is refused.
 #[repr(C)]
-#[derive(Drop)]
+#[derive(Clone, Copy)]
 pub struct SheetCut {
     pub number: u8,
     pub place: usize,
@@ -69,7 +69,7 @@ pub struct SheetCut {
 // The survey: the number that refuses, whether there are more builds than the count, for each option the values that some build has, zero past n, and the
 // count of builds; zero but for the number where it is refused.
 #[repr(C)]
-#[derive(Drop)]
+#[derive(Clone, Copy)]
 pub struct SheetSurvey {
     pub number: u8,
     pub more: bool,

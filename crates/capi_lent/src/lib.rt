@@ -11,7 +11,7 @@ use state::Worked;
 
 // A step, a reduction or a table added: the number that refuses, and how many steps were taken.
 #[repr(C)]
-#[derive(Drop)]
+#[derive(Clone, Copy)]
 pub struct SheetStepped {
     pub number: u8,
     pub steps: usize,

@@ -5,7 +5,7 @@ ghost use Rattle.std.specs.Prelude.{◌≡◌};
 ghost use Rattle.cause.specs.Number.{number_of};
 
 // One cause for each number.
-#[derive(Drop)]
+#[derive(Clone, Copy)]
 pub enum Cause {
     // Reading: the length, the version, then the fields in file order.
     Length,

@@ -40,10 +40,10 @@ pub tables-proper : (L : Layout) (sizes : List ℕ) {previous : ℕ} {ts : List 
     → Proper (length sizes) ts
 unfolding pair_of
 tables-proper L sizes All.none Ascend.none = proper_none
-tables-proper L sizes (All.more f fs) (Ascend.more {t = t} l u) =
+tables-proper L sizes {previous = previous} (All.more f fs) (Ascend.more {t = t} l u) =
     proper_more f.first_in f.ordered f.second_in
     (λ i j (e : is_for t i j ≡ true). past-untabled u i j (omega (arith, (is_for-e t i j e).0, (is_for-e t i j e).1)))
-    (tables-proper L sizes fs u)
+    (tables-proper L sizes {previous = pair_of t} fs u)
 
 -- Where each of the rows of k bytes stands.
 module _ (bytes : List ℕ) where

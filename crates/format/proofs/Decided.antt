@@ -29,6 +29,6 @@ module _ (bytes : List ℕ) (octets : Octets bytes) (s : Sheet) (end : ℕ) (e :
       let b = builds-solve bytes octets s end e in
       record {
         never_open = λ v. clash d (verdict-open M v).1;
-        none_exactly = (λ v f. b f ∙ (sym (and-true _) ∙ P.None-only v f), λ no. P.none_when d (λ f. and-true _ ∙ (sym (b f) ∙ no f)));
+        none_exactly = (λ v f. b f ∙ (sym (and-true _) ∙ P.none_only v f), λ no. P.none_when d (λ f. and-true _ ∙ (sym (b f) ∙ no f)));
         built_otherwise = λ v. let r = P.built d v in (r.0, b _ ∙ (sym (and-true _) ∙ r.1));
       }

@@ -237,7 +237,8 @@ module _ (L : Layout) (sizes : List ℕ) where
   tables→chain : {previous : ℕ} {ts : List Table} → All (TableFits L sizes) ts → Ascend previous ts
       → Chain (λ (s : ℕ) (t : Table). pair_of t) (NextFits L sizes) previous ts
   tables→chain All.none Ascend.none = chain_none
-  tables→chain (All.more f a) (Ascend.more l u) = chain_more (record { table = f; after = l }) (tables→chain a u)
+  tables→chain {previous = previous} (All.more {x = x} f a) (Ascend.more l u) =
+      chain_more (record { table = f; after = l }) (tables→chain {previous = pair_of x} a u)
 
   pub tables-inverse : length sizes < 256 → (count previous : ℕ)
       → Inverse (TablesFit L sizes count previous) (print_all (print_table L)) (parse_tables L sizes count previous)

@@ -9,7 +9,7 @@ pub use pairs::{Rows, VARIABLES};
 pub const VALUES: usize = 32;
 
 // A state but for its rows: how many variables it has, and for each its size, its domain, its leader and the variables that it is stated with.
-#[derive(Drop)]
+#[derive(Clone, Copy)]
 pub struct Head {
     pub n: usize,
     pub sizes: [u8; VARIABLES],

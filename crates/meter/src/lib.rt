@@ -8,7 +8,7 @@ ghost use Rattle.meter.specs.Fitted.{meter_told, flat_meter, turned_away, fitted
 pub use meter_rule::{fits, page_nine};
 use sheet::{Cause, Outcome, State, Verdict};
 
-#[derive(Drop)]
+#[derive(Clone, Copy)]
 pub struct MeterAnswer {
     pub outcome: Outcome,
     pub state: State,

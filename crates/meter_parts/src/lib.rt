@@ -18,7 +18,7 @@ use state_verdict::verdict_of;
 use step_reduce::reduce_sound;
 
 // What page nine makes of a head, and the verdict.
-#[derive(Drop)]
+#[derive(Clone, Copy)]
 pub struct Fit {
     pub outcome: Outcome,
     pub head: Head,

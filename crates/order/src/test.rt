@@ -9,7 +9,7 @@ ghost use Rattle.order.specs.Orders.{Governed, tested_in, order_tested};
 use head::{Head, Rows, VARIABLES};
 use words::{WIDTH, both, member, single, without};
 
-#[derive(Drop)]
+#[derive(Clone, Copy)]
 pub enum Tested {
     Good,
     Not,

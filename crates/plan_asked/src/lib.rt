@@ -4,7 +4,7 @@
 ghost use Rattle.std.specs.Prelude.{◌≡◌, ◌≤◌, min, eqb, length, get_or};
 ghost use Rattle.plan_asked.specs.Asked.{same, is_digit, is_number, grown, number_of, nothing, faulty, helped, with_page, with_lead, with_number, with_file, with_word, takes, ends_at};
 
-#[derive(Drop)]
+#[derive(Clone, Copy)]
 pub enum Phase {
     // Any word may come.
     Words,
@@ -14,7 +14,7 @@ pub enum Phase {
     Fault,
 }
 
-#[derive(Drop)]
+#[derive(Clone, Copy)]
 pub struct Asked {
     pub phase: Phase,
     pub page9: bool,

@@ -24,7 +24,7 @@ use text_put::put_text;
 pub const ROOM: usize = 65536;
 
 // What is asked of a sheet: page nine, and that an option, counted from 1, leads first.
-#[derive(Drop)]
+#[derive(Clone, Copy)]
 pub struct Ask {
     pub page9: bool,
     pub leads: bool,

@@ -46,7 +46,7 @@ module _ (bytes : List ℕ) (octets : Octets bytes) (h : (read_sheet bytes).numb
       let S = serves bytes octets h s A cs in
       record {
         never_open = λ r. clash d (verdict-open _ (ap verdict (sym S.holds) ∙ (ruled-as _ S.sound OPEN).0 r)).1;
-        none_exactly = (λ r b. sym (same b) ∙ P.None-only r b, λ no. P.none_when d (λ b. same b ∙ no b));
+        none_exactly = (λ r b. sym (same b) ∙ P.none_only r b, λ no. P.none_when d (λ b. same b ∙ no b));
         shows_build = λ r. let q = P.built d r in (q.0, q.1, sym (same _) ∙ q.2);
       }
 

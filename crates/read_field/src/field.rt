@@ -10,7 +10,7 @@ use cause::Cause;
 use read_number::number;
 
 // What a field comes to.
-#[derive(Drop)]
+#[derive(Clone, Copy)]
 pub enum Read {
     // Its value, and the place after it.
     Value(usize, usize),

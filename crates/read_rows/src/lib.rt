@@ -13,7 +13,7 @@ use pairs::Rows;
 use read_field::Read;
 
 // What rows have together, and whether none of them is all-zero.
-#[derive(Drop)]
+#[derive(Clone, Copy)]
 struct Joined {
     union: u32,
     filled: bool,

@@ -18,7 +18,7 @@ fn mark(stated: &mut [u32; VARIABLES], i: usize, j: usize)
 }
 
 // What taking a table comes to.
-#[derive(Drop)]
+#[derive(Clone, Copy)]
 enum Taken {
     // Its pair, and the place after it.
     One(usize, usize),
@@ -27,7 +27,7 @@ enum Taken {
 }
 
 // Where taking tables stops.
-#[derive(Drop)]
+#[derive(Clone, Copy)]
 enum Stop {
     // The place after the last.
     End(usize),

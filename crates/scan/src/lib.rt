@@ -10,7 +10,7 @@ ghost use Rattle.scan.specs.Line.{miscounted, line_kind, told, finish};
 pub const CELLS: usize = 17;
 
 // What was seen of a line.
-#[derive(Drop)]
+#[derive(Clone, Copy)]
 pub struct Scan {
     // The numbers that ended, and zeros past them.
     pub cells: [u32; CELLS],
@@ -35,7 +35,7 @@ pub struct Scan {
 }
 
 // A finished line.
-#[derive(Drop)]
+#[derive(Clone, Copy)]
 pub struct Line {
     // 0, or what is wrong with it: 101 to 106.
     pub fault: u8,

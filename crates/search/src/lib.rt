@@ -12,7 +12,7 @@ use pairs::{Rows, VARIABLES};
 use search_product::product;
 
 // Whether there is a solution, and the first one: all zero where there is none.
-#[derive(Drop)]
+#[derive(Clone, Copy)]
 pub struct Found {
     pub found: bool,
     pub solution: [u8; VARIABLES],

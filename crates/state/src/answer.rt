@@ -3,14 +3,14 @@ use crate::state::State;
 use answers::{Outcome, ReadOutcome, Verdict};
 use head::VARIABLES;
 
-#[derive(Drop)]
+#[derive(Clone, Copy)]
 pub struct ReadAnswer {
     pub outcome: ReadOutcome,
     pub state: State,
 }
 
 // A step or a reduction: the state handed back and how many steps were taken.
-#[derive(Drop)]
+#[derive(Clone, Copy)]
 pub struct Answer {
     pub outcome: Outcome,
     pub state: State,
@@ -18,7 +18,7 @@ pub struct Answer {
 }
 
 // Reading, the full reduction and the verdict, one after the other.
-#[derive(Drop)]
+#[derive(Clone, Copy)]
 pub struct CutAnswer {
     pub outcome: ReadOutcome,
     pub state: State,

@@ -18,7 +18,7 @@ use step_reduce::reduce_sound;
 use step_rules::step;
 
 // What a step or a reduction makes of the head, and its count.
-#[derive(Drop)]
+#[derive(Clone, Copy)]
 pub struct Worked {
     pub outcome: Outcome,
     pub steps: usize,

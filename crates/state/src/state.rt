@@ -6,7 +6,7 @@ use head::{Head, Rows, VARIABLES};
 
 // Variables count from 0 here. Any contents are possible: calls test soundness before anything else.
 #[repr(C)]
-#[derive(Drop)]
+#[derive(Clone, Copy)]
 pub struct State {
     // How many variables.
     pub n: usize,

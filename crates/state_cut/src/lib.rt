@@ -13,7 +13,7 @@ use state_verdict::verdict_of;
 use step_reduce::reduce_sound;
 
 // What a cut gives besides the rows.
-#[derive(Drop)]
+#[derive(Clone, Copy)]
 pub struct CutParts {
     pub outcome: ReadOutcome,
     pub head: Head,

@@ -17,7 +17,7 @@ use pairs::PLACES;
 use read_field::Read;
 
 // What was read besides the rows: all zero after a refusal.
-#[derive(Drop)]
+#[derive(Clone, Copy)]
 pub struct ReadParts {
     pub outcome: ReadOutcome,
     pub head: Head,

@@ -15,7 +15,7 @@ use survey::survey_sound;
 use survey_product::tied_product;
 
 // What the survey answers.
-#[derive(Drop)]
+#[derive(Clone, Copy)]
 pub struct SurveyAnswer {
     pub outcome: Outcome,
     // How many builds there are, at most 2^64 - 1, and whether there are more.

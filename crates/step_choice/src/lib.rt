@@ -16,14 +16,14 @@ use pairs::Rows;
 use step_judge::judge_pair;
 
 // A leader and a follower, counted from 0.
-#[derive(Drop)]
+#[derive(Clone, Copy)]
 pub enum Pair {
     Found(usize, usize),
     Nothing,
 }
 
 // Who leads each step of a run: the lowest variable that has a legal follower, or one that is named, counted from 0.
-#[derive(Drop)]
+#[derive(Clone, Copy)]
 pub enum Leader {
     Lowest,
     Named(usize),

@@ -19,7 +19,7 @@ pub fn supported(rows: &Rows, i: usize, j: usize, di: u32, dj: u32) -> u32
 
 // One composition of rule 2: `j` is to follow `i`, and `k` is a third variable. `ti` is the new domain of `i`, `dj` and `dk` are those of `j` and `k`, and
 // `was` says whether `i`, `k` was stated before.
-#[derive(Drop)]
+#[derive(Clone, Copy)]
 pub struct Third {
     pub i: usize,
     pub j: usize,

@@ -12,7 +12,7 @@ use step_choice::{Leader, Pair, next_step};
 use step_rules::step;
 
 // The head at the end of a run, and how many steps led there.
-#[derive(Drop)]
+#[derive(Clone, Copy)]
 pub struct Reduction {
     pub head: Head,
     pub steps: usize,

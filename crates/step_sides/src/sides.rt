@@ -10,7 +10,7 @@ use pairs::Rows;
 use words::{both, lowest, wide};
 
 // A variable that a table names and its domain; the variable that it is traced to, itself where it is free, and the domain of that.
-#[derive(Drop)]
+#[derive(Clone, Copy)]
 pub struct Side {
     pub named: usize,
     pub domain: u32,

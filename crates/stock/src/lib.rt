@@ -14,7 +14,7 @@ use bins_counts::{BINS, draw, lowest, spot, spot_of};
 use head::{Head, Rows, VARIABLES};
 use state_solutions::test_parts;
 
-#[derive(Drop)]
+#[derive(Clone, Copy)]
 pub struct CalledOff {
     pub number: u8,
     // The bin that 29 names; zero throughout with any other number.

@@ -15,7 +15,7 @@ use pairs::{Rows, VARIABLES};
 use words::without;
 
 // How many solutions there are, capped, whether there are more, and for each variable the values that some solution has.
-#[derive(Drop)]
+#[derive(Clone, Copy)]
 pub struct Surveyed {
     pub count: u64,
     pub more: bool,

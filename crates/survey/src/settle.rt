@@ -15,7 +15,7 @@ use survey_product::tied_variables;
 use words::{count, dropped, lowest, member, without};
 
 // What is searched once the variables of one value are settled.
-#[derive(Drop)]
+#[derive(Clone, Copy)]
 pub(crate) struct Settled {
     // The free variables, and those that are tied still.
     pub free: u32,

@@ -12,7 +12,7 @@ use pairs_read::partners;
 use words::{both, member, wide};
 
 // A count, capped, and whether there are more.
-#[derive(Drop)]
+#[derive(Clone, Copy)]
 pub(crate) struct Counted {
     pub count: u64,
     pub more: bool,

@@ -13,7 +13,7 @@ pub const YES: u8 = 100;
 
 pub const NO: u8 = 101;
 
-#[derive(Drop)]
+#[derive(Clone, Copy)]
 pub struct Reading {
     pub number: u8,
     pub place: usize,
@@ -21,7 +21,7 @@ pub struct Reading {
 }
 
 // What a step, a reduction, a trimming, a run that a named option leads or an added table answers.
-#[derive(Drop)]
+#[derive(Clone, Copy)]
 pub struct Stepping {
     pub number: u8,
     pub steps: usize,
@@ -29,27 +29,27 @@ pub struct Stepping {
 }
 
 // What the completer or the finding of an order answers.
-#[derive(Drop)]
+#[derive(Clone, Copy)]
 pub struct Completion {
     pub number: u8,
     pub buffer: [u8; 16],
 }
 
-#[derive(Drop)]
+#[derive(Clone, Copy)]
 pub struct Writing {
     pub number: u8,
     pub length: usize,
     pub buffer: [u8; ROOM],
 }
 
-#[derive(Drop)]
+#[derive(Clone, Copy)]
 pub struct Judgement {
     pub verdict: u8,
     pub solution: [u8; 16],
 }
 
 // What the reader, the full reduction and the verdict answer in one call.
-#[derive(Drop)]
+#[derive(Clone, Copy)]
 pub struct Cutting {
     pub number: u8,
     pub place: usize,

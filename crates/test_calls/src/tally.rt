@@ -4,7 +4,7 @@
 pub const KINDS: usize = 78;
 
 // The counts, and the seed of the number that is drawn next. It goes by value, as loans make proofs longer.
-#[derive(Drop)]
+#[derive(Clone, Copy)]
 pub struct Tally {
     pub counts: [u64; KINDS],
     pub seed: u64,

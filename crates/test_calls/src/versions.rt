@@ -20,7 +20,7 @@ fn put_head(to: &mut [u8; ROOM], bytes: &[u8], version: u8) -> usize {
 }
 
 // Two places: in the bytes that are read, and in those that are made.
-#[derive(Drop)]
+#[derive(Clone, Copy)]
 struct Places {
     from: usize,
     at: usize,

@@ -10,7 +10,7 @@ use test_rules::added::Sides;
 use test_rules::{added, followers, live, refusals, rules, unions};
 
 // The state handed back last, how many steps were taken, the tables that calls not refused added, and what was counted.
-#[derive(Drop)]
+#[derive(Clone, Copy)]
 pub struct Run {
     pub state: State,
     pub steps: usize,

@@ -5,7 +5,7 @@ use crate::random;
 pub const ROOM: usize = 15744;
 
 // A sheet's bytes and how many there are.
-#[derive(Drop)]
+#[derive(Clone, Copy)]
 pub struct Sheet {
     pub bytes: [u8; ROOM],
     pub length: usize,

@@ -3,7 +3,7 @@ use crate::families::low_byte;
 use crate::random;
 
 // Numbers, of which the first `length` are given.
-#[derive(Drop)]
+#[derive(Clone, Copy)]
 pub struct List {
     pub numbers: [u8; 16],
     pub length: usize,

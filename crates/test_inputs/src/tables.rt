@@ -5,7 +5,7 @@ use crate::{families, random};
 pub const ROOM: usize = 40;
 
 // The numbers of two options, and rows, of which the first `count` are given.
-#[derive(Drop)]
+#[derive(Clone, Copy)]
 pub struct Table {
     pub first: usize,
     pub second: usize,

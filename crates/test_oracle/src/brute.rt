@@ -130,7 +130,7 @@ pub fn is_build(bytes: &[u8], tuple: [u8; 16]) -> bool {
 }
 
 // A digit, and what is left of the number.
-#[derive(Drop)]
+#[derive(Clone, Copy)]
 pub(crate) struct Digit {
     pub(crate) value: u8,
     pub(crate) rest: usize,
@@ -148,7 +148,7 @@ pub(crate) fn divided(rest: usize, size: usize) -> Digit {
 }
 
 // A tuple, and what is left of its number: 0 unless the number is past the last tuple.
-#[derive(Drop)]
+#[derive(Clone, Copy)]
 pub struct Tuple {
     pub values: [u8; 16],
     pub rest: usize,

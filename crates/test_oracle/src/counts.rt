@@ -4,7 +4,7 @@ use crate::choices::{is_choice, precedes, refusal};
 use crate::tables::{Tables, is_build};
 
 // How many builds there are, the first of them by the live options, zero where there is none, and how many choices are allowed.
-#[derive(Drop)]
+#[derive(Clone, Copy)]
 pub struct Counts {
     pub builds: u64,
     pub first: [u8; 16],

@@ -3,7 +3,7 @@ use crate::brute::{byte, number, options, past, row, row_length, size, size_of};
 use crate::fields::{byte_at, wide};
 
 // The number of the cause, 0 where there is none, and its place; where there is none, the place after what was judged.
-#[derive(Drop)]
+#[derive(Clone, Copy)]
 pub struct Judged {
     pub number: u8,
     pub place: usize,

@@ -41,7 +41,7 @@ pub fn refusal(state: State, table: Table) -> u8 {
 }
 
 // The options named, counted from 0, and the leaders that they are traced to.
-#[derive(Drop)]
+#[derive(Clone, Copy)]
 pub struct Sides {
     pub first: usize,
     pub second: usize,

@@ -23,7 +23,7 @@ const STATED: u8 = 6;
 // There was no place for the fault that was drawn.
 const NONE: u8 = 7;
 
-#[derive(Drop)]
+#[derive(Clone, Copy)]
 struct Fault {
     field: u8,
     at: usize,
@@ -71,7 +71,7 @@ fn other_n(kind: u64, n: usize, seed: &mut u64) -> usize {
 }
 
 // Options that a fault is put at, `low` below `high` unless they are the same, and a number above n.
-#[derive(Drop)]
+#[derive(Clone, Copy)]
 struct Places {
     i: usize,
     j: usize,

@@ -30,7 +30,7 @@ fn lowest_follower(state: State, leader: usize) -> usize {
 }
 
 // What a run comes to, the follower that was taken last, 0 before the first, and whether one was taken after a higher one.
-#[derive(Drop)]
+#[derive(Clone, Copy)]
 pub struct Taken {
     pub state: State,
     pub last: usize,

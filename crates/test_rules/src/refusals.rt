@@ -62,7 +62,7 @@ fn refusal_of_pair(
 }
 
 // Two option numbers, counted from 1; 0 and 0 where there are none.
-#[derive(Drop)]
+#[derive(Clone, Copy)]
 pub struct Pair {
     pub leader: usize,
     pub follower: usize,

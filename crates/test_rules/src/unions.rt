@@ -11,7 +11,7 @@ const FEW: usize = 7;
 const CHOICES: usize = 128;
 
 // The values of a list that a number picks, and what is left of the number for the next list.
-#[derive(Drop)]
+#[derive(Clone, Copy)]
 struct Picked {
     values: u32,
     left: usize,

@@ -10,7 +10,7 @@ use test_inputs::families::{MIXED, PAIRED, Sheet};
 use test_inputs::{damage, families, random};
 
 // A sheet, and what it is tried as: one with a fault may have more tuples than can be tried.
-#[derive(Drop)]
+#[derive(Clone, Copy)]
 struct Kit {
     sheet: Sheet,
     kind: u8,

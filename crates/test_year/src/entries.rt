@@ -6,7 +6,7 @@ use test_oracle::brute;
 use test_oracle::brute::past;
 
 // A delivery, or else a call-off of the first `length` bytes of a tuple.
-#[derive(Drop)]
+#[derive(Clone, Copy)]
 pub struct Entry {
     pub delivers: bool,
     pub option: usize,
@@ -17,7 +17,7 @@ pub struct Entry {
 }
 
 // Rows for every value of an option.
-#[derive(Drop)]
+#[derive(Clone, Copy)]
 pub struct Rows {
     pub first: usize,
     pub second: usize,

@@ -10,7 +10,7 @@ pub const ROOM: usize = 512;
 
 pub type Counts = [u32; ROOM];
 
-#[derive(Drop)]
+#[derive(Clone, Copy)]
 pub struct Expected {
     pub number: u8,
     pub counts: Counts,

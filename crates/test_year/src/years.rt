@@ -16,7 +16,7 @@ use test_oracle::{brute, tables};
 pub type Shelf = [Bin; ROOM];
 
 // Answers by number, taken deliveries, differences, a word that every answer and every last count goes into, and the seed of what is drawn next.
-#[derive(Drop)]
+#[derive(Clone, Copy)]
 pub struct Tally {
     pub numbers: [u64; 32],
     pub deliveries: u64,
@@ -25,7 +25,7 @@ pub struct Tally {
     pub seed: u64,
 }
 
-#[derive(Drop)]
+#[derive(Clone, Copy)]
 pub struct Year {
     pub state: State,
     pub tables: Tables,
@@ -35,7 +35,7 @@ pub struct Year {
 }
 
 // What a call is given: a state and records as they are, or with a fault.
-#[derive(Drop)]
+#[derive(Clone, Copy)]
 pub struct Given {
     pub state: State,
     pub shelf: Shelf,

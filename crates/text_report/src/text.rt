@@ -12,7 +12,7 @@ use text_lines::put_refusal;
 // Room for every text.
 pub const LONGEST: usize = 512;
 
-#[derive(Drop)]
+#[derive(Clone, Copy)]
 pub struct Text {
     // The text, and zeros past it.
     pub bytes: [u8; LONGEST],

@@ -45,7 +45,7 @@ fn tables_length(bytes: usize, size: u8, tables: usize) -> usize
 }
 
 // How many bytes a sheet has, and how many tables.
-#[derive(Drop)]
+#[derive(Clone, Copy)]
 pub struct Extent {
     pub length: usize,
     pub tables: usize,

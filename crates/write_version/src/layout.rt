@@ -7,7 +7,7 @@ ghost use Rattle.write_version.specs.Version.{Fixes, FitsIs};
 use pairs::VARIABLES;
 
 // How many bytes a row has, the largest size, and whether an all-zero row is banned: 0, 0 and not in an unknown version.
-#[derive(Drop)]
+#[derive(Clone, Copy)]
 pub struct Fixed {
     pub bytes: usize,
     pub most: u8,

@@ -19,7 +19,7 @@ use year_text::{put_fault, put_not_in_stock, put_ok, put_too_low};
 
 // What is kept beside the arrays: the number of the next line, how many entries were answered OK, with 28, with 29, and with a fault of their text, and
 // the first 29.
-#[derive(Drop)]
+#[derive(Clone, Copy)]
 pub struct Entries {
     pub line: usize,
     pub ok: u64,
@@ -30,7 +30,7 @@ pub struct Entries {
 }
 
 // What is kept after a line, and the place past its text.
-#[derive(Drop)]
+#[derive(Clone, Copy)]
 pub struct Acted {
     pub entries: Entries,
     pub at: usize,

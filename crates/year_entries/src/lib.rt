@@ -16,7 +16,7 @@ use scan::{CELLS, Line};
 use stock::{CalledOff, call_off_counts, deliver_counts, no_bin};
 
 // The answer to an entry: what is wrong with its text, and where; else the number of the call, and the bin that 29 names.
-#[derive(Drop)]
+#[derive(Clone, Copy)]
 pub struct Answer {
     pub fault: u8,
     pub place: usize,
@@ -25,7 +25,7 @@ pub struct Answer {
 }
 
 // The first entry that met a bin too low: its line, the bin, and what was asked.
-#[derive(Drop)]
+#[derive(Clone, Copy)]
 pub struct Shortage {
     pub line: usize,
     pub low: Bin,

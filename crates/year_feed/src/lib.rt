@@ -12,21 +12,21 @@ use scan::{Scan, finish, opening, step};
 use year_act::{Acted, Entries, act};
 
 // A list in part: what was seen of the line that goes on, whether a byte of it was, and what is kept of the entries.
-#[derive(Drop)]
+#[derive(Clone, Copy)]
 pub struct Run {
     pub scan: Scan,
     pub begun: bool,
     pub entries: Entries,
 }
 
-#[derive(Drop)]
+#[derive(Clone, Copy)]
 pub struct Took {
     pub run: Run,
     // The place past its text.
     pub at: usize,
 }
 
-#[derive(Drop)]
+#[derive(Clone, Copy)]
 pub struct Fed {
     pub run: Run,
     // The first byte that was not taken.

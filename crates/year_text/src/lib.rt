@@ -77,7 +77,7 @@ pub fn put_fault(buffer: &mut [u8], at: usize, fault: u8, line: usize, place: us
 }
 
 // The numbers of a bin at the end.
-#[derive(Drop)]
+#[derive(Clone, Copy)]
 pub struct Balance {
     pub opening: usize,
     pub brought: usize,
@@ -130,7 +130,7 @@ pub fn put_short(
 }
 
 // How many entries were answered in each way, and all of them.
-#[derive(Drop)]
+#[derive(Clone, Copy)]
 pub struct Counted {
     pub ok: usize,
     pub r28: usize,

@@ -8,23 +8,23 @@ use Rattle.answers.proofs.verdict_kind.Tie as tie
 use Rattle.answers.proofs.verdict_kind.Reads as reads
 use Rattle.answers.proofs.verdict_kind.Lts as lts
 
-returns : tie.Need-returns
+returns : tie.Need-returns-in-None
 unfolding verdict_told verdict_kind kind_of
-returns c = λ build. sym (ap (λ (x : Verdict). verdict_kind (verdict_told x build)) c.enum_told.given.1)
+returns c = λ build. sym (ap (λ (x : Verdict). verdict_kind (verdict_told x build)) c.in-None.is)
 
-returns-2 : tie.Need-returns-2
+returns-2 : tie.Need-returns-in-Built
 unfolding verdict_told verdict_kind kind_of
-returns-2 c = λ build. sym (ap (λ (x : Verdict). verdict_kind (verdict_told x build)) c.enum-told2.given.1)
+returns-2 c = λ build. sym (ap (λ (x : Verdict). verdict_kind (verdict_told x build)) c.in-Built.is)
 
-returns-3 : tie.Need-returns-3
+returns-3 : tie.Need-returns-in-Open
 unfolding verdict_told verdict_kind kind_of
-returns-3 c = λ build. sym (ap (λ (x : Verdict). verdict_kind (verdict_told x build)) c.enum-told3.given.1)
+returns-3 c = λ build. sym (ap (λ (x : Verdict). verdict_kind (verdict_told x build)) c.in-Open.is)
 
-returns-4 : tie.Need-returns-4
+returns-4 : tie.Need-returns-in-Refused
 unfolding verdict_told verdict_kind kind_of
-returns-4 c = λ build. sym (ap (λ (x : Verdict). verdict_kind (verdict_told x build)) c.enum-told4.given.1)
+returns-4 c = λ build. sym (ap (λ (x : Verdict). verdict_kind (verdict_told x build)) c.in-Refused.is)
 
-pub verdict-kind-spec : {M : Type 1} → statement M
-verdict-kind-spec =
+pub verdict_kind_spec : {M : Type 1} → statement M
+verdict_kind_spec =
     tie.close
     (tie.spec (λ c. search rules) (λ c. search rules) (λ c. search rules) (λ c. search rules) returns returns-2 returns-3 returns-4)

@@ -9,24 +9,24 @@ use Rattle.answers.proofs.verdict_number.Reads as reads
 use Rattle.answers.proofs.verdict_number.Lts as lts
 use Rattle.cause.proofs.number.Reads as number-reads
 
-returns : tie.Need-returns
+returns : tie.Need-returns-in-None
 unfolding verdict_told verdict_number kind_of
-returns c = λ build. sym (ap (λ (x : Verdict). verdict_number (verdict_told x build)) c.enum_told.given.1)
+returns c = λ build. sym (ap (λ (x : Verdict). verdict_number (verdict_told x build)) c.in-None.is)
 
-returns-2 : tie.Need-returns-2
+returns-2 : tie.Need-returns-in-Built
 unfolding verdict_told verdict_number kind_of
-returns-2 c = λ build. sym (ap (λ (x : Verdict). verdict_number (verdict_told x build)) c.enum-told2.given.1)
+returns-2 c = λ build. sym (ap (λ (x : Verdict). verdict_number (verdict_told x build)) c.in-Built.is)
 
-returns-3 : tie.Need-returns-3
+returns-3 : tie.Need-returns-in-Open
 unfolding verdict_told verdict_number kind_of
-returns-3 c = λ build. sym (ap (λ (x : Verdict). verdict_number (verdict_told x build)) c.enum-told3.given.1)
+returns-3 c = λ build. sym (ap (λ (x : Verdict). verdict_number (verdict_told x build)) c.in-Open.is)
 
-returns-4 : tie.Need-returns-4
+returns-4 : tie.Need-returns-in-Refused
 unfolding verdict_told verdict_number kind_of
-returns-4 c = λ build. c.number.ensures ∙ sym (ap (λ (x : Verdict). verdict_number (verdict_told x build)) c.before.before.verdict.given.1)
+returns-4 c = λ build. c.number.ensures ∙ sym (ap (λ (x : Verdict). verdict_number (verdict_told x build)) c.in-Refused.is)
 
-pub verdict-number-spec : {M : Type 1} → statement M
-verdict-number-spec =
+pub verdict_number_spec : {M : Type 1} → statement M
+verdict_number_spec =
     tie.close
     (tie.spec
     (λ c. search rules)

@@ -7,13 +7,13 @@ use Rattle.answers.proofs.write_length.Tie as tie
 use Rattle.answers.proofs.write_length.Reads as reads
 use Rattle.answers.proofs.write_length.Lts as lts
 
-returns : tie.Need-returns
+returns : tie.Need-returns-in-Length
 unfolding write_told
-returns c = sym (ap (λ (x : WriteAnswer). (write_told x).length) c.before.answer.given.1)
+returns c = sym (ap (λ (x : WriteAnswer). (write_told x).length) c.in-Length.is)
 
-returns-2 : tie.Need-returns-2
+returns-2 : tie.Need-returns-in-Refused
 unfolding write_told
-returns-2 c = sym (ap (λ (x : WriteAnswer). (write_told x).length) c.enum_told.given.1)
+returns-2 c = sym (ap (λ (x : WriteAnswer). (write_told x).length) c.in-Refused.is)
 
-pub write-length-spec : {M : Type 1} → statement M
-write-length-spec = tie.close (tie.spec (λ c. search rules) (λ c. search rules) returns returns-2)
+pub write_length_spec : {M : Type 1} → statement M
+write_length_spec = tie.close (tie.spec (λ c. search rules) (λ c. search rules) returns returns-2)

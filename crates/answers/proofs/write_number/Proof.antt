@@ -8,14 +8,14 @@ use Rattle.answers.proofs.write_number.Reads as reads
 use Rattle.answers.proofs.write_number.Lts as lts
 use Rattle.cause.proofs.number.Reads as number-reads
 
-returns : tie.Need-returns
+returns : tie.Need-returns-in-Length
 unfolding write_told
-returns c = sym (ap (λ (x : WriteAnswer). (write_told x).number) c.enum_told.given.1)
+returns c = sym (ap (λ (x : WriteAnswer). (write_told x).number) c.in-Length.is)
 
-returns-2 : tie.Need-returns-2
+returns-2 : tie.Need-returns-in-Refused
 unfolding write_told
-returns-2 c = c.number.ensures ∙ sym (ap (λ (x : WriteAnswer). (write_told x).number) c.before.before.answer.given.1)
+returns-2 c = c.number.ensures ∙ sym (ap (λ (x : WriteAnswer). (write_told x).number) c.in-Refused.is)
 
-pub write-number-spec : {M : Type 1} → statement M
-write-number-spec =
+pub write_number_spec : {M : Type 1} → statement M
+write_number_spec =
     tie.close (tie.spec (λ c. search rules) (λ c. search rules) (λ c κs. search rules) returns returns-2)

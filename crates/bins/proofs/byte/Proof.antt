@@ -8,8 +8,8 @@ use borrow.Author.Rules.{rules}
 use Rattle.bins.proofs.byte.Statement.{statement}
 use Rattle.bins.proofs.byte.Tie as tie
 
-returns-2 : tie.Need-returns-2
-returns-2 c = let A : Array 16 (2 ^ 8) c.before.args.t1 = search shape in sym (array-past 16 (2 ^ 8) _ A _ c.if1.false)
+returns-2 : tie.Need-returns
+returns-2 c = let A : Array 16 (2 ^ 8) c.args.bytes = search shape in sym (array-past 16 (2 ^ 8) _ A _ c.if-i-lt16.false)
 
-pub byte-spec : {M : Type 1} → statement M
-byte-spec = tie.close (tie.spec (λ c. search rules) (λ c. search rules) returns-2)
+pub byte_spec : {M : Type 1} → statement M
+byte_spec = tie.close (tie.spec (λ c. search rules) (λ c. search rules) returns-2)

@@ -9,27 +9,27 @@ use borrow.Author.Rules.{rules}
 use Rattle.bins.proofs.counted.Statement.{statement}
 use Rattle.bins.proofs.counted.Tie as tie
 
-returns : tie.Need-returns
+returns : tie.Need-returns-then-c-p
 unfolding count_of
 returns c =
-    let t = c.before.before.before in
-    let k : t.before.args.p.amount < 2 ^ 32 = search rules in
-    sym (if-true _ _ _ t.if1.true ∙ if-false _ _ _ (lt-leb _ _ (within _ _ k c.before.if2.true)))
+    let t = c in
+    let k : t.args.p.amount < 2 ^ 32 = search rules in
+    sym (if-true _ _ _ t.if-p.true ∙ if-false _ _ _ (lt-leb _ _ (within _ _ k c.if-c-p.true)))
 
-returns-2 : tie.Need-returns-2
+returns-2 : tie.Need-returns-then-p
 unfolding count_of
 returns-2 c =
-    let t = c.before.before in
-    let k : t.before.args.p.amount < 2 ^ 32 = search rules in
-    sym (if-true _ _ _ t.if1.true ∙ if-true _ _ _ (le-leb _ _ (beyond _ _ k c.if2.false)))
+    let t = c in
+    let k : t.args.p.amount < 2 ^ 32 = search rules in
+    sym (if-true _ _ _ t.if-p.true ∙ if-true _ _ _ (le-leb _ _ (beyond _ _ k c.if-c-p.false)))
 
-returns-3 : tie.Need-returns-3
+returns-3 : tie.Need-returns-then-p-c
 unfolding count_of
-returns-3 c = sym (if-false _ _ _ c.before.before.before.if1.false ∙ if-false _ _ _ (le-ltb _ _ c.before.if3.true))
+returns-3 c = sym (if-false _ _ _ c.if-p.false ∙ if-false _ _ _ (le-ltb _ _ c.if-p-c.true))
 
-returns-4 : tie.Need-returns-4
+returns-4 : tie.Need-returns
 unfolding count_of
-returns-4 c = sym (if-false _ _ _ c.before.before.if1.false ∙ if-true _ _ _ (lt-ltb _ _ c.if3.false))
+returns-4 c = sym (if-false _ _ _ c.if-p.false ∙ if-true _ _ _ (lt-ltb _ _ c.if-p-c.false))
 
 pub counted_spec : {M : Type 1} → statement M
 counted_spec = tie.close (tie.spec (λ c. search rules) (λ c. search rules) returns returns-2 returns-3 returns-4)

@@ -3,13 +3,13 @@ use Rattle.bounded.specs.Bool.{or}
 use Rattle.bins.proofs.either.Statement.{statement}
 use Rattle.bins.proofs.either.Tie as tie
 
-returns : tie.Need-returns
+returns : tie.Need-returns-then-a
 unfolding or
-returns c = simp c.if1.true
+returns c = simp c.if-a.true
 
-returns-2 : tie.Need-returns-2
+returns-2 : tie.Need-returns
 unfolding or
-returns-2 c = simp c.if1.false
+returns-2 c = simp c.if-a.false
 
-pub either-spec : {M : Type 1} → statement M
-either-spec = tie.close (tie.spec returns returns-2)
+pub either_spec : {M : Type 1} → statement M
+either_spec = tie.close (tie.spec returns returns-2)

@@ -6,13 +6,13 @@ use borrow.Author.Rules.{rules}
 use Rattle.bins.proofs.is_named.Statement.{statement}
 use Rattle.bins.proofs.is_named.Tie as tie
 
-returns : tie.Need-returns
+returns : tie.Need-returns-then-p
 unfolding named
-returns c = c.is-of.ensures ∙ sym (if-true _ _ _ c.before.if1.true)
+returns c = c.is_of.ensures ∙ sym (if-true _ _ _ c.if-p.true)
 
-returns-2 : tie.Need-returns-2
+returns-2 : tie.Need-returns
 unfolding named
-returns-2 c = c.of-solution.ensures ∙ sym (if-false _ _ _ c.before.before.if1.false)
+returns-2 c = c.of_solution.ensures ∙ sym (if-false _ _ _ c.if-p.false)
 
-pub is-named-spec : {M : Type 1} → statement M
-is-named-spec = tie.close (tie.spec (λ c κs. search rules) returns (λ c κs. search rules) returns-2)
+pub is_named_spec : {M : Type 1} → statement M
+is_named_spec = tie.close (tie.spec (λ c κs. search rules) returns (λ c κs. search rules) returns-2)

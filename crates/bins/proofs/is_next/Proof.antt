@@ -13,23 +13,23 @@ use borrow.Author.Rules.{rules}
 use Rattle.bins.proofs.is_next.Statement.{statement}
 use Rattle.bins.proofs.is_next.Tie as tie
 
-returns : tie.Need-returns
+returns : tie.Need-returns-then-s-lt16
 unfolding is_next
 returns c =
-    let t = c.before.before.before.before in
-    c.is-of.ensures ∙ sym (and-holds _ _ (lt-ltb _ _ (rw t.before.before.size.ensures at t.if1.true)))
+    let t = c in
+    c.is_of.ensures ∙ sym (and-holds _ _ (lt-ltb _ _ (rw t.size-n.ensures at t.if-s-n.true)))
 
-returns-2 : tie.Need-returns-2
+returns-2 : tie.Need-returns-else-s-lt16
 unfolding is_next
 returns-2 c =
-    let a = c.before.before.before.before.before.args in
+    let a = c.args in
     let A : Array 16 (2 ^ 8) a.p.sizes = search shape in
-    let z = array-past 16 (2 ^ 8) _ A _ c.if2.false in
+    let z = array-past 16 (2 ^ 8) _ A _ c.if-s-lt16.false in
     sym (and-fails _ _ (le-ltb a.s.value (get_or a.p.sizes a.s.variable 0) (omega (arith, z))))
 
-returns-3 : tie.Need-returns-3
+returns-3 : tie.Need-returns-else-s-n
 unfolding is_next
-returns-3 c = sym (and-fails _ _ (le-ltb _ _ (rw c.before.before.size.ensures at c.if1.false)))
+returns-3 c = sym (and-fails _ _ (le-ltb _ _ (rw c.size-n.ensures at c.if-s-n.false)))
 
-pub is-next-spec : {M : Type 1} → statement M
-is-next-spec = tie.close (tie.spec (λ c κs. search rules) (λ c. search rules) (λ c κs. search rules) returns returns-2 returns-3)
+pub is_next_spec : {M : Type 1} → statement M
+is_next_spec = tie.close (tie.spec (λ c κs. search rules) (λ c. search rules) (λ c κs. search rules) returns returns-2 returns-3)

@@ -9,16 +9,16 @@ use borrow.Author.Rules.{rules}
 use Rattle.bins.proofs.is_of.Statement.{statement}
 use Rattle.bins.proofs.is_of.Tie as tie
 
-returns : tie.Need-returns
+returns : tie.Need-returns-then-wide-variable
 unfolding is_of
 returns c =
-    let t = c.before in
-    ap (λ (k : ℕ). eqb k t.before.before.args.value) c.wide2.ensures
-    ∙ sym (and-holds _ _ (eq-eqb _ _ (sym t.before.wide.ensures ∙ t.if1.true)))
+    let t = c in
+    ap (λ (k : ℕ). eqb k t.args.value) c.wide-then-wide-variable.ensures
+    ∙ sym (and-holds _ _ (eq-eqb _ _ (sym t.wide.ensures ∙ t.if-wide-variable.true)))
 
-returns-2 : tie.Need-returns-2
+returns-2 : tie.Need-returns
 unfolding is_of
-returns-2 c = sym (and-fails _ _ (ne_eqb _ _ (λ e. c.if1.false (c.before.wide.ensures ∙ e))))
+returns-2 c = sym (and-fails _ _ (ne_eqb _ _ (λ e. c.if-wide-variable.false (c.wide.ensures ∙ e))))
 
-pub is-of-spec : {M : Type 1} → statement M
-is-of-spec = tie.close (tie.spec (λ c κs. search rules) (λ c κs. search rules) returns returns-2)
+pub is_of_spec : {M : Type 1} → statement M
+is_of_spec = tie.close (tie.spec (λ c κs. search rules) (λ c κs. search rules) returns returns-2)

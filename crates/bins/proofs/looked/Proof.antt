@@ -8,36 +8,36 @@ use borrow.Author.Rules.{rules}
 use Rattle.bins.proofs.looked.Statement.{statement}
 use Rattle.bins.proofs.looked.Tie as tie
 
-next-variable-requires : tie.Need-next-variable-requires
+next-variable-requires : tie.Need-next_variable-requires
 unfolding is_next
-next-variable-requires c κs = ltb-true _ _ (and_l _ _ (sym c.before.before.before.is-next.ensures ∙ c.before.before.if1.true))
+next-variable-requires c κs = ltb-true _ _ (and_l _ _ (sym c.is_next.ensures ∙ c.if-is_next.true))
 
-next-value-requires : tie.Need-next-value-requires
+next-value-requires : tie.Need-next_value-requires
 unfolding is_next
-next-value-requires c κs = ltb-true _ _ (and_l _ _ (sym c.before.before.before.before.is-next.ensures ∙ c.before.before.before.if1.true))
+next-value-requires c κs = ltb-true _ _ (and_l _ _ (sym c.is_next.ensures ∙ c.if-is_next.true))
 
-returns : tie.Need-returns
+returns : tie.Need-returns-then-is_next
 unfolding looked_of
 returns c =
-    let v = c.before.before in
-    let h = v.before.before in
-    let n = h.before.before.before in
-    let s = n.before.args.s in
+    let v = c in
+    let h = v in
+    let n = h in
+    let s = n.args.s in
     (λ i. record {
-      variable = v.before.next-variable.ensures i;
-      value = v.next-value.ensures i;
+      variable = v.next_variable.ensures i;
+      value = v.next_value.ensures i;
       exact = s.exact;
-      high = (c.before.either.ensures ∙ ap (or s.high) h.before.too-high.ensures) i;
-      low = (c.either2.ensures ∙ ap (or s.low) h.too-low.ensures) i;
+      high = (c.either.ensures ∙ ap (or s.high) h.too_high-high.ensures) i;
+      low = (c.either-then-is_next.ensures ∙ ap (or s.low) h.too_low-low.ensures) i;
     })
-    ∙ sym (if-true _ _ _ (sym n.is-next.ensures ∙ h.before.before.if1.true))
+    ∙ sym (if-true _ _ _ (sym n.is_next.ensures ∙ h.if-is_next.true))
 
-returns-2 : tie.Need-returns-2
+returns-2 : tie.Need-returns-else-is_next
 unfolding looked_of
-returns-2 c = sym (if-false _ _ _ (sym c.before.is-next.ensures ∙ c.if1.false))
+returns-2 c = sym (if-false _ _ _ (sym c.is_next.ensures ∙ c.if-is_next.false))
 
-pub looked-spec : {M : Type 1} → statement M
-looked-spec =
+pub looked_spec : {M : Type 1} → statement M
+looked_spec =
     tie.close
     (tie.spec
     (λ c κs. search rules)

@@ -7,13 +7,13 @@ use borrow.Author.Rules.{rules}
 use Rattle.bins.proofs.moved.Statement.{statement}
 use Rattle.bins.proofs.moved.Tie as tie
 
-returns : tie.Need-returns
+returns : tie.Need-returns-then-is_named
 unfolding moved_of
-returns c = ap (with_count c.before.before.before.args.b) c.counted.ensures ∙ sym (if-true _ _ _ (sym c.before.before.is-named.ensures ∙ c.before.if1.true))
+returns c = ap (with_count c.args.b) c.counted.ensures ∙ sym (if-true _ _ _ (sym c.is_named.ensures ∙ c.if-is_named.true))
 
-returns-2 : tie.Need-returns-2
+returns-2 : tie.Need-returns
 unfolding moved_of
-returns-2 c = sym (if-false _ _ _ (sym c.before.is-named.ensures ∙ c.if1.false))
+returns-2 c = sym (if-false _ _ _ (sym c.is_named.ensures ∙ c.if-is_named.false))
 
-pub moved-spec : {M : Type 1} → statement M
-moved-spec = tie.close (tie.spec (λ c κs. search rules) (λ c κs. search rules) returns returns-2)
+pub moved_spec : {M : Type 1} → statement M
+moved_spec = tie.close (tie.spec (λ c κs. search rules) (λ c κs. search rules) returns returns-2)

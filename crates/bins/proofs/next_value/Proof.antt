@@ -7,13 +7,13 @@ use borrow.Author.Rules.{rules}
 use Rattle.bins.proofs.next_value.Statement.{statement}
 use Rattle.bins.proofs.next_value.Tie as tie
 
-returns : tie.Need-returns
+returns : tie.Need-returns-then-v-n
 unfolding next_value
-returns c = sym (if-true _ _ _ (lt-ltb _ _ (rw c.before.size.ensures at c.if1.true)))
+returns c = sym (if-true _ _ _ (lt-ltb _ _ (rw c.size-n.ensures at c.if-v-n.true)))
 
-returns-2 : tie.Need-returns-2
+returns-2 : tie.Need-returns
 unfolding next_value
-returns-2 c = sym (if-false _ _ _ (le-ltb _ _ (rw c.before.size.ensures at c.if1.false)))
+returns-2 c = sym (if-false _ _ _ (le-ltb _ _ (rw c.size-n.ensures at c.if-v-n.false)))
 
-pub next-value-spec : {M : Type 1} → statement M
-next-value-spec = tie.close (tie.spec (λ c κs. search rules) (λ c. search rules) (λ c. search rules) returns returns-2)
+pub next_value_spec : {M : Type 1} → statement M
+next_value_spec = tie.close (tie.spec (λ c κs. search rules) (λ c. search rules) (λ c. search rules) returns returns-2)

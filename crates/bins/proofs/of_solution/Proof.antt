@@ -11,17 +11,17 @@ use borrow.Author.Rules.{rules}
 use Rattle.bins.proofs.of_solution.Statement.{statement}
 use Rattle.bins.proofs.of_solution.Tie as tie
 
-returns : tie.Need-returns
+returns : tie.Need-returns-then-variable-lt1
 unfolding of_solution
-returns c = sym (and-fails _ _ (le-ltb 0 c.before.before.args.b.variable (omega (arith, c.if1.true, c.before.wide.ensures))))
+returns c = sym (and-fails _ _ (le-ltb 0 c.args.b.variable (omega (arith, c.if-variable-lt1.true, c.wide-variable.ensures))))
 
-returns-2 : tie.Need-returns-2
+returns-2 : tie.Need-returns
 unfolding of_solution
 returns-2 c =
-    let w = c.before.before.before in
-    let a = w.before.args in
-    ap (λ (k : ℕ). eqb k a.b.value) (c.before.byte.ensures ∙ ap (λ (k : ℕ). get_or a.values (k - 1) 0) w.wide.ensures)
-    ∙ sym (and-holds _ _ (lt-ltb 0 a.b.variable (omega (arith, c.before.before.if1.false, w.wide.ensures))))
+    let w = c in
+    let a = w.args in
+    ap (λ (k : ℕ). eqb k a.b.value) (c.byte.ensures ∙ ap (λ (k : ℕ). get_or a.values (k - 1) 0) w.wide-variable.ensures)
+    ∙ sym (and-holds _ _ (lt-ltb 0 a.b.variable (omega (arith, c.if-variable-lt1.false, w.wide-variable.ensures))))
 
-pub of-solution-spec : {M : Type 1} → statement M
-of-solution-spec = tie.close (tie.spec (λ c κs. search rules) returns (λ c κs. search rules) returns-2)
+pub of_solution_spec : {M : Type 1} → statement M
+of_solution_spec = tie.close (tie.spec (λ c κs. search rules) returns (λ c κs. search rules) returns-2)

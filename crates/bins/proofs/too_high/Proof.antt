@@ -8,20 +8,20 @@ use borrow.Author.Rules.{rules}
 use Rattle.bins.proofs.too_high.Statement.{statement}
 use Rattle.bins.proofs.too_high.Tie as tie
 
-returns : tie.Need-returns
+returns : tie.Need-returns-then-p
 unfolding too_high
 returns c =
-    let t = c.before.before.before in
-    let k : t.before.before.args.p.amount < 2 ^ 32 = search rules in
-    over _ _ k ∙ sym (and-holds _ _ (sym t.before.is-named.ensures ∙ t.if1.true) ∙ and-holds _ _ c.before.before.if2.true)
+    let t = c in
+    let k : t.args.p.amount < 2 ^ 32 = search rules in
+    over _ _ k ∙ sym (and-holds _ _ (sym t.is_named.ensures ∙ t.if-is_named.true) ∙ and-holds _ _ c.if-p.true)
 
-returns-2 : tie.Need-returns-2
+returns-2 : tie.Need-returns-else-p
 unfolding too_high
-returns-2 c = sym (and-holds _ _ (sym c.before.before.is-named.ensures ∙ c.before.if1.true) ∙ and-fails _ _ c.if2.false)
+returns-2 c = sym (and-holds _ _ (sym c.is_named.ensures ∙ c.if-is_named.true) ∙ and-fails _ _ c.if-p.false)
 
-returns-3 : tie.Need-returns-3
+returns-3 : tie.Need-returns-else-is_named
 unfolding too_high
-returns-3 c = sym (and-fails _ _ (sym c.before.is-named.ensures ∙ c.if1.false))
+returns-3 c = sym (and-fails _ _ (sym c.is_named.ensures ∙ c.if-is_named.false))
 
-pub too-high-spec : {M : Type 1} → statement M
-too-high-spec = tie.close (tie.spec (λ c κs. search rules) (λ c. search rules) returns returns-2 returns-3)
+pub too_high_spec : {M : Type 1} → statement M
+too_high_spec = tie.close (tie.spec (λ c κs. search rules) (λ c. search rules) returns returns-2 returns-3)

@@ -9,10 +9,10 @@ use Rattle.bins_counts.proofs.add_at.Tie as tie
 
 returns : tie.Need-returns
 unfolding changed_at
-returns c = let a = c.before.before.args in ap (λ (x : ℕ). set a.sums.now a.i x) c.plus.ensures
+returns c = let a = c.args in ap (λ (x : ℕ). set a.sums.now a.i x) c.plus.ensures
 
-pub add-at-spec : {M : Type 1} → statement M
-add-at-spec =
+pub add_at_spec : {M : Type 1} → statement M
+add_at_spec =
     tie.close
     (tie.spec
     (λ c. search rules)

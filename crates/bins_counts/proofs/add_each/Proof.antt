@@ -8,31 +8,31 @@ use borrow.Author.Rules.{rules}
 use Rattle.bins_counts.proofs.add_each.Statement.{statement}
 use Rattle.bins_counts.proofs.add_each.Tie as tie
 
-abbrev invariant-loop : tie.invariant-loop
+abbrev invariant-loop : tie.invariant-loop-o
 invariant-loop n sizes values sums₀ amount o₀ sums o = (o ≤ n) × (sums ≡ changed_each (plus amount) sizes values sums₀ o)
 
-abbrev decreases-loop : tie.decreases-loop
+abbrev decreases-loop : tie.decreases-loop-o
 decreases-loop n sizes values sums₀ amount o₀ sums o = n - o
 
-loop-holds : tie.Need-loop-init invariant-loop decreases-loop
+loop-holds : tie.Need-loop-o-init invariant-loop decreases-loop
 loop-holds c = (omega arith, each_none _ _ _ _)
 
-add-at-requires : tie.Need-add-at-requires invariant-loop decreases-loop
+add-at-requires : tie.Need-add_at-requires invariant-loop decreases-loop
 add-at-requires c κs =
-    let l = c.before.before.before in
-    omega (arith, c.spot_of_lem.ensures, l.before.requires.1 l.loop.o (omega arith))
+    let l = c in
+    omega (arith, c.spot_of_lem.ensures, l.requires.1 l.loop-o.o (omega arith))
 
-loop-again : tie.Need-loop-preserved invariant-loop decreases-loop
+loop-again : tie.Need-loop-o-preserved invariant-loop decreases-loop
 loop-again c =
-    let s = c.before in
-    let l = s.before.before.before in
-    (omega arith, each_more _ _ _ _ l.loop.o _ _ _ l.loop.invariant.1 s.spot_of_lem.ensures c.add_at.ensures)
+    let s = c in
+    let l = s in
+    (omega arith, each_more _ _ _ _ l.loop-o.o _ _ _ l.loop-o.invariant.1 s.spot_of_lem.ensures c.add_at.ensures)
 
 returns : tie.Need-returns invariant-loop decreases-loop
-returns c = let e : c.before.loop.o ≡ c.before.before.args.n = omega arith in rw e at c.before.loop.invariant.1
+returns c = let e : c.loop-o.o ≡ c.args.n = omega arith in rw e at c.loop-o.invariant.1
 
-pub add-each-spec : {M : Type 1} → statement M
-add-each-spec =
+pub add_each_spec : {M : Type 1} → statement M
+add_each_spec =
     tie.close
     (tie.spec
     invariant-loop

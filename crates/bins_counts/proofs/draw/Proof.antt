@@ -8,31 +8,31 @@ use borrow.Author.Rules.{rules}
 use Rattle.bins_counts.proofs.draw.Statement.{statement}
 use Rattle.bins_counts.proofs.draw.Tie as tie
 
-abbrev invariant-loop : tie.invariant-loop
+abbrev invariant-loop : tie.invariant-loop-o
 invariant-loop n sizes values counts₀ amount o₀ counts o = (o ≤ n) × (counts ≡ changed_each (minus amount) sizes values counts₀ o)
 
-abbrev decreases-loop : tie.decreases-loop
+abbrev decreases-loop : tie.decreases-loop-o
 decreases-loop n sizes values counts₀ amount o₀ counts o = n - o
 
-loop-holds : tie.Need-loop-init invariant-loop decreases-loop
+loop-holds : tie.Need-loop-o-init invariant-loop decreases-loop
 loop-holds c = (omega arith, each_none _ _ _ _)
 
-draw-at-requires : tie.Need-draw-at-requires invariant-loop decreases-loop
+draw-at-requires : tie.Need-draw_at-requires invariant-loop decreases-loop
 draw-at-requires c κs =
-    let l = c.before.before.before in
-    omega (arith, c.spot_of_lem.ensures, l.before.requires.1 l.loop.o (omega arith))
+    let l = c in
+    omega (arith, c.spot_of_lem.ensures, l.requires.1 l.loop-o.o (omega arith))
 
-loop-again : tie.Need-loop-preserved invariant-loop decreases-loop
+loop-again : tie.Need-loop-o-preserved invariant-loop decreases-loop
 loop-again c =
-    let s = c.before in
-    let l = s.before.before.before in
-    (omega arith, each_more _ _ _ _ l.loop.o _ _ _ l.loop.invariant.1 s.spot_of_lem.ensures c.draw-at.ensures)
+    let s = c in
+    let l = s in
+    (omega arith, each_more _ _ _ _ l.loop-o.o _ _ _ l.loop-o.invariant.1 s.spot_of_lem.ensures c.draw_at.ensures)
 
 returns : tie.Need-returns invariant-loop decreases-loop
-returns c = let e : c.before.loop.o ≡ c.before.before.args.n = omega arith in rw e at c.before.loop.invariant.1
+returns c = let e : c.loop-o.o ≡ c.args.n = omega arith in rw e at c.loop-o.invariant.1
 
-pub draw-spec : {M : Type 1} → statement M
-draw-spec =
+pub draw_spec : {M : Type 1} → statement M
+draw_spec =
     tie.close
     (tie.spec
     invariant-loop

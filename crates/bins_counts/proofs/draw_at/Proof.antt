@@ -9,10 +9,10 @@ use Rattle.bins_counts.proofs.draw_at.Tie as tie
 
 returns : tie.Need-returns
 unfolding changed_at
-returns c = let a = c.before.before.args in ap (λ (x : ℕ). set a.counts.now a.i x) c.less.ensures
+returns c = let a = c.args in ap (λ (x : ℕ). set a.counts.now a.i x) c.less.ensures
 
-pub draw-at-spec : {M : Type 1} → statement M
-draw-at-spec =
+pub draw_at_spec : {M : Type 1} → statement M
+draw_at_spec =
     tie.close
     (tie.spec
     (λ c. search rules)

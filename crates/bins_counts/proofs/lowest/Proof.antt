@@ -11,36 +11,36 @@ use borrow.Author.Rules.{rules}
 use Rattle.bins_counts.proofs.lowest.Statement.{statement}
 use Rattle.bins_counts.proofs.lowest.Tie as tie
 
-abbrev invariant-loop : tie.invariant-loop
+abbrev invariant-loop : tie.invariant-loop-o
 invariant-loop n sizes values counts amount o₀ o = (o ≤ n) × ((k : ℕ) → k < o → is_low sizes values counts amount k ≡ false)
 
-abbrev decreases-loop : tie.decreases-loop
+abbrev decreases-loop : tie.decreases-loop-o
 decreases-loop n sizes values counts amount o₀ o = n - o
 
-loop-holds : tie.Need-loop-init invariant-loop decreases-loop
+loop-holds : tie.Need-loop-o-init invariant-loop decreases-loop
 loop-holds c = (omega arith, λ k l. absurd (let x : ⊥ = omega arith in x))
 
-is-low-requires : tie.Need-is-low-requires invariant-loop decreases-loop
-is-low-requires c κs = (omega arith, c.before.before.requires.1 c.before.loop.o (omega arith))
+is-low-requires : tie.Need-is_low-requires invariant-loop decreases-loop
+is-low-requires c κs = (omega arith, c.requires.1 c.loop-o.o (omega arith))
 
-loop-again : tie.Need-loop-preserved invariant-loop decreases-loop
-loop-again c = (omega arith, below_more _ _ c.before.before.before.loop.invariant.1 (sym c.before.is-low.ensures ∙ c.if1.false))
+loop-again : tie.Need-loop-o-preserved invariant-loop decreases-loop
+loop-again c = (omega arith, below_more _ _ c.loop-o.invariant.1 (sym c.is_low.ensures ∙ c.if-is_low.false))
 
-returns : tie.Need-returns invariant-loop decreases-loop
+returns : tie.Need-returns-then-is_low invariant-loop decreases-loop
 unfolding lowest
 returns c =
-    let l = c.before.before.before in
-    sym (first_is l.before.args.n _ l.loop.o (omega arith) (sym c.before.is-low.ensures ∙ c.if1.true) l.loop.invariant.1)
+    let l = c in
+    sym (first_is l.args.n _ l.loop-o.o (omega arith) (sym c.is_low.ensures ∙ c.if-is_low.true) l.loop-o.invariant.1)
 
-returns-2 : tie.Need-returns-2 invariant-loop decreases-loop
+returns-2 : tie.Need-returns invariant-loop decreases-loop
 unfolding lowest
 returns-2 c =
-    let l = c.before in
-    let e : l.loop.o ≡ l.before.args.n = omega arith in
-    e ∙ sym (first-none l.before.args.n _ (rw e at l.loop.invariant.1))
+    let l = c in
+    let e : l.loop-o.o ≡ l.args.n = omega arith in
+    e ∙ sym (first-none l.args.n _ (rw e at l.loop-o.invariant.1))
 
-pub lowest-spec : {M : Type 1} → statement M
-lowest-spec =
+pub lowest_spec : {M : Type 1} → statement M
+lowest_spec =
     tie.close
     (tie.spec
     invariant-loop

@@ -17,14 +17,14 @@ over : (x y a : ℕ) → y ≡ a → x < 2 ^ 64 → 18446744073709551615 - x < y
 unfolding plus
 over x y a e s l = sym (if-false _ _ _ (le-ltb (x + a) (2 ^ 64) (omega (arith, e, s, l))))
 
-returns : tie.Need-returns
-returns c = fits _ _ _ c.before.long.ensures.0 (omega arith) c.if1.true
+returns : tie.Need-returns-then-more-x
+returns c = fits _ _ _ c.long-more.ensures.0 (omega arith) c.if-more-x.true
 
-returns-2 : tie.Need-returns-2
-returns-2 c = over _ _ _ c.before.long.ensures.0 (omega arith) c.if1.false
+returns-2 : tie.Need-returns
+returns-2 c = over _ _ _ c.long-more.ensures.0 (omega arith) c.if-more-x.false
 
-pub plus-spec : {M : Type 1} → statement M
-plus-spec =
+pub plus_spec : {M : Type 1} → statement M
+plus_spec =
     tie.close
     (tie.spec
     (λ c κs. search rules)

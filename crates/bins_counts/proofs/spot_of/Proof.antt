@@ -7,11 +7,11 @@ use Rattle.bins_counts.proofs.spot_of.Tie as tie
 
 returns : tie.Need-returns
 returns c =
-    let a = c.before.before.args in
-    c.spot.ensures ∙ ap (spot a.sizes a.o) c.before.wide.ensures.0
+    let a = c.args in
+    c.spot.ensures ∙ ap (spot a.sizes a.o) c.wide.ensures.0
 
-pub spot-of-spec : {M : Type 1} → statement M
-spot-of-spec =
+pub spot_of_spec : {M : Type 1} → statement M
+spot_of_spec =
     tie.close
     (tie.spec
     (λ c. search rules)

@@ -198,9 +198,9 @@ module _ {M : Type 1} {𝓤 : Ura M} (𝓛 : Logic 𝓤) (at_mem : Memory → SP
       walk_Meets 𝓛 f.ended stayed (Goes-dropped 𝓛 0 (array_of (plain (λ _. B.the_row)) 512) yes (λ κs x f. refl), (Goes-dropped 𝓛 0 (plain (λ _. usize)) yes (λ κs x f. refl), (Goes-dropped 𝓛 0 (plain (λ _. P.the_row)) yes (λ κs x f. refl), tt)))
       (f.clauses 𝓛 at_mem run) (WpFn 𝓤 H 𝓣.C 𝓣.Λ code.function) (WpFn-mono 𝓤 H 𝓛.laws 𝓣 code.function) bins-in-walks
 
-pub bins-in-spec : {M : Type 1} → stated.statement M
+pub bins_in_spec : {M : Type 1} → stated.statement M
 unfolding code.routine tables_of
-bins-in-spec 𝓤 𝓛 𝓜 𝓡 =
+bins_in_spec 𝓤 𝓛 𝓜 𝓡 =
     entered 𝓤 𝓛.H (triple_of 𝓛 f.signature (f.spec 𝓛 𝓜.mem 𝓡.run))
     (tables 𝓤 𝓛.H 𝓜 𝓡 code.env).C (tables 𝓤 𝓛.H 𝓜 𝓡 code.env).Λ #bins-post·bins-in code.function (code.unfolded 𝓤 𝓛.H 𝓜 𝓡)
     (bins-in-meets 𝓛 𝓜.mem 𝓡.run (tables_of 𝓤 𝓛.H 𝓜 (tables 𝓤 𝓛.H 𝓜 𝓡 code.env))

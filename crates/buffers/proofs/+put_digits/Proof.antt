@@ -24,26 +24,26 @@ given-at t = and 1 kinds.ps (is 1 kinds.ps μ-put-digits t) reads.Pre
 abbrev claims-below : ℕ → lts.Claims
 claims-below t = (put-byte-reads.Asked, put-byte-reads.Learnt, and 1 kinds.ps (falls 1 kinds.ps ◌<◌ μ-put-digits t) reads.Pre, reads.Post)
 
-put-byte-requires : (t : ℕ) → lts.Need-put-byte-requires (claims-below t) (given-at t) reads.Post
-put-byte-requires t c κs = omega (arith, length-decimal-one c.before.before.before.args.n (omega arith))
+put-byte-requires : (t : ℕ) → lts.Need-put_byte-requires (claims-below t) (given-at t) reads.Post
+put-byte-requires t c κs = omega (arith, length-decimal-one c.args.n (omega arith))
 
-returns : (t : ℕ) → lts.Need-returns (claims-below t) (given-at t) reads.Post
-returns t c = rw (decimal-one _ c.before.before.before.before.if1.true) c.before.before.put_byte.ensures
+returns : (t : ℕ) → lts.Need-returns-then-n-lt10 (claims-below t) (given-at t) reads.Post
+returns t c = rw (decimal-one _ c.if-n-lt10.true) c.put_byte.ensures
 
-put-digits-requires : (t : ℕ) → lts.Need-put-digits-requires (claims-below t) (given-at t) reads.Post
-put-digits-requires t c κs = omega (arith, length-decimal-more c.before.before.before.args.n (omega arith))
+put-digits-requires : (t : ℕ) → lts.Need-put_digits-next-requires (claims-below t) (given-at t) reads.Post
+put-digits-requires t c κs = omega (arith, length-decimal-more c.args.n (omega arith))
 
-put-byte-requires-2 : (t : ℕ) → lts.Need-put-byte-requires-2 (claims-below t) (given-at t) reads.Post
-put-byte-requires-2 t c κs = omega (arith, length-decimal-more c.before.before.before.before.before.before.before.args.n (omega arith))
+put-byte-requires-2 : (t : ℕ) → lts.Need-put_byte-requires-2 (claims-below t) (given-at t) reads.Post
+put-byte-requires-2 t c κs = omega (arith, length-decimal-more c.args.n (omega arith))
 
-returns-2 : (t : ℕ) → lts.Need-returns-2 (claims-below t) (given-at t) reads.Post
+returns-2 : (t : ℕ) → lts.Need-returns (claims-below t) (given-at t) reads.Post
 returns-2 t c =
-    let p = c.before.before in
-    let d = p.before.before.before.before in
-    rw (decimal-more _ d.before.before.if1.false) (wrote_then d.put-digits.ensures p.put-byte2.ensures)
+    let p = c in
+    let d = p in
+    rw (decimal-more _ d.if-n-lt10.false) (wrote_then d.put_digits-next.ensures p.put_byte-2.ensures)
 
-pub +put-digits-spec : {M : Type 1} → statement M
-+put-digits-spec =
+pub +put_digits_spec : {M : Type 1} → statement M
++put_digits_spec =
     close μ-put-digits λ t.
     lts.spec
     (claims-below t)

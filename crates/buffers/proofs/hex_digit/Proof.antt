@@ -5,14 +5,14 @@ use Rattle.buffers.proofs.Digits.{shift-digits, hex-digit-low, hex-digit-high}
 use Rattle.buffers.proofs.hex_digit.Statement.{statement}
 use Rattle.buffers.proofs.hex_digit.Tie as tie
 
-returns : tie.Need-returns
-returns c = let s = c.before in rw (← shift-digits 4 s.args.k s.args.word) (sym (hex-digit-low _ c.if1.true))
+returns : tie.Need-returns-then-digit-lt10
+returns c = let s = c in rw (← shift-digits 4 s.args.k s.args.word) (sym (hex-digit-low _ c.if-digit-lt10.true))
 
-returns-2 : tie.Need-returns-2
-returns-2 c = let s = c.before in rw (← shift-digits 4 s.args.k s.args.word) (sym (hex-digit-high _ c.if1.false))
+returns-2 : tie.Need-returns
+returns-2 c = let s = c in rw (← shift-digits 4 s.args.k s.args.word) (sym (hex-digit-high _ c.if-digit-lt10.false))
 
-pub hex-digit-spec : {M : Type 1} → statement M
-hex-digit-spec =
+pub hex_digit_spec : {M : Type 1} → statement M
+hex_digit_spec =
     tie.close
     (tie.spec
     (λ c. search rules)

@@ -7,5 +7,5 @@ use Rattle.buffers.proofs.put_byte.Tie as tie
 returns : tie.Need-returns
 returns c = wrote_one _ _ _ (search rules)
 
-pub put-byte-spec : {M : Type 1} → statement M
-put-byte-spec = tie.close (tie.spec (λ c. search rules) (λ c. search rules) (λ c. search rules) returns)
+pub put_byte_spec : {M : Type 1} → statement M
+put_byte_spec = tie.close (tie.spec (λ c. search rules) (λ c. search rules) (λ c. search rules) returns)

@@ -5,14 +5,14 @@ use Rattle.buffers.proofs.Digits.{decimal-one, length-decimal-one}
 use Rattle.buffers.proofs.put_decimal.Statement.{statement}
 use Rattle.buffers.proofs.put_decimal.Tie as tie
 
-put-byte-requires : tie.Need-put-byte-requires
-put-byte-requires c κs = omega (arith, length-decimal-one c.before.before.before.args.n (omega arith))
+put-byte-requires : tie.Need-put_byte-requires
+put-byte-requires c κs = omega (arith, length-decimal-one c.args.n (omega arith))
 
-returns : tie.Need-returns
-returns c = rw (decimal-one _ c.before.before.before.before.if1.true) c.before.before.put_byte.ensures
+returns : tie.Need-returns-then-n-lt10
+returns c = rw (decimal-one _ c.if-n-lt10.true) c.put_byte.ensures
 
-pub put-decimal-spec : {M : Type 1} → statement M
-put-decimal-spec =
+pub put_decimal_spec : {M : Type 1} → statement M
+put_decimal_spec =
     tie.close
     (tie.spec
     (λ c. search rules)

@@ -8,5 +8,5 @@ returns : tie.Need-returns
 unfolding goes_with
 returns c = search rules
 
-pub fits-spec : {M : Type 1} → statement M
-fits-spec = tie.close (tie.spec (λ c. search rules) (λ c. search rules) returns)
+pub fits_spec : {M : Type 1} → statement M
+fits_spec = tie.close (tie.spec (λ c. search rules) (λ c. search rules) returns)

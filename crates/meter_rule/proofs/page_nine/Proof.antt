@@ -9,5 +9,5 @@ returns : tie.Need-returns
 unfolding page_nine tabulate capacities
 returns c = search rules
 
-pub page-nine-spec : {M : Type 1} → statement M
-page-nine-spec = tie.close (tie.spec (λ c κs. search rules) (λ c κs. search rules) (λ c κs. search rules) (λ c κs. search rules) returns)
+pub page_nine_spec : {M : Type 1} → statement M
+page_nine_spec = tie.close (tie.spec (λ c κs. search rules) (λ c κs. search rules) (λ c κs. search rules) (λ c κs. search rules) returns)

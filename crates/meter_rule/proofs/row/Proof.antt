@@ -7,21 +7,21 @@ use Rattle.meter_rule.specs.PageNine.{draws, row_of}
 use Rattle.meter_rule.proofs.row.Statement.{statement}
 use Rattle.meter_rule.proofs.row.Tie as tie
 
-add-result : tie.Need-overflow-add-result
+add-result : tie.Need-overflow_add-result
 add-result c = omega arith
 
-add-result-2 : tie.Need-overflow-add-result-2
+add-result-2 : tie.Need-overflow_add-result-2
 add-result-2 c = omega arith
 
-add-result-3 : tie.Need-overflow-add-result-3
+add-result-3 : tie.Need-overflow_add-result-3
 add-result-3 c = omega arith
 
 returns : tie.Need-returns
 unfolding row_of word sum draws
 returns c = search rules
 
-pub row-spec : {M : Type 1} → statement M
-row-spec =
+pub row_spec : {M : Type 1} → statement M
+row_spec =
     tie.close
     (tie.spec
     (λ c κs. search rules)

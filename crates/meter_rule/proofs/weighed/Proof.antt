@@ -8,11 +8,11 @@ use Rattle.meter_rule.proofs.weighed.Tie as tie
 use Rattle.meter_rule.proofs.weighed.Reads as reads
 use Rattle.meter_rule.proofs.weighed.Lts as lts
 
-returns : tie.Need-returns
-returns c = let b = bit-true _ (sym c.before.fits2.ensures ∙ c.if1.true) in (rw b (omega arith), omega arith)
+returns : tie.Need-returns-then-fits
+returns c = let b = bit-true _ (sym c.fits.ensures ∙ c.if-fits.true) in (rw b (omega arith), omega arith)
 
-returns-2 : tie.Need-returns-2
-returns-2 c = let b = bit-false _ (sym c.before.fits2.ensures ∙ c.if1.false) in (rw b (omega arith), omega arith)
+returns-2 : tie.Need-returns
+returns-2 c = let b = bit-false _ (sym c.fits.ensures ∙ c.if-fits.false) in (rw b (omega arith), omega arith)
 
-pub weighed-spec : {M : Type 1} → statement M
-weighed-spec = tie.close (tie.spec (λ c κs. search rules) returns returns-2)
+pub weighed_spec : {M : Type 1} → statement M
+weighed_spec = tie.close (tie.spec (λ c κs. search rules) returns returns-2)

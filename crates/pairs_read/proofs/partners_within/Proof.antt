@@ -11,54 +11,54 @@ use Rattle.pairs.proofs.Runs.{Passed, passed_none, passed-all, passed-not, passe
 use Rattle.pairs_read.proofs.partners_within.Statement.{statement}
 use Rattle.pairs_read.proofs.partners_within.Tie as tie
 
-abbrev invariant-loop : tie.invariant-loop
+abbrev invariant-loop : tie.invariant-loop-rest
 invariant-loop rows i j di dj least most rest₀ rest = Passed 32 rows i j di dj least most rest
 
-abbrev decreases-loop : tie.decreases-loop
+abbrev decreases-loop : tie.decreases-loop-rest
 decreases-loop rows i j di dj least most rest₀ rest = count 32 (has rest)
 
-loop-holds : tie.Need-loop-init invariant-loop decreases-loop
+loop-holds : tie.Need-loop-rest-init invariant-loop decreases-loop
 loop-holds c = passed_none c.ranges.di.fits
 
 row-requires : tie.Need-row-requires invariant-loop decreases-loop
 row-requires c κs =
-    let p = c.before.before.before.requires in
-    (p.0, p.1, p.2, (lowest-in 32 _ _ c.before.before.loop.invariant.rest_fits c.before.loop-test.true c.lowest.ensures).0)
+    let p = c.requires in
+    (p.0, p.1, p.2, (lowest-in 32 _ _ c.loop-rest.invariant.rest_fits c.loop-rest-test.true c.lowest.ensures).0)
 
 -- How many partners the value has.
-counted : (c : tie.After-count invariant-loop decreases-loop)
-    → c.count.result
-    ≡ partners_at 32 c.before.before.before.before.before.before.args.rows.now c.before.before.before.before.before.before.args.i
-    c.before.before.before.before.before.before.args.j c.before.before.before.before.before.before.args.dj
-    c.before.before.before.lowest.result
+counted : (c : tie.After-count-partners invariant-loop decreases-loop)
+    → c.count-partners.result
+    ≡ partners_at 32 c.args.rows.now c.args.i
+    c.args.j c.args.dj
+    c.lowest.result
 unfolding partners_at
-counted c = partners-count 32 _ _ c.before.before.row.ensures c.before.both.ensures c.count.ensures
+counted c = partners-count 32 _ _ c.row.ensures c.both.ensures c.count-partners.ensures
 
-returns : tie.Need-returns invariant-loop decreases-loop
+returns : tie.Need-returns-then-not-between invariant-loop decreases-loop
 returns c =
-    let n = c.before.before in
-    let l = n.before.before.before in
-    sym (passed-not l.before.before.loop.invariant l.before.loop-test.true l.lowest.ensures (counted n)
-    (sym c.before.between.ensures ∙ not-true _ c.if1.true))
+    let n = c in
+    let l = n in
+    sym (passed-not l.loop-rest.invariant l.loop-rest-test.true l.lowest.ensures (counted c.before.before)
+    (sym c.between.ensures ∙ c.if-not-between.true))
 
-loop-less : tie.Need-loop-smaller invariant-loop decreases-loop
+loop-less : tie.Need-loop-rest-smaller invariant-loop decreases-loop
 loop-less c =
-    let l = c.before.before.before.before.before.before in
-    rest-less 32 l.before.before.loop.invariant.rest_fits l.before.loop-test.true l.lowest.ensures c.dropped.ensures
+    let l = c in
+    rest-less 32 l.loop-rest.invariant.rest_fits l.loop-rest-test.true l.lowest.ensures c.dropped-rest.ensures
 
-loop-again : tie.Need-loop-preserved invariant-loop decreases-loop
+loop-again : tie.Need-loop-rest-preserved invariant-loop decreases-loop
 loop-again c =
-    let e = c.before in
-    let n = e.before.before in
-    let l = n.before.before.before in
-    passed-more l.before.before.loop.invariant l.before.loop-test.true l.lowest.ensures (counted n)
-    (sym e.before.between.ensures ∙ not-false _ e.if1.false) c.dropped.ensures
+    let e = c in
+    let n = e in
+    let l = n in
+    passed-more l.loop-rest.invariant l.loop-rest-test.true l.lowest.ensures (counted c.before.before.before)
+    (sym e.between.ensures ∙ e.if-not-between.false) c.dropped-rest.ensures
 
-returns-2 : tie.Need-returns-2 invariant-loop decreases-loop
-returns-2 c = sym (passed-all c.before.loop.invariant c.loop-test.false)
+returns-2 : tie.Need-returns invariant-loop decreases-loop
+returns-2 c = sym (passed-all c.loop-rest.invariant c.loop-rest-test.false)
 
-pub partners-within-spec : {M : Type 1} → statement M
-partners-within-spec =
+pub partners_within_spec : {M : Type 1} → statement M
+partners_within_spec =
     tie.close
     (tie.spec
     invariant-loop

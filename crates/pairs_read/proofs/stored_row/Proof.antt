@@ -16,12 +16,12 @@ at_place rows {i} {j} {a} {at} {r} l m h k e = row_up 32 rows i j a r l m h k.1 
 
 returns : tie.Need-returns
 returns c =
-    let p = c.before.before in
-    let s = p.before in
+    let p = c in
+    let s = p in
     at_place _ s.requires.0 s.requires.1 s.requires.2 c.known.ensures p.place.ensures.0
 
-pub stored-row-spec : {M : Type 1} → statement M
-stored-row-spec =
+pub stored_row_spec : {M : Type 1} → statement M
+stored_row_spec =
     tie.close
     (tie.spec
     (λ c κs. search rules)

@@ -19,16 +19,16 @@ cleared {before} {after} {i} {j} {at} l m e p =
     (run-stored 32 before after i j 32 (λ (a : ℕ). 0) l m (omega arith) (rw e at p) (λ a k. omega arith))
     (λ a b _ _ _. has-zero b)
 
-returns : tie.Need-returns
+returns : tie.Need-returns-then-i-j
 returns c =
-    let s = c.before.before.before.before in
-    cleared (omega arith) s.requires.1 c.before.place.ensures.0 c.clear-run.ensures
+    let s = c in
+    cleared (omega arith) s.requires.1 c.place.ensures.0 c.clear_run.ensures
 
-returns-2 : tie.Need-returns-2
+returns-2 : tie.Need-returns
 returns-2 c =
-    let s = c.before.before.before.before in
+    let s = c in
     stored-turned 32
-    (cleared (higher c.before.before.before.if1.false s.requires.2) s.requires.0 c.before.place2.ensures.0 c.clear-run2.ensures)
+    (cleared (higher c.if-i-j.false s.requires.2) s.requires.0 c.place-2.ensures.0 c.clear_run-2.ensures)
 
 pub clear_spec : {M : Type 1} → statement M
 clear_spec = tie.close (tie.spec (λ c κs. search rules) (λ c κs. search rules) returns (λ c κs. search rules) (λ c κs. search rules) returns-2)

@@ -10,26 +10,26 @@ use Rattle.pairs.proofs.Frames.{run_none, run_more}
 use Rattle.pairs_store.proofs.clear_run.Statement.{statement}
 use Rattle.pairs_store.proofs.clear_run.Tie as tie
 
-abbrev invariant-loop : tie.invariant-loop
+abbrev invariant-loop : tie.invariant-loop-a
 invariant-loop rows₀ at a₀ rows a = (a ≤ 32) × RunPut rows₀ rows at (λ (a : ℕ). 0) a
 
-abbrev decreases-loop : tie.decreases-loop
+abbrev decreases-loop : tie.decreases-loop-a
 decreases-loop rows₀ at a₀ rows a = 32 - a
 
 ended : {before after : List ℕ} {at n m : ℕ} {g : ℕ → ℕ} → n ≡ m → RunPut before after at g n → RunPut before after at g m
 ended e h = rw e at h
 
-loop-holds : tie.Need-loop-init invariant-loop decreases-loop
+loop-holds : tie.Need-loop-a-init invariant-loop decreases-loop
 loop-holds c = (omega arith, run_none _ _ _)
 
-loop-again : tie.Need-loop-preserved invariant-loop decreases-loop
-loop-again c = let p = c.before.loop.invariant.1 in (omega arith, rw add-one (run_more p (omega arith) refl))
+loop-again : tie.Need-loop-a-preserved invariant-loop decreases-loop
+loop-again c = let p = c.loop-a.invariant.1 in (omega arith, rw add-one (run_more p (omega arith) refl))
 
 returns : tie.Need-returns invariant-loop decreases-loop
-returns c = ended (omega arith) c.before.loop.invariant.1
+returns c = ended (omega arith) c.loop-a.invariant.1
 
-pub clear-run-spec : {M : Type 1} → statement M
-clear-run-spec =
+pub clear_run_spec : {M : Type 1} → statement M
+clear_run_spec =
     tie.close
     (tie.spec
     invariant-loop

@@ -6,8 +6,8 @@ use Rattle.pairs_store.proofs.marked.Tie as tie
 
 returns : tie.Need-returns
 returns c =
-    let m = c.before in
-    marked-is 32 _ _ _ m.before.before.single.ensures m.before.without.ensures m.moved.ensures c.either.ensures
+    let m = c in
+    marked-is 32 _ _ _ m.single.ensures m.without.ensures m.moved.ensures c.either.ensures
 
-pub marked-spec : {M : Type 1} → statement M
-marked-spec = tie.close (tie.spec (λ c κs. search rules) (λ c κs. search rules) (λ c κs. search rules) (λ c κs. search rules) returns)
+pub marked_spec : {M : Type 1} → statement M
+marked_spec = tie.close (tie.spec (λ c κs. search rules) (λ c κs. search rules) (λ c κs. search rules) (λ c κs. search rules) returns)

@@ -8,5 +8,5 @@ use Rattle.pairs_store.proofs.moved.Tie as tie
 returns : tie.Need-returns
 returns c = moved-is 32 _ _ c.requires.0 (omega arith)
 
-pub moved-spec : {M : Type 1} → statement M
-moved-spec = tie.close (tie.spec (λ c. search rules) (λ c. search rules) (λ c. search rules) (λ c. search rules) returns)
+pub moved_spec : {M : Type 1} → statement M
+moved_spec = tie.close (tie.spec (λ c. search rules) (λ c. search rules) (λ c. search rules) (λ c. search rules) returns)

@@ -5,4 +5,4 @@ use Rattle.pairs_store.proofs.put.Statement.{statement}
 use Rattle.pairs_store.proofs.put.Tie as tie
 
 pub put_spec : {M : Type 1} → statement M
-put_spec = tie.close (tie.spec (λ c κs. search rules) (λ c. search rules) (λ c κs. let p = c.before.before.requires in let l = higher c.before.if1.false p.2 in search rules) (λ c. search rules))
+put_spec = tie.close (tie.spec (λ c κs. search rules) (λ c. search rules) (λ c κs. let p = c.requires in let l = higher c.if-i-j.false p.2 in search rules) (λ c. search rules))

@@ -9,8 +9,8 @@ returns : tie.Need-returns
 unfolding faulty
 returns c = refl
 
-pub fault-spec : {M : Type 1} → statement M
-fault-spec =
+pub fault_spec : {M : Type 1} → statement M
+fault_spec =
     tie.close
     (tie.spec
     returns)

@@ -6,11 +6,11 @@ use Rattle.plan_asked.proofs.Laws.{grown-low, grown-digit}
 use Rattle.plan_asked.proofs.grow.Statement.{statement}
 use Rattle.plan_asked.proofs.grow.Tie as tie
 
-returns : tie.Need-returns
+returns : tie.Need-returns-then-byte-lt48
 returns c = (grown-low _ _ (omega arith) c.capped.ensures.0, c.capped.ensures.1)
 
-returns-2 : tie.Need-returns-2
-returns-2 c = (grown-digit _ _ c.before.wide.ensures c.capped2.ensures.0, c.capped2.ensures.1)
+returns-2 : tie.Need-returns
+returns-2 c = (grown-digit _ _ c.wide.ensures c.capped-2.ensures.0, c.capped-2.ensures.1)
 
 pub grow_spec : {M : Type 1} → statement M
 grow_spec =

@@ -9,8 +9,8 @@ returns : tie.Need-returns
 unfolding helped
 returns c = refl
 
-pub help-spec : {M : Type 1} → statement M
-help-spec =
+pub help_spec : {M : Type 1} → statement M
+help_spec =
     tie.close
     (tie.spec
     returns)

@@ -4,11 +4,11 @@ use Rattle.plan_asked.proofs.Laws.{not-dashed}
 use Rattle.plan_asked.proofs.is_dashed.Statement.{statement}
 use Rattle.plan_asked.proofs.is_dashed.Tie as tie
 
-returns : tie.Need-returns
-returns c = not-dashed c.before.args.word.now c.if1.true
+returns : tie.Need-returns-then-word-eq0
+returns c = not-dashed c.args.word.now c.if-word-eq0.true
 
-pub is-dashed-spec : {M : Type 1} → statement M
-is-dashed-spec =
+pub is_dashed_spec : {M : Type 1} → statement M
+is_dashed_spec =
     tie.close
     (tie.spec
     returns

@@ -11,27 +11,27 @@ use Rattle.plan_asked.proofs.Laws.{no_number, number-by-digits}
 use Rattle.plan_asked.proofs.is_number.Statement.{statement}
 use Rattle.plan_asked.proofs.is_number.Tie as tie
 
-abbrev invariant-loop : tie.invariant-loop
+abbrev invariant-loop : tie.invariant-loop-i
 invariant-loop word all₀ i₀ i-end all i = (i-end ≡ length word) × (i ≤ length word) × (all ≡ every i (λ (k : ℕ). is_digit (get_or word k 0)))
 
-abbrev decreases-loop : tie.decreases-loop
+abbrev decreases-loop : tie.decreases-loop-i
 decreases-loop word all₀ i₀ i-end all i = i-end - i
 
-returns : tie.Need-returns invariant-loop decreases-loop
-returns c = no_number c.before.before.args.word.now c.if1.true
+returns : tie.Need-returns-then-word-eq0 invariant-loop decreases-loop
+returns c = no_number c.args.word.now c.if-word-eq0.true
 
-loop-holds : tie.Need-loop-init invariant-loop decreases-loop
+loop-holds : tie.Need-loop-i-init invariant-loop decreases-loop
 unfolding every
 loop-holds c = (search rules, search rules, refl)
 
-loop-again : tie.Need-loop-preserved invariant-loop decreases-loop
-loop-again c = (search rules, search rules, test-joins _ _ c.before.before.before.loop.invariant.2 c.is_digit.ensures)
+loop-again : tie.Need-loop-i-preserved invariant-loop decreases-loop
+loop-again c = (search rules, search rules, test-joins _ _ c.loop-i.invariant.2 c.is_digit-all.ensures)
 
-returns-2 : tie.Need-returns-2 invariant-loop decreases-loop
-returns-2 c = let l = c.before in let e : l.loop.i ≡ length c.before.before.before.before.args.word.now = omega arith in (rw e at l.loop.invariant.2) ∙ number-by-digits c.before.before.before.before.args.word.now c.before.before.if1.false
+returns-2 : tie.Need-returns invariant-loop decreases-loop
+returns-2 c = let l = c in let e : l.loop-i.i ≡ length c.args.word.now = omega arith in (rw e at l.loop-i.invariant.2) ∙ number-by-digits c.args.word.now c.if-word-eq0.false
 
-pub is-number-spec : {M : Type 1} → statement M
-is-number-spec =
+pub is_number_spec : {M : Type 1} → statement M
+is_number_spec =
     tie.close
     (tie.spec
     invariant-loop

@@ -7,8 +7,8 @@ use Rattle.plan_asked.proofs.is_same.Tie as tie
 returns : tie.Need-returns
 returns c = same-told _ _ c.same.ensures
 
-pub is-same-spec : {M : Type 1} → statement M
-is-same-spec =
+pub is_same_spec : {M : Type 1} → statement M
+is_same_spec =
     tie.close
     (tie.spec
     (λ c κs. search rules)

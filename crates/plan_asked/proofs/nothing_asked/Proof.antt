@@ -9,8 +9,8 @@ returns : tie.Need-returns
 unfolding nothing
 returns c = refl
 
-pub nothing-asked-spec : {M : Type 1} → statement M
-nothing-asked-spec =
+pub nothing_asked_spec : {M : Type 1} → statement M
+nothing_asked_spec =
     tie.close
     (tie.spec
     returns)

@@ -6,14 +6,14 @@ use Rattle.plan_asked.proofs.Laws.{number-not, number-told}
 use Rattle.plan_asked.proofs.with_number.Statement.{statement}
 use Rattle.plan_asked.proofs.with_number.Tie as tie
 
-returns : tie.Need-returns
-returns c = c.fault.ensures ∙ sym (number-not _ _ (sym c.before.before.is_number.ensures ∙ not-true _ c.before.if1.true))
+returns : tie.Need-returns-then-not-is_number
+returns c = c.fault.ensures ∙ sym (number-not _ _ (sym c.is_number.ensures ∙ c.if-not-is_number.true))
 
-returns-2 : tie.Need-returns-2
-returns-2 c = number-told _ _ (sym c.before.before.is_number.ensures ∙ not-false _ c.before.if1.false) c.number.ensures
+returns-2 : tie.Need-returns
+returns-2 c = number-told _ _ (sym c.is_number.ensures ∙ c.if-not-is_number.false) c.number.ensures
 
-pub with-number-spec : {M : Type 1} → statement M
-with-number-spec =
+pub with_number_spec : {M : Type 1} → statement M
+with_number_spec =
     tie.close
     (tie.spec
     (λ c κs. search rules)

@@ -9,8 +9,8 @@ returns : tie.Need-returns
 unfolding with_page
 returns c = refl
 
-pub with-page-spec : {M : Type 1} → statement M
-with-page-spec =
+pub with_page_spec : {M : Type 1} → statement M
+with_page_spec =
     tie.close
     (tie.spec
     returns)

@@ -6,39 +6,36 @@ use Rattle.text_lines.specs.Text.{ascii}
 use Rattle.plan_asked.proofs.with_word.Statement.{statement}
 use Rattle.plan_asked.proofs.with_word.Tie as tie
 
-returns : tie.Need-returns
+returns : tie.Need-returns-then-is_same
 unfolding ascii
-returns c = c.with-page.ensures ∙ sym (word-page _ _ _ (sym c.before.before.is_same.ensures ∙ c.before.if1.true))
+returns c = c.with_page.ensures ∙ sym (word-page _ _ _ (sym c.is_same.ensures ∙ c.if-is_same.true))
 
-returns-2 : tie.Need-returns-2
+returns-2 : tie.Need-returns-then-is_same-2
 unfolding ascii
-returns-2 c = c.with_lead.ensures ∙ sym (word-lead _ _ _ (sym c.before.before.before.before.before.is_same.ensures ∙ c.before.before.before.before.if1.false) (sym c.before.before.is-same2.ensures ∙ c.before.if2.true))
+returns-2 c = c.with_lead.ensures ∙ sym (word-lead _ _ _ (sym c.is_same.ensures ∙ c.if-is_same.false) (sym c.is_same-2.ensures ∙ c.if-is_same-2.true))
 
-returns-3 : tie.Need-returns-3
+returns-3 : tie.Need-returns-then-is_same-3
 unfolding ascii
-returns-3 c = c.help.ensures ∙ sym (word-help _ _ _ (sym c.before.before.before.before.before.before.before.before.is_same.ensures ∙ c.before.before.before.before.before.before.before.if1.false) (sym c.before.before.before.before.before.is-same2.ensures ∙ c.before.before.before.before.if2.false) (sym c.before.before.is-same3.ensures ∙ c.before.if3.true))
+returns-3 c = c.help.ensures ∙ sym (word-help _ _ _ (sym c.is_same.ensures ∙ c.if-is_same.false) (sym c.is_same-2.ensures ∙ c.if-is_same-2.false) (sym c.is_same-3.ensures ∙ c.if-is_same-3.true))
 
-returns-4 : tie.Need-returns-4
+returns-4 : tie.Need-returns-then-is_dashed
 unfolding ascii
-returns-4 c = c.fault.ensures ∙ sym (word-dashed _ _ _ (sym c.before.before.before.before.before.before.before.before.before.before.is_same.ensures ∙ c.before.before.before.before.before.before.before.before.before.if1.false) (sym c.before.before.before.before.before.before.before.is-same2.ensures ∙ c.before.before.before.before.before.before.if2.false) (sym c.before.before.before.before.is-same3.ensures ∙ c.before.before.before.if3.false) (sym c.before.before.is-dashed.ensures ∙ c.before.if4.true))
+returns-4 c = c.fault.ensures ∙ sym (word-dashed _ _ _ (sym c.is_same.ensures ∙ c.if-is_same.false) (sym c.is_same-2.ensures ∙ c.if-is_same-2.false) (sym c.is_same-3.ensures ∙ c.if-is_same-3.false) (sym c.is_dashed.ensures ∙ c.if-is_dashed.true))
 
-returns-5 : tie.Need-returns-5
+returns-5 : tie.Need-returns
 unfolding ascii
-returns-5 c = c.with-file.ensures ∙ sym (word-file _ _ _ (sym c.before.before.before.before.before.before.before.before.before.before.is_same.ensures ∙ c.before.before.before.before.before.before.before.before.before.if1.false) (sym c.before.before.before.before.before.before.before.is-same2.ensures ∙ c.before.before.before.before.before.before.if2.false) (sym c.before.before.before.before.is-same3.ensures ∙ c.before.before.before.if3.false) (sym c.before.before.is-dashed.ensures ∙ c.before.if4.false))
+returns-5 c = c.with_file.ensures ∙ sym (word-file _ _ _ (sym c.is_same.ensures ∙ c.if-is_same.false) (sym c.is_same-2.ensures ∙ c.if-is_same-2.false) (sym c.is_same-3.ensures ∙ c.if-is_same-3.false) (sym c.is_dashed.ensures ∙ c.if-is_dashed.false))
 
-pub with-word-spec : {M : Type 1} → statement M
-with-word-spec =
+pub with_word_spec : {M : Type 1} → statement M
+with_word_spec =
     tie.close
     (tie.spec
-    (λ c. search rules)
     (λ c κs. search rules)
     (λ c κs. search rules)
     returns
-    (λ c. search rules)
     (λ c κs. search rules)
     (λ c κs. search rules)
     returns-2
-    (λ c. search rules)
     (λ c κs. search rules)
     (λ c κs. search rules)
     returns-3

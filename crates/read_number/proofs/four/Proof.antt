@@ -7,26 +7,26 @@ use Rattle.read_number.proofs.Numbers.{first_fits, second_fits, third-fits, four
 use Rattle.read_number.proofs.four.Statement.{statement}
 use Rattle.read_number.proofs.four.Tie as tie
 
-add-result-3 : tie.Need-overflow-add-result-3
+add-result-3 : tie.Need-overflow_add-result-3
 add-result-3 c =
-    let args = c.before.before.args in
-    omega (arith, four-fit args.bytes.now c.shared-slice-known2.given (args.at + 3) (args.at + 2) 0 0)
+    let args = c.args in
+    omega (arith, four-fit args.bytes.now c.shared_slice_known-2-1.given (args.at + 3) (args.at + 2) 0 0)
 
-add-result-5 : tie.Need-overflow-add-result-5
+add-result-5 : tie.Need-overflow_add-result-5
 add-result-5 c =
-    let args = c.before.before.before.args in
-    omega (arith, four-fit args.bytes.now c.shared-slice-known3.given (args.at + 3) (args.at + 2) (args.at + 1) 0)
+    let args = c.args in
+    omega (arith, four-fit args.bytes.now c.shared_slice_known-3-1.given (args.at + 3) (args.at + 2) (args.at + 1) 0)
 
-add-result-6 : tie.Need-overflow-add-result-6
+add-result-6 : tie.Need-overflow_add-result-6
 add-result-6 c =
-    let args = c.before.before.before.before.args in
-    omega (arith, four-fit args.bytes.now c.shared-slice-known4.given (args.at + 3) (args.at + 2) (args.at + 1) args.at)
+    let args = c.args in
+    omega (arith, four-fit args.bytes.now c.shared_slice_known-4-1.given (args.at + 3) (args.at + 2) (args.at + 1) args.at)
 
 returns : tie.Need-returns
-returns c = number-four _ _ c.shared-slice-known4.given _ refl
+returns c = number-four _ _ c.shared_slice_known-4-1.given _ refl
 
-pub four-spec : {M : Type 1} → statement M
-four-spec =
+pub four_spec : {M : Type 1} → statement M
+four_spec =
     tie.close
     (tie.spec
     (λ c. search rules)

@@ -5,14 +5,14 @@ use borrow.Author.Rules.{rules}
 use Rattle.read_number.proofs.number.Statement.{statement}
 use Rattle.read_number.proofs.number.Tie as tie
 
-returns : tie.Need-returns
-returns c = rw c.before.if1.true (sym c.two.ensures)
+returns : tie.Need-returns-then-k-eq2
+returns c = rw c.if-k-eq2.true (sym c.two-low_first.ensures)
 
-returns-2 : tie.Need-returns-2
-returns-2 c = let k : c.before.before.before.args.k ≡ 4 = omega arith in rw k (sym c.four.ensures)
+returns-2 : tie.Need-returns
+returns-2 c = let k : c.args.k ≡ 4 = omega arith in rw k (sym c.four-low_first.ensures)
 
-pub number-spec : {M : Type 1} → statement M
-number-spec =
+pub number_spec : {M : Type 1} → statement M
+number_spec =
     tie.close
     (tie.spec
     (λ c κs. search rules)

@@ -6,10 +6,10 @@ use Rattle.read_number.proofs.two.Statement.{statement}
 use Rattle.read_number.proofs.two.Tie as tie
 
 returns : tie.Need-returns
-returns c = number-two _ _ c.shared-slice-known2.given _ refl
+returns c = number-two _ _ c.shared_slice_known-2-1.given _ refl
 
-pub two-spec : {M : Type 1} → statement M
-two-spec =
+pub two_spec : {M : Type 1} → statement M
+two_spec =
     tie.close
     (tie.spec
     (λ c. search rules)

@@ -5,11 +5,11 @@ use Rattle.bounded.proofs.Bool.{if-true, if-false}
 use Rattle.read_paired.proofs.row_bytes.Statement.{statement}
 use Rattle.read_paired.proofs.row_bytes.Tie as tie
 
-returns : tie.Need-returns
-returns c = sym (if-true _ _ _ (eq-eqb _ _ c.if1.true))
+returns : tie.Need-returns-then-version-eq1
+returns c = sym (if-true _ _ _ (eq-eqb _ _ c.if-version-eq1.true))
 
-returns-2 : tie.Need-returns-2
-returns-2 c = sym (if-false _ _ _ (ne_eqb _ _ c.if1.false))
+returns-2 : tie.Need-returns
+returns-2 c = sym (if-false _ _ _ (ne_eqb _ _ c.if-version-eq1.false))
 
-pub row-bytes-spec : {M : Type 1} → statement M
-row-bytes-spec = tie.close (tie.spec returns returns-2)
+pub row_bytes_spec : {M : Type 1} → statement M
+row_bytes_spec = tie.close (tie.spec returns returns-2)

@@ -5,11 +5,11 @@ use borrow.Author.Rules.{rules}
 use Rattle.read_paired.proofs.standing.Statement.{statement}
 use Rattle.read_paired.proofs.standing.Tie as tie
 
-returns : tie.Need-returns
-returns c = rw c.before.if1.true c.two.ensures
+returns : tie.Need-returns-then-k-eq2
+returns c = rw c.if-k-eq2.true c.two.ensures
 
-returns-2 : tie.Need-returns-2
-returns-2 c = let k : c.before.before.before.args.k ≡ 4 = omega arith in rw k c.four.ensures
+returns-2 : tie.Need-returns
+returns-2 c = let k : c.args.k ≡ 4 = omega arith in rw k c.four.ensures
 
-pub standing-spec : {M : Type 1} → statement M
-standing-spec = tie.close (tie.spec (λ c κs. search rules) (λ c. search rules) returns (λ c κs. search rules) returns-2)
+pub standing_spec : {M : Type 1} → statement M
+standing_spec = tie.close (tie.spec (λ c κs. search rules) (λ c. search rules) returns (λ c κs. search rules) returns-2)

@@ -8,8 +8,8 @@ use Rattle.read_paired.proofs.two.Tie as tie
 returns : tie.Need-returns
 returns c = standing-two _ _
 
-pub two-spec : {M : Type 1} → statement M
-two-spec =
+pub two_spec : {M : Type 1} → statement M
+two_spec =
     tie.close
     (tie.spec
     (λ c. search rules)

@@ -19,54 +19,54 @@ invariant-loop bytes k n p at₀ counter₀ at counter = (p ≡ sheet.tables byt
 abbrev decreases-loop : tie.decreases-loop
 decreases-loop bytes k n p at₀ counter₀ at counter = p - counter
 
-octets : (c : tie.After-shared-slice-known invariant-loop decreases-loop) → Octets c.before.args.bytes.now
-octets c = λ k. omega (arith, c.shared-slice-known.given k)
+octets : (c : tie.After-shared_slice_known-1 invariant-loop decreases-loop) → Octets c.args.bytes.now
+octets c = λ k. omega (arith, c.shared_slice_known-1.given k)
 
-room : (c : tie.After-shared-slice-known invariant-loop decreases-loop) → 5 + get_or c.before.args.bytes.now 3 0 ≤ length c.before.args.bytes.now
-room c = header-room _ (octets c) c.before.requires
+room : (c : tie.After-shared_slice_known-1 invariant-loop decreases-loop) → 5 + get_or c.args.bytes.now 3 0 ≤ length c.args.bytes.now
+room c = header-room _ (octets c) c.requires
 
 loop-holds : tie.Need-loop-init invariant-loop decreases-loop
 loop-holds c =
-    let n = c.before.before in
-    let k = n.before.before in
+    let n = c in
+    let k = n in
     let s = k.before.before in
-    let B = begins _ (octets s) s.before.requires k.row_bytes.ensures in
-    (count-read _ n.wide.ensures c.wide2.ensures, B.row_bytes, walking-none _ _ B (first_read _ n.wide.ensures))
+    let B = begins _ (octets c.before.before.before.before.before.before) s.requires k.row_bytes-k.ensures in
+    (count-read _ n.wide-n.ensures c.wide-p.ensures, B.row_bytes, walking-none _ _ B (first_read _ n.wide-n.ensures))
 
 -- The table that is looked at.
-here : (c : tie.In-loop invariant-loop decreases-loop) → TableAt c.before.before.before.before.before.before.before.before.before.args.bytes.now
-    c.before.before.before.before.before.before.row_bytes.result c.before.loop.at
-here c = let i = c.before.loop.invariant in table_here _ _ i.2 (omega (arith, i.0))
+here : (c : tie.In-loop invariant-loop decreases-loop) → TableAt c.args.bytes.now
+    c.row_bytes-k.result c.loop.at
+here c = let i = c.loop.invariant in table_here _ _ i.2 (omega (arith, i.0))
 
-rows : (c : tie.After-wide4 invariant-loop decreases-loop) → let t = c.before.before.before.before in let k = t.before.before.before.before.before.before in
-    Here k.before.before.before.args.bytes.now k.row_bytes.result t.before.loop.at c.wide4.result
-rows c = let a = c.before.before in rows-here _ (here a.before.before) a.wide3.ensures c.wide4.ensures
+rows : (c : tie.After-wide-rows invariant-loop decreases-loop) → let t = c in let k = t in
+    Here k.args.bytes.now k.row_bytes-k.result t.loop.at c.wide-rows.result
+rows c = let a = c in rows-here _ (here c.before.before.before.before) a.wide-a.ensures c.wide-rows.ensures
 
-few : (c : tie.After-wide4 invariant-loop decreases-loop) → c.wide4.result < 256
+few : (c : tie.After-wide-rows invariant-loop decreases-loop) → c.wide-rows.result < 256
 few c =
-    let s = c.before.before.before.before.before.before.before.before.before.before.before.before in
-    rows_few s.before.args.bytes.now c.before.before.wide3.result (octets s) c.wide4.ensures
+    let s = c in
+    rows_few s.args.bytes.now c.wide-a.result (octets c.before.before.before.before.before.before.before.before.before.before.before.before) c.wide-rows.ensures
 
 -- Whether it is of the profile.
-told : (c : tie.After-rows-paired invariant-loop decreases-loop) → let t = c.before.before.before.before.before in
-    c.rows-paired.result ≡ table_paired t.before.before.before.before.before.before.before.before.before.args.bytes.now t.before.loop.at
-told c = c.rows-paired.ensures ∙ sym (rows c.before).told
+told : (c : tie.After-rows_paired invariant-loop decreases-loop) → let t = c in
+    c.rows_paired.result ≡ table_paired t.args.bytes.now t.loop.at
+told c = c.rows_paired.ensures ∙ sym (rows c.before).told
 
-returns : tie.Need-returns invariant-loop decreases-loop
+returns : tie.Need-returns-then-not-rows_paired invariant-loop decreases-loop
 returns c =
-    let i = c.before.before.before.before.before.before.before.loop.invariant in
-    walking_here _ _ i.2 (omega (arith, i.0)) (sym (told c.before) ∙ not-true _ c.if1.true)
+    let i = c.loop.invariant in
+    walking_here _ _ i.2 (omega (arith, i.0)) (sym (told c.before) ∙ not-true _ c.if-not-rows_paired.true)
 
 loop-again : tie.Need-loop-preserved invariant-loop decreases-loop
 loop-again c =
-    let i = c.before.before.before.before.before.before.before.loop.invariant in
-    (i.0, i.1, walking-more _ _ i.2 (omega (arith, i.0)) (sym (told c.before) ∙ not-false _ c.if1.false) (sym (rows c.before.before).next))
+    let i = c.loop.invariant in
+    (i.0, i.1, walking-more _ _ i.2 (omega (arith, i.0)) (sym (told c.before) ∙ not-false _ c.if-not-rows_paired.false) (sym (rows c.before.before).next))
 
-returns-2 : tie.Need-returns-2 invariant-loop decreases-loop
-returns-2 c = let i = c.before.loop.invariant in walking-end _ _ i.2 (omega (arith, i.0))
+returns-2 : tie.Need-returns invariant-loop decreases-loop
+returns-2 c = let i = c.loop.invariant in walking-end _ _ i.2 (omega (arith, i.0))
 
-pub unpaired-place-spec : {M : Type 1} → statement M
-unpaired-place-spec =
+pub unpaired_place_spec : {M : Type 1} → statement M
+unpaired_place_spec =
     tie.close
     (tie.spec
     invariant-loop
@@ -82,11 +82,11 @@ unpaired-place-spec =
     loop-holds
     (λ c. let l = (here c.before).rows_in in search rules)
     (λ c κs. search rules)
-    (λ c. let l = size_room _ (here c.before.before) c.wide3.ensures in search rules)
-    (λ c. let l = size_room _ (here c.before.before.before) c.before.wide3.ensures in search rules)
+    (λ c. let l = size_room _ (here c.before.before) c.wide-a.ensures in search rules)
+    (λ c. let l = size_room _ (here c.before.before.before) c.wide-a.ensures in search rules)
     (λ c κs. search rules)
     (λ c. let l = (rows c).room in search rules)
-    (λ c κs. let l = (rows c).room in (c.before.before.before.before.before.loop.invariant.1, omega arith, few c))
+    (λ c κs. let l = (rows c).room in (c.loop.invariant.1, omega arith, few c))
     returns
     (λ c. let l = (rows c.before.before).room in omega arith)
     (λ c. let l = (rows c.before.before).room in omega arith)

@@ -11,38 +11,38 @@ use Rattle.read_rows.proofs.store_rows.Tie as tie
 use Rattle.read_rows.proofs.store_rows.Reads as reads
 use Rattle.read_rows.proofs.store_rows.Lts as lts
 
-abbrev invariant-loop : tie.invariant-loop
+abbrev invariant-loop : tie.invariant-loop-a
 invariant-loop bytes from k i j count rows₀ union₀ filled₀ a₀ rows union filled a = (a ≤ count) × RowsJoined 32 k bytes from i j a rows₀ rows union filled
 
-abbrev decreases-loop : tie.decreases-loop
+abbrev decreases-loop : tie.decreases-loop-a
 decreases-loop bytes from k i j count rows₀ union₀ filled₀ a₀ rows union filled a = count - a
 
-loop-holds : tie.Need-loop-init invariant-loop decreases-loop
+loop-holds : tie.Need-loop-a-init invariant-loop decreases-loop
 loop-holds c = (omega arith, joined-none)
 
-mul-number : tie.Need-overflow-mul-number invariant-loop decreases-loop
-mul-number c = omega (arith, row_inside c.before.before.before.args.k c.loop-test.true)
+mul-number : tie.Need-overflow_mul-k invariant-loop decreases-loop
+mul-number c = omega (arith, row_inside c.args.k c.loop-a-test.true)
 
-add-number : tie.Need-overflow-add-number invariant-loop decreases-loop
-add-number c = omega (arith, row_inside c.before.before.before.args.k c.loop-test.true)
+add-number : tie.Need-overflow_add-from invariant-loop decreases-loop
+add-number c = omega (arith, row_inside c.args.k c.loop-a-test.true)
 
-number-requires : tie.Need-number-requires invariant-loop decreases-loop
-number-requires c κs = omega (arith, row_inside c.before.before.before.args.k c.loop-test.true)
+number-requires : tie.Need-number-row-requires invariant-loop decreases-loop
+number-requires c κs = omega (arith, row_inside c.args.k c.loop-a-test.true)
 
-put-row-requires : tie.Need-put-row-requires invariant-loop decreases-loop
-put-row-requires c κs = omega (arith, c.before.before.before.loop.invariant.1.stored.size)
+put-row-requires : tie.Need-put_row-requires invariant-loop decreases-loop
+put-row-requires c κs = omega (arith, c.loop-a.invariant.1.stored.size)
 
-loop-again : tie.Need-loop-preserved invariant-loop decreases-loop
+loop-again : tie.Need-loop-a-preserved invariant-loop decreases-loop
 loop-again c =
-    let put = c.before in
-    let read = put.before.before in
-    (omega arith, joined-more read.before.before.loop.invariant.1 read.number.ensures put.put-row.ensures c.either.ensures)
+    let put = c in
+    let read = put in
+    (omega arith, joined-more read.loop-a.invariant.1 read.number-row.ensures put.put_row.ensures c.either-union.ensures)
 
 returns : tie.Need-returns invariant-loop decreases-loop
-returns c = let e : c.before.loop.a ≡ c.before.before.before.args.count = omega arith in rw e at c.before.loop.invariant.1
+returns c = let e : c.loop-a.a ≡ c.args.count = omega arith in rw e at c.loop-a.invariant.1
 
-pub store-rows-spec : {M : Type 1} → statement M
-store-rows-spec =
+pub store_rows_spec : {M : Type 1} → statement M
+store_rows_spec =
     tie.close
     (tie.spec
     invariant-loop

@@ -6,33 +6,33 @@ use Rattle.read_rows.proofs.Rows.{rows_few, rows_fit, rows_cut, union-decides, b
 use Rattle.read_rows.proofs.take_rows.Statement.{statement}
 use Rattle.read_rows.proofs.take_rows.Tie as tie
 
-mul-end : tie.Need-overflow-mul-end
-mul-end c = omega (arith, rows_few c.before.requires.1.1 c.before.requires.4)
+mul-end : tie.Need-overflow_mul-end
+mul-end c = omega (arith, rows_few c.requires.1.1 c.requires.4)
 
-add-end : tie.Need-overflow-add-end
-add-end c = omega (arith, rows_few c.before.requires.1.1 c.before.requires.4)
+add-end : tie.Need-overflow_add-end
+add-end c = omega (arith, rows_few c.requires.1.1 c.requires.4)
 
-returns : tie.Need-returns
-returns c = rows_cut c.if1.true
+returns : tie.Need-returns-then-bytes-end
+returns c = rows_cut c.if-bytes-end.true
 
-returns-2 : tie.Need-returns-2
+returns-2 : tie.Need-returns-then-filled
 returns-2 c =
-    let join = c.before.before in
-    let start = join.before.before.before.before.before in
-    rw join.before.before.if2.true
-    (both-decide join.join-rows.ensures (λ a. omega (arith, join.before.before.before.before.shared-slice-known.given a)) (rows_fit start.requires.1.1) (omega arith) _
-    c.before.within.ensures)
+    let join = c in
+    let start = join in
+    rw join.if-filled.true
+    (both-decide join.join_rows-joined.ensures (λ a. omega (arith, join.shared_slice_known-1.given a)) (rows_fit start.requires.1.1) (omega arith) _
+    c.within.ensures)
 
-returns-3 : tie.Need-returns-3
+returns-3 : tie.Need-returns
 returns-3 c =
-    let join = c.before in
-    let start = join.before.before.before.before.before in
-    rw join.before.before.if2.false
-    (union-decides join.join-rows2.ensures (λ a. omega (arith, join.before.before.before.before.shared-slice-known.given a)) (rows_fit start.requires.1.1) (omega arith) _
-    c.within2.ensures)
+    let join = c in
+    let start = join in
+    rw join.if-filled.false
+    (union-decides join.join_rows-joined-2.ensures (λ a. omega (arith, join.shared_slice_known-1.given a)) (rows_fit start.requires.1.1) (omega arith) _
+    c.within-2.ensures)
 
-pub take-rows-spec : {M : Type 1} → statement M
-take-rows-spec =
+pub take_rows_spec : {M : Type 1} → statement M
+take_rows_spec =
     tie.close
     (tie.spec
     mul-end

@@ -17,22 +17,22 @@ decreases-loop bytes from k count size filled at₀ counter₀ at counter = coun
 loop-holds : tie.Need-loop-init invariant-loop decreases-loop
 loop-holds c = rows_none (omega arith)
 
-returns : tie.Need-returns invariant-loop decreases-loop
+returns : tie.Need-returns-in_default invariant-loop decreases-loop
 returns c =
-    rw c.enum_told.given.1
-    (rows-refused c.before.before.before.before.loop.invariant (omega arith)
-    (read-bad c.before.before.row_field.ensures c.enum_told.given.1))
+    rw c.in_default.is
+    (rows-refused c.loop.invariant (omega arith)
+    (read-bad c.row_field-row.ensures c.in_default.is))
 
 loop-again : tie.Need-loop-preserved invariant-loop decreases-loop
 loop-again c =
-    let read = c.before.before.before in
-    rows_more read.before.before.loop.invariant (omega arith) (read-got read.row_field.ensures c.before.row.given.1)
+    let read = c in
+    rows_more read.loop.invariant (omega arith) (read-got read.row_field-row.ensures c.in-Value.is)
 
-returns-2 : tie.Need-returns-2 invariant-loop decreases-loop
-returns-2 c = rows_end c.before.loop.invariant (omega arith)
+returns-2 : tie.Need-returns invariant-loop decreases-loop
+returns-2 c = rows_end c.loop.invariant (omega arith)
 
-pub walk-rows-spec : {M : Type 1} → statement M
-walk-rows-spec =
+pub walk_rows_spec : {M : Type 1} → statement M
+walk_rows_spec =
     tie.close
     (tie.spec
     invariant-loop

@@ -7,17 +7,17 @@ use Rattle.scan.specs.Scan.{close}
 use Rattle.scan.proofs.close.Statement.{statement}
 use Rattle.scan.proofs.close.Tie as tie
 
-returns : tie.Need-returns
+returns : tie.Need-returns-then-s-eq1
 unfolding close
-returns c = c.stored.ensures ∙ sym (if-true _ _ _ (eq-eqb _ _ c.before.if1.true))
+returns c = c.stored.ensures ∙ sym (if-true _ _ _ (eq-eqb _ _ c.if-s-eq1.true))
 
-returns-2 : tie.Need-returns-2
+returns-2 : tie.Need-returns-then-s-eq5
 unfolding close
-returns-2 c = let t = c.before in c.phased.ensures ∙ sym (if-false _ _ _ (ne_eqb _ _ t.before.before.if1.false) ∙ if-true _ _ _ (eq-eqb _ _ t.if2.true))
+returns-2 c = let t = c in c.phased.ensures ∙ sym (if-false _ _ _ (ne_eqb _ _ t.if-s-eq1.false) ∙ if-true _ _ _ (eq-eqb _ _ t.if-s-eq5.true))
 
-returns-3 : tie.Need-returns-3
+returns-3 : tie.Need-returns
 unfolding close
-returns-3 c = sym (if-false _ _ _ (ne_eqb _ _ c.before.before.if1.false) ∙ if-false _ _ _ (ne_eqb _ _ c.if2.false))
+returns-3 c = sym (if-false _ _ _ (ne_eqb _ _ c.if-s-eq1.false) ∙ if-false _ _ _ (ne_eqb _ _ c.if-s-eq5.false))
 
 pub close_spec : {M : Type 1} → statement M
 close_spec = tie.close (tie.spec (λ c κs. search rules) returns (λ c κs. search rules) returns-2 returns-3)

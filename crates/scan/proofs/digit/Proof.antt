@@ -7,13 +7,13 @@ use Rattle.scan.specs.Scan.{digit}
 use Rattle.scan.proofs.digit.Statement.{statement}
 use Rattle.scan.proofs.digit.Tie as tie
 
-returns : tie.Need-returns
+returns : tie.Need-returns-then-s-eq1
 unfolding digit
-returns c = c.digit-on.ensures ∙ sym (if-true _ _ _ (eq-eqb _ _ c.before.if1.true))
+returns c = c.digit_on.ensures ∙ sym (if-true _ _ _ (eq-eqb _ _ c.if-s-eq1.true))
 
-returns-2 : tie.Need-returns-2
+returns-2 : tie.Need-returns
 unfolding digit
-returns-2 c = c.first-digit.ensures ∙ sym (if-false _ _ _ (ne_eqb _ _ c.before.if1.false))
+returns-2 c = c.first_digit.ensures ∙ sym (if-false _ _ _ (ne_eqb _ _ c.if-s-eq1.false))
 
-pub digit-spec : {M : Type 1} → statement M
-digit-spec = tie.close (tie.spec (λ c κs. search rules) returns (λ c κs. search rules) returns-2)
+pub digit_spec : {M : Type 1} → statement M
+digit_spec = tie.close (tie.spec (λ c κs. search rules) returns (λ c κs. search rules) returns-2)

@@ -7,13 +7,13 @@ use Rattle.scan.specs.Scan.{digit_on}
 use Rattle.scan.proofs.digit_on.Statement.{statement}
 use Rattle.scan.proofs.digit_on.Tie as tie
 
-returns : tie.Need-returns
+returns : tie.Need-returns-then-value-gt4294967295
 unfolding digit_on
-returns c = c.faulted.ensures ∙ sym (if-true _ _ _ (lt-ltb _ _ c.before.if1.true))
+returns c = c.faulted.ensures ∙ sym (if-true _ _ _ (lt-ltb _ _ c.if-value-gt4294967295.true))
 
-returns-2 : tie.Need-returns-2
+returns-2 : tie.Need-returns
 unfolding digit_on
-returns-2 c = c.going.ensures ∙ sym (if-false _ _ _ (le-ltb _ _ c.before.if1.false))
+returns-2 c = c.going.ensures ∙ sym (if-false _ _ _ (le-ltb _ _ c.if-value-gt4294967295.false))
 
-pub digit-on-spec : {M : Type 1} → statement M
-digit-on-spec = tie.close (tie.spec (λ c. search rules) (λ c. search rules) (λ c. search rules) (λ c κs. search rules) returns (λ c. search rules) (λ c κs. search rules) returns-2)
+pub digit_on_spec : {M : Type 1} → statement M
+digit_on_spec = tie.close (tie.spec (λ c. search rules) (λ c. search rules) (λ c. search rules) (λ c κs. search rules) returns (λ c. search rules) (λ c κs. search rules) returns-2)

@@ -7,13 +7,13 @@ use Rattle.scan.specs.Scan.{ended, ended_after}
 use Rattle.scan.proofs.ended.Statement.{statement}
 use Rattle.scan.proofs.ended.Tie as tie
 
-returns : tie.Need-returns
+returns : tie.Need-returns-then-t-eq2
 unfolding ended ended_after
-returns c = let t = c.before.before in rw (← t.before.before.close.ensures) (c.faulted.ensures ∙ rw c.before.end-place.ensures (sym (if-true _ _ _ (eq-eqb _ _ t.if1.true))))
+returns c = let t = c in rw (← t.close-t.ensures) (c.faulted.ensures ∙ rw c.end_place.ensures (sym (if-true _ _ _ (eq-eqb _ _ t.if-t-eq2.true))))
 
-returns-2 : tie.Need-returns-2
+returns-2 : tie.Need-returns
 unfolding ended ended_after
-returns-2 c = rw (← c.before.before.close.ensures) (sym (if-false _ _ _ (ne_eqb _ _ c.if1.false)))
+returns-2 c = rw (← c.close-t.ensures) (sym (if-false _ _ _ (ne_eqb _ _ c.if-t-eq2.false)))
 
-pub ended-spec : {M : Type 1} → statement M
-ended-spec = tie.close (tie.spec (λ c κs. search rules) (λ c κs. search rules) (λ c κs. search rules) returns returns-2)
+pub ended_spec : {M : Type 1} → statement M
+ended_spec = tie.close (tie.spec (λ c κs. search rules) (λ c κs. search rules) (λ c κs. search rules) returns returns-2)

@@ -8,5 +8,5 @@ returns : tie.Need-returns
 unfolding faulted
 returns c = refl
 
-pub faulted-spec : {M : Type 1} → statement M
-faulted-spec = tie.close (tie.spec returns)
+pub faulted_spec : {M : Type 1} → statement M
+faulted_spec = tie.close (tie.spec returns)

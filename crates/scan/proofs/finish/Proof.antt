@@ -7,17 +7,17 @@ use Rattle.scan.specs.Line.{finish, judged}
 use Rattle.scan.proofs.finish.Statement.{statement}
 use Rattle.scan.proofs.finish.Tie as tie
 
-returns : tie.Need-returns
+returns : tie.Need-returns-then-t-ne0
 unfolding finish judged
-returns c = let t = c.before in rw (← t.before.before.ended.ensures) (c.told.ensures ∙ sym (if-false _ _ _ (ne_eqb _ _ t.if1.true)))
+returns c = let t = c in rw (← t.ended-t.ensures) (c.told.ensures ∙ sym (if-false _ _ _ (ne_eqb _ _ t.if-t-ne0.true)))
 
-returns-2 : tie.Need-returns-2
+returns-2 : tie.Need-returns-then-miscounted
 unfolding finish judged
-returns-2 c = let t = c.before in let m = t.before in let e = m.before in rw (← e.before.before.ended.ensures) (c.told2.ensures ∙ sym (if-true _ _ _ (eq-eqb _ _ e.if1.false) ∙ if-true _ _ _ (sym m.miscounted.ensures ∙ t.if2.true)))
+returns-2 c = let t = c in let m = t in let e = m in rw (← e.ended-t.ensures) (c.told-then-miscounted.ensures ∙ sym (if-true _ _ _ (eq-eqb _ _ e.if-t-ne0.false) ∙ if-true _ _ _ (sym m.miscounted.ensures ∙ t.if-miscounted.true)))
 
-returns-3 : tie.Need-returns-3
+returns-3 : tie.Need-returns
 unfolding finish judged
-returns-3 c = let t = c.before in let m = t.before in let e = m.before in rw (← e.before.before.ended.ensures) (c.told3.ensures ∙ sym (if-true _ _ _ (eq-eqb _ _ e.if1.false) ∙ if-false _ _ _ (sym m.miscounted.ensures ∙ t.if2.false)))
+returns-3 c = let t = c in let m = t in let e = m in rw (← e.ended-t.ensures) (c.told-2.ensures ∙ sym (if-true _ _ _ (eq-eqb _ _ e.if-t-ne0.false) ∙ if-false _ _ _ (sym m.miscounted.ensures ∙ t.if-miscounted.false)))
 
 pub finish_spec : {M : Type 1} → statement M
 finish_spec = tie.close (tie.spec (λ c κs. search rules) (λ c κs. search rules) returns (λ c κs. search rules) (λ c κs. search rules) returns-2 (λ c κs. search rules) returns-3)

@@ -5,13 +5,13 @@ use Rattle.scan.specs.Scan.{first_kind}
 use Rattle.scan.proofs.first_kind.Statement.{statement}
 use Rattle.scan.proofs.first_kind.Tie as tie
 
-returns : tie.Need-returns
+returns : tie.Need-returns-then-numbers
 unfolding first_kind
-returns c = sym (if-true _ _ _ c.if1.true)
+returns c = sym (if-true _ _ _ c.if-numbers.true)
 
-returns-2 : tie.Need-returns-2
+returns-2 : tie.Need-returns
 unfolding first_kind
-returns-2 c = sym (if-false _ _ _ c.if1.false)
+returns-2 c = sym (if-false _ _ _ c.if-numbers.false)
 
-pub first-kind-spec : {M : Type 1} → statement M
-first-kind-spec = tie.close (tie.spec returns returns-2)
+pub first_kind_spec : {M : Type 1} → statement M
+first_kind_spec = tie.close (tie.spec returns returns-2)

@@ -8,5 +8,5 @@ returns : tie.Need-returns
 unfolding going
 returns c = refl
 
-pub going-spec : {M : Type 1} → statement M
-going-spec = tie.close (tie.spec returns)
+pub going_spec : {M : Type 1} → statement M
+going_spec = tie.close (tie.spec returns)

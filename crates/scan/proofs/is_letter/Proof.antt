@@ -7,13 +7,13 @@ use Rattle.scan.proofs.Laws.{or-second}
 use Rattle.scan.proofs.is_letter.Statement.{statement}
 use Rattle.scan.proofs.is_letter.Tie as tie
 
-returns : tie.Need-returns
+returns : tie.Need-returns-then-within
 unfolding is_letter
-returns c = sym (or_l _ _ (sym c.before.within.ensures ∙ c.if1.true))
+returns c = sym (or_l _ _ (sym c.within.ensures ∙ c.if-within.true))
 
-returns-2 : tie.Need-returns-2
+returns-2 : tie.Need-returns
 unfolding is_letter
-returns-2 c = let e = c.before in c.within2.ensures ∙ sym (or-second _ _ (sym e.before.within.ensures ∙ e.if1.false))
+returns-2 c = let e = c in c.within-2.ensures ∙ sym (or-second _ _ (sym e.within.ensures ∙ e.if-within.false))
 
-pub is-letter-spec : {M : Type 1} → statement M
-is-letter-spec = tie.close (tie.spec (λ c κs. search rules) returns (λ c κs. search rules) returns-2)
+pub is_letter_spec : {M : Type 1} → statement M
+is_letter_spec = tie.close (tie.spec (λ c κs. search rules) returns (λ c κs. search rules) returns-2)

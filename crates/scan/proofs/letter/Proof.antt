@@ -7,17 +7,17 @@ use Rattle.scan.specs.Scan.{letter}
 use Rattle.scan.proofs.letter.Statement.{statement}
 use Rattle.scan.proofs.letter.Tie as tie
 
-returns : tie.Need-returns
+returns : tie.Need-returns-then-s-eq5
 unfolding letter
-returns c = c.faulted.ensures ∙ sym (if-true _ _ _ (eq-eqb _ _ c.before.if1.true))
+returns c = c.faulted.ensures ∙ sym (if-true _ _ _ (eq-eqb _ _ c.if-s-eq5.true))
 
-returns-2 : tie.Need-returns-2
+returns-2 : tie.Need-returns-then-s-eq0
 unfolding letter
-returns-2 c = let t = c.before.before in c.lettered.ensures ∙ rw c.before.kind-of.ensures (sym (if-false _ _ _ (ne_eqb _ _ t.before.before.if1.false) ∙ if-true _ _ _ (eq-eqb _ _ t.if2.true)))
+returns-2 c = let t = c in c.lettered.ensures ∙ rw c.kind_of.ensures (sym (if-false _ _ _ (ne_eqb _ _ t.if-s-eq5.false) ∙ if-true _ _ _ (eq-eqb _ _ t.if-s-eq0.true)))
 
-returns-3 : tie.Need-returns-3
+returns-3 : tie.Need-returns
 unfolding letter
-returns-3 c = let e = c.before in c.faulted2.ensures ∙ sym (if-false _ _ _ (ne_eqb _ _ e.before.before.if1.false) ∙ if-false _ _ _ (ne_eqb _ _ e.if2.false))
+returns-3 c = let e = c in c.faulted-2.ensures ∙ sym (if-false _ _ _ (ne_eqb _ _ e.if-s-eq5.false) ∙ if-false _ _ _ (ne_eqb _ _ e.if-s-eq0.false))
 
-pub letter-spec : {M : Type 1} → statement M
-letter-spec = tie.close (tie.spec (λ c κs. search rules) returns (λ c κs. search rules) (λ c κs. search rules) returns-2 (λ c κs. search rules) returns-3)
+pub letter_spec : {M : Type 1} → statement M
+letter_spec = tie.close (tie.spec (λ c κs. search rules) returns (λ c κs. search rules) (λ c κs. search rules) returns-2 (λ c κs. search rules) returns-3)

@@ -7,13 +7,13 @@ use Rattle.scan.specs.Scan.{lettered, kinded}
 use Rattle.scan.proofs.lettered.Statement.{statement}
 use Rattle.scan.proofs.lettered.Tie as tie
 
-returns : tie.Need-returns
+returns : tie.Need-returns-then-kind-eq0
 unfolding lettered
-returns c = c.faulted.ensures ∙ sym (if-true _ _ _ (eq-eqb _ _ c.before.if1.true))
+returns c = c.faulted.ensures ∙ sym (if-true _ _ _ (eq-eqb _ _ c.if-kind-eq0.true))
 
-returns-2 : tie.Need-returns-2
+returns-2 : tie.Need-returns
 unfolding lettered kinded
-returns-2 c = sym (if-false _ _ _ (ne_eqb _ _ c.before.if1.false))
+returns-2 c = sym (if-false _ _ _ (ne_eqb _ _ c.if-kind-eq0.false))
 
-pub lettered-spec : {M : Type 1} → statement M
-lettered-spec = tie.close (tie.spec (λ c κs. search rules) returns returns-2)
+pub lettered_spec : {M : Type 1} → statement M
+lettered_spec = tie.close (tie.spec (λ c κs. search rules) returns returns-2)

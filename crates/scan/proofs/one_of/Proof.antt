@@ -7,13 +7,13 @@ use Rattle.scan.proofs.Laws.{or-second}
 use Rattle.scan.proofs.one_of.Statement.{statement}
 use Rattle.scan.proofs.one_of.Tie as tie
 
-returns : tie.Need-returns
+returns : tie.Need-returns-then-byte-a
 unfolding one_of
-returns c = sym (or_l _ _ (eq-eqb _ _ c.if1.true))
+returns c = sym (or_l _ _ (eq-eqb _ _ c.if-byte-a.true))
 
-returns-2 : tie.Need-returns-2
+returns-2 : tie.Need-returns
 unfolding one_of
-returns-2 c = sym (or-second _ _ (ne_eqb _ _ c.if1.false))
+returns-2 c = sym (or-second _ _ (ne_eqb _ _ c.if-byte-a.false))
 
-pub one-of-spec : {M : Type 1} → statement M
-one-of-spec = tie.close (tie.spec returns returns-2)
+pub one_of_spec : {M : Type 1} → statement M
+one_of_spec = tie.close (tie.spec returns returns-2)

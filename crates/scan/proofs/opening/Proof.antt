@@ -8,5 +8,5 @@ returns : tie.Need-returns
 unfolding opening
 returns c = rw c.first_kind.ensures
 
-pub opening-spec : {M : Type 1} → statement M
-opening-spec = tie.close (tie.spec (λ c κs. search rules) returns)
+pub opening_spec : {M : Type 1} → statement M
+opening_spec = tie.close (tie.spec (λ c κs. search rules) returns)

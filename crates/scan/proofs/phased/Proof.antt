@@ -8,5 +8,5 @@ returns : tie.Need-returns
 unfolding phased
 returns c = refl
 
-pub phased-spec : {M : Type 1} → statement M
-phased-spec = tie.close (tie.spec returns)
+pub phased_spec : {M : Type 1} → statement M
+phased_spec = tie.close (tie.spec returns)

@@ -8,5 +8,5 @@ returns : tie.Need-returns
 unfolding returned
 returns c = refl
 
-pub returned-spec : {M : Type 1} → statement M
-returned-spec = tie.close (tie.spec returns)
+pub returned_spec : {M : Type 1} → statement M
+returned_spec = tie.close (tie.spec returns)

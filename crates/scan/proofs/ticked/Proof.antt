@@ -6,7 +6,7 @@ use Rattle.scan.proofs.ticked.Tie as tie
 
 returns : tie.Need-returns
 unfolding ticked
-returns c = rw (c.before.begin-after.ensures, c.before.before.up.ensures)
+returns c = rw (c.begin_after-begin.ensures, c.up-column.ensures)
 
-pub ticked-spec : {M : Type 1} → statement M
-ticked-spec = tie.close (tie.spec (λ c κs. search rules) (λ c κs. search rules) returns)
+pub ticked_spec : {M : Type 1} → statement M
+ticked_spec = tie.close (tie.spec (λ c κs. search rules) (λ c κs. search rules) returns)

@@ -6,7 +6,7 @@ use Rattle.scan.proofs.told.Tie as tie
 
 returns : tie.Need-returns
 unfolding told
-returns c = rw c.line-kind.ensures
+returns c = rw c.line_kind.ensures
 
-pub told-spec : {M : Type 1} → statement M
-told-spec = tie.close (tie.spec (λ c κs. search rules) returns)
+pub told_spec : {M : Type 1} → statement M
+told_spec = tie.close (tie.spec (λ c κs. search rules) returns)

@@ -7,13 +7,13 @@ use Rattle.scan.specs.Scan.{up}
 use Rattle.scan.proofs.up.Statement.{statement}
 use Rattle.scan.proofs.up.Tie as tie
 
-returns : tie.Need-returns
+returns : tie.Need-returns-then-x-lt4294967295
 unfolding up
-returns c = sym (if-true _ _ _ (lt-ltb _ _ c.if1.true))
+returns c = sym (if-true _ _ _ (lt-ltb _ _ c.if-x-lt4294967295.true))
 
-returns-2 : tie.Need-returns-2
+returns-2 : tie.Need-returns
 unfolding up
-returns-2 c = sym (if-false _ _ _ (le-ltb _ _ c.if1.false))
+returns-2 c = sym (if-false _ _ _ (le-ltb _ _ c.if-x-lt4294967295.false))
 
-pub up-spec : {M : Type 1} → statement M
-up-spec = tie.close (tie.spec (λ c. search rules) returns returns-2)
+pub up_spec : {M : Type 1} → statement M
+up_spec = tie.close (tie.spec (λ c. search rules) returns returns-2)

@@ -6,13 +6,13 @@ use Rattle.scan.specs.Bytes.{within}
 use Rattle.scan.proofs.within.Statement.{statement}
 use Rattle.scan.proofs.within.Tie as tie
 
-returns : tie.Need-returns
+returns : tie.Need-returns-then-byte-low
 unfolding within
-returns c = sym (and-fails _ _ (lt-leb _ _ c.if1.true))
+returns c = sym (and-fails _ _ (lt-leb _ _ c.if-byte-low.true))
 
-returns-2 : tie.Need-returns-2
+returns-2 : tie.Need-returns
 unfolding within
-returns-2 c = sym (and-holds _ _ (le-leb _ _ c.if1.false))
+returns-2 c = sym (and-holds _ _ (le-leb _ _ c.if-byte-low.false))
 
-pub within-spec : {M : Type 1} → statement M
-within-spec = tie.close (tie.spec returns returns-2)
+pub within_spec : {M : Type 1} → statement M
+within_spec = tie.close (tie.spec returns returns-2)

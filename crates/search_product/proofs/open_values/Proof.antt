@@ -4,11 +4,11 @@ use Rattle.search_product.proofs.Factors.{open-led, open_free}
 use Rattle.search_product.proofs.open_values.Statement.{statement}
 use Rattle.search_product.proofs.open_values.Tie as tie
 
-returns : tie.Need-returns
-returns c = open-led _ _ c.if1.true
+returns : tie.Need-returns-then-leader-ne0
+returns c = open-led _ _ c.if-leader-ne0.true
 
-returns-2 : tie.Need-returns-2
-returns-2 c = rw (← open_free _ _ c.before.if1.false) (search rules)
+returns-2 : tie.Need-returns
+returns-2 c = rw (← open_free _ _ c.if-leader-ne0.false) (search rules)
 
-pub open-values-spec : {M : Type 1} → statement M
-open-values-spec = tie.close (tie.spec returns (λ c κs. search rules) returns-2)
+pub open_values_spec : {M : Type 1} → statement M
+open_values_spec = tie.close (tie.spec returns (λ c κs. search rules) returns-2)

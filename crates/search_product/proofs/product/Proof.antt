@@ -12,36 +12,36 @@ use Rattle.search_product.proofs.Factors.{open-most, capped-none, capped-more, p
 use Rattle.search_product.proofs.product.Statement.{statement}
 use Rattle.search_product.proofs.product.Tie as tie
 
-abbrev invariant-loop : tie.invariant-loop
+abbrev invariant-loop : tie.invariant-loop-i
 invariant-loop n domains leaders choices₀ i₀ choices i =
     (i ≤ n) × (choices ≡ min (product i (λ (k : ℕ). open_of (get_or leaders k 0) (get_or domains k 0))) 1000001)
 
-abbrev decreases-loop : tie.decreases-loop
+abbrev decreases-loop : tie.decreases-loop-i
 decreases-loop n domains leaders choices₀ i₀ choices i = n - i
 
-loop-holds : tie.Need-loop-init invariant-loop decreases-loop
+loop-holds : tie.Need-loop-i-init invariant-loop decreases-loop
 loop-holds c = (omega arith, capped-none _)
 
-mul-capped : tie.Need-overflow-mul-capped invariant-loop decreases-loop
+mul-capped : tie.Need-overflow_mul-open_values invariant-loop decreases-loop
 mul-capped c =
-    let l : c.open-values.result ≤ 32 = rw c.open-values.ensures (open-most _ _) in
-    let m : c.before.before.loop.choices ≤ 1000001 = rw c.before.before.loop.invariant.1 (min-le_right _ _) in
-    omega (arith, mul-le-mul_right c.before.before.loop.choices l)
+    let l : c.open_values.result ≤ 32 = rw c.open_values.ensures (open-most _ _) in
+    let m : c.loop-i.choices ≤ 1000001 = rw c.loop-i.invariant.1 (min-le_right _ _) in
+    omega (arith, mul-le-mul_right c.loop-i.choices l)
 
-loop-again : tie.Need-loop-preserved invariant-loop decreases-loop
+loop-again : tie.Need-loop-i-preserved invariant-loop decreases-loop
 loop-again c = (
   omega arith,
-  capped-more 1000001 _ _ c.before.before.before.loop.invariant.1 (c.capped.ensures ∙ rw c.before.open-values.ensures),
+  capped-more 1000001 _ _ c.loop-i.invariant.1 (c.capped-choices.ensures ∙ rw c.open_values.ensures),
 )
 
 returns : tie.Need-returns invariant-loop decreases-loop
 returns c = λ rows t.
-    let h : HeadShaped c.before.before.before.before.args.head = search shape in
-    let e : c.before.loop.i ≡ c.before.before.before.before.args.head.n = omega arith in
-    rw e at c.before.loop.invariant.1 ∙ ap (λ (p : ℕ). min p 1000001) (product-held _ rows h t)
+    let h : HeadShaped c.args.head = search shape in
+    let e : c.loop-i.i ≡ c.args.head.n = omega arith in
+    rw e at c.loop-i.invariant.1 ∙ ap (λ (p : ℕ). min p 1000001) (product-held _ rows h t)
 
-pub product-spec : {M : Type 1} → statement M
-product-spec =
+pub product_spec : {M : Type 1} → statement M
+product_spec =
     tie.close
     (tie.spec
     invariant-loop

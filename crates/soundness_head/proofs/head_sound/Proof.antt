@@ -9,42 +9,42 @@ use Rattle.soundness_head.proofs.Tests.{head-none, head-many, head-sizes, head-d
 use Rattle.soundness_head.proofs.head_sound.Statement.{statement}
 use Rattle.soundness_head.proofs.head_sound.Tie as tie
 
-returns : tie.Need-returns
-returns c = head-none _ c.if1.true
+returns : tie.Need-returns-then-n-lt1
+returns c = head-none _ c.if-n-lt1.true
 
-returns-2 : tie.Need-returns-2
+returns-2 : tie.Need-returns-then-n-gt-VARIABLES
 returns-2 c = head-many _ (omega arith) (omega arith)
 
-returns-3 : tie.Need-returns-3
+returns-3 : tie.Need-returns-then-not-sizes_sound
 returns-3 c =
-    let n = c.before.before.before.before in
-    head-sizes _ n.before.if1.false n.if2.false (sym c.before.sizes-sound.ensures ∙ not-true _ c.if3.true)
+    let n = c in
+    head-sizes _ n.if-n-lt1.false n.if-n-gt-VARIABLES.false (sym c.sizes_sound.ensures ∙ c.if-not-sizes_sound.true)
 
-domains-sound-requires : tie.Need-domains-sound-requires
+domains-sound-requires : tie.Need-domains_sound-requires
 domains-sound-requires c κs =
-    let sized = c.before.before.before in
-    let n = sized.before.before.before.before in
-    let A : HeadShaped n.before.before.args.head = search shape in
-    size-le _ A n.if2.false (sym sized.before.sizes-sound.ensures ∙ not-false _ sized.if3.false)
+    let sized = c in
+    let n = sized in
+    let A : HeadShaped n.args.head = search shape in
+    size-le _ A n.if-n-gt-VARIABLES.false (sym sized.sizes_sound.ensures ∙ sized.if-not-sizes_sound.false)
 
-returns-4 : tie.Need-returns-4
+returns-4 : tie.Need-returns-then-not-domains_sound
 returns-4 c =
-    let sized = c.before.before.before.before.before in
-    let n = sized.before.before.before.before in
-    head-domains _ n.before.if1.false n.if2.false (sym sized.before.sizes-sound.ensures ∙ not-false _ sized.if3.false)
-    (sym c.before.domains-sound.ensures ∙ not-true _ c.if4.true)
+    let sized = c in
+    let n = sized in
+    head-domains _ n.if-n-lt1.false n.if-n-gt-VARIABLES.false (sym sized.sizes_sound.ensures ∙ sized.if-not-sizes_sound.false)
+    (sym c.domains_sound.ensures ∙ c.if-not-domains_sound.true)
 
-returns-5 : tie.Need-returns-5
+returns-5 : tie.Need-returns
 returns-5 c =
-    let inside = c.before.before.before in
-    let sized = inside.before.before.before.before.before in
-    let n = sized.before.before.before.before in
-    c.pairs-sound.ensures
-    ∙ head-pairs _ n.before.if1.false n.if2.false (sym sized.before.sizes-sound.ensures ∙ not-false _ sized.if3.false)
-    (sym inside.before.domains-sound.ensures ∙ not-false _ inside.if4.false)
+    let inside = c in
+    let sized = inside in
+    let n = sized in
+    c.pairs_sound.ensures
+    ∙ head-pairs _ n.if-n-lt1.false n.if-n-gt-VARIABLES.false (sym sized.sizes_sound.ensures ∙ sized.if-not-sizes_sound.false)
+    (sym inside.domains_sound.ensures ∙ inside.if-not-domains_sound.false)
 
-pub head-sound-spec : {M : Type 1} → statement M
-head-sound-spec =
+pub head_sound_spec : {M : Type 1} → statement M
+head_sound_spec =
     tie.close
     (tie.spec
     returns

@@ -12,28 +12,28 @@ use Rattle.soundness_head.proofs.Tests.{size_same}
 use Rattle.soundness_head.proofs.sizes_sound.Statement.{statement}
 use Rattle.soundness_head.proofs.sizes_sound.Tie as tie
 
-abbrev invariant-loop : tie.invariant-loop
+abbrev invariant-loop : tie.invariant-loop-i
 invariant-loop n sizes all₀ i₀ all i = (i ≤ variables) × (all ≡ every i (λ (k : ℕ). size_fits n k (get_or sizes k 0)))
 
-abbrev decreases-loop : tie.decreases-loop
+abbrev decreases-loop : tie.decreases-loop-i
 decreases-loop n sizes all₀ i₀ all i = variables - i
 
-loop-holds : tie.Need-loop-init invariant-loop decreases-loop
+loop-holds : tie.Need-loop-i-init invariant-loop decreases-loop
 unfolding every
 loop-holds c = (omega arith, refl)
 
-loop-again : tie.Need-loop-preserved invariant-loop decreases-loop
+loop-again : tie.Need-loop-i-preserved invariant-loop decreases-loop
 loop-again c = (
   omega arith,
-  test-joins _ _ c.before.before.before.before.loop.invariant.1 (size_same _ _ c.size-sound.ensures c.before.wide.ensures),
+  test-joins _ _ c.loop-i.invariant.1 (size_same _ _ c.size_sound-all.ensures c.wide.ensures),
 )
 
 returns : tie.Need-returns invariant-loop decreases-loop
 unfolding sizes_all_fit
-returns c = rw (let e : c.before.loop.i ≡ variables = omega arith in e) at c.before.loop.invariant.1
+returns c = rw (let e : c.loop-i.i ≡ variables = omega arith in e) at c.loop-i.invariant.1
 
-pub sizes-sound-spec : {M : Type 1} → statement M
-sizes-sound-spec =
+pub sizes_sound_spec : {M : Type 1} → statement M
+sizes_sound_spec =
     tie.close
     (tie.spec
     invariant-loop

@@ -8,29 +8,29 @@ use borrow.Author.Rules.{rules}
 use Rattle.soundness_head.proofs.variable_sound.Statement.{statement}
 use Rattle.soundness_head.proofs.variable_sound.Tie as tie
 
-returns : tie.Need-returns
-returns c = variable-past _ _ _ c.if1.true
+returns : tie.Need-returns-then-n-i
+returns c = variable-past _ _ _ c.if-n-i.true
 
-returns-2 : tie.Need-returns-2
+returns-2 : tie.Need-returns-then-not-within
 unfolding within
-returns-2 c = variable-high _ _ _ c.before.before.if1.false (sym c.before.within.ensures ∙ not-true _ c.if2.true)
+returns-2 c = variable-high _ _ _ c.if-n-i.false (sym c.within.ensures ∙ c.if-not-within.true)
 
-returns-3 : tie.Need-returns-3
+returns-3 : tie.Need-returns-then-member
 unfolding within
 returns-3 c =
-    variable-self _ _ _ c.before.before.before.before.if1.false
-    (sym c.before.before.before.within.ensures ∙ not-false _ c.before.before.if2.false)
-    (sym c.before.member.ensures ∙ c.if3.true)
+    variable-self _ _ _ c.if-n-i.false
+    (sym c.within.ensures ∙ c.if-not-within.false)
+    (sym c.member.ensures ∙ c.if-member.true)
 
-returns-4 : tie.Need-returns-4
+returns-4 : tie.Need-returns
 unfolding within
-returns-4 c = ap (eqb _) c.stated-with.ensures
-    ∙ variable-told _ _ _ c.before.before.before.before.before.if1.false
-    (sym c.before.before.before.before.within.ensures ∙ not-false _ c.before.before.before.if2.false)
-    (sym c.before.before.member.ensures ∙ c.before.if3.false)
+returns-4 c = ap (eqb _) c.stated_with.ensures
+    ∙ variable-told _ _ _ c.if-n-i.false
+    (sym c.within.ensures ∙ c.if-not-within.false)
+    (sym c.member.ensures ∙ c.if-member.false)
 
-pub variable-sound-spec : {M : Type 1} → statement M
-variable-sound-spec =
+pub variable_sound_spec : {M : Type 1} → statement M
+variable_sound_spec =
     tie.close
     (tie.spec
     (λ c. search rules)

@@ -13,5 +13,5 @@ either-holds false b = refl
 returns : tie.Need-returns
 returns c = either-holds _ _
 
-pub outside-spec : {M : Type 1} → statement M
-outside-spec = tie.close (tie.spec returns)
+pub outside_spec : {M : Type 1} → statement M
+outside_spec = tie.close (tie.spec returns)

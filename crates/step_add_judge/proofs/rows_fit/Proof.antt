@@ -12,34 +12,34 @@ use Rattle.step_add_judge.proofs.Judging.{row_within, wrong-count, wrong_row, ri
 use Rattle.step_add_judge.proofs.rows_fit.Statement.{statement}
 use Rattle.step_add_judge.proofs.rows_fit.Tie as tie
 
-abbrev invariant-loop : tie.invariant-loop
+abbrev invariant-loop : tie.invariant-loop-c
 invariant-loop table size other c₀ c-end c = (c-end ≡ length table) × ((k : ℕ) → k < c → ltb (get_or table k 0) (2 ^ other) ≡ true)
 
-abbrev decreases-loop : tie.decreases-loop
+abbrev decreases-loop : tie.decreases-loop-c
 decreases-loop table size other c₀ c-end c = c-end - c
 
-returns : tie.Need-returns invariant-loop decreases-loop
-returns c = wrong-count _ _ _ c.if1.true
+returns : tie.Need-returns-then-table-size invariant-loop decreases-loop
+returns c = wrong-count _ _ _ c.if-table-size.true
 
-loop-holds : tie.Need-loop-init invariant-loop decreases-loop
+loop-holds : tie.Need-loop-c-init invariant-loop decreases-loop
 loop-holds c = (search rules, below_none _)
 
-returns-2 : tie.Need-returns-2 invariant-loop decreases-loop
+returns-2 : tie.Need-returns-then-not-within invariant-loop decreases-loop
 returns-2 c =
-    let w = c.before in
-    wrong_row _ _ _ (omega arith) (row_within 32 _ _ false (w.before.shared-slice-known2.given _).fits w.within.ensures (not-true _ c.if2.true))
+    let w = c in
+    wrong_row _ _ _ (omega arith) (row_within 32 _ _ false (w.shared_slice_known-in-loop-c-1.given _).fits w.within.ensures (c.if-not-within.true))
 
-loop-again : tie.Need-loop-preserved invariant-loop decreases-loop
+loop-again : tie.Need-loop-c-preserved invariant-loop decreases-loop
 loop-again c =
-    let w = c.before in
-    let k = w.before in
-    (search rules, below_more _ _ k.before.before.loop.invariant.1 (row_within 32 _ _ true (k.shared-slice-known2.given _).fits w.within.ensures (not-false _ c.if2.false)))
+    let w = c in
+    let k = w in
+    (search rules, below_more _ _ k.loop-c.invariant.1 (row_within 32 _ _ true (k.shared_slice_known-in-loop-c-1.given _).fits w.within.ensures (c.if-not-within.false)))
 
-returns-3 : tie.Need-returns-3 invariant-loop decreases-loop
-returns-3 c = right-rows _ _ _ c.before.before.if1.false (λ k l. c.before.loop.invariant.1 k (omega arith))
+returns-3 : tie.Need-returns invariant-loop decreases-loop
+returns-3 c = right-rows _ _ _ c.if-table-size.false (λ k l. c.loop-c.invariant.1 k (omega arith))
 
-pub rows-fit-spec : {M : Type 1} → statement M
-rows-fit-spec =
+pub rows_fit_spec : {M : Type 1} → statement M
+rows_fit_spec =
     tie.close
     (tie.spec
     invariant-loop

@@ -8,44 +8,41 @@ use Rattle.text_lines.specs.Text.{ascii, live_line}
 use Rattle.text_lines.proofs.put_live.Statement.{statement}
 use Rattle.text_lines.proofs.put_live.Tie as tie
 
-put-titled-requires : tie.Need-put-titled-requires
+put-titled-requires : tie.Need-put_titled-named-requires
 unfolding live_line ascii
-put-titled-requires c κs = omega (arith, simp length-append at c.before.before.before.requires)
+put-titled-requires c κs = omega (arith, simp length-append at c.requires)
 
-put-text-requires : tie.Need-put-text-requires
+put-text-requires : tie.Need-put_text-titled-requires
 unfolding live_line ascii
-put-text-requires c κs = omega (arith, simp length-append at c.before.before.before.before.before.before.before.before.requires)
+put-text-requires c κs = omega (arith, simp length-append at c.requires)
 
-put-hex-requires : tie.Need-put-hex-requires
+put-hex-requires : tie.Need-put_hex-listed-requires
 unfolding live_line ascii
-put-hex-requires c κs = omega (arith, simp (length-append, length-hex) at c.before.before.before.before.before.before.before.before.before.before.before.before.requires)
+put-hex-requires c κs = omega (arith, simp (length-append, length-hex) at c.requires)
 
-put-text-requires-2 : tie.Need-put-text-requires-2
+put-text-requires-2 : tie.Need-put_text-requires
 unfolding live_line ascii
 put-text-requires-2 c κs =
-    let h = c.before.before.before.before in
+    let h = c in
     omega
-    (arith, simp (length-append, length-hex) at h.before.before.before.before.before.before.before.before.before.before.before.before.before.requires, simp length-hex at h.put-hex.ensures.ends)
+    (arith, simp (length-append, length-hex) at h.requires, simp length-hex at h.put_hex-listed.ensures.ends)
 
 returns : tie.Need-returns
 unfolding live_line ascii
 returns c =
-    let n = c.before.before in
-    let h = n.before.before.before.before.before in
-    let l = h.before.before.before.before in
-    let f = l.before.before.before.before.before in
-    wrote_then f.put-titled.ensures (wrote_then l.put-text.ensures (wrote_then h.put-hex.ensures n.put-text2.ensures))
+    let n = c in
+    let h = n in
+    let l = h in
+    let f = l in
+    wrote_then f.put_titled-named.ensures (wrote_then l.put_text-titled.ensures (wrote_then h.put_hex-listed.ensures n.put_text.ensures))
 
-pub put-live-spec : {M : Type 1} → statement M
-put-live-spec =
+pub put_live_spec : {M : Type 1} → statement M
+put_live_spec =
     tie.close
     (tie.spec
-    (λ c. search rules)
     put-titled-requires
-    (λ c. search rules)
     put-text-requires
     put-hex-requires
-    (λ c. search rules)
     put-text-requires-2
     (λ c. search rules)
     returns)

@@ -7,40 +7,39 @@ use Rattle.text_lines.proofs.Laws.{wrote-pair}
 use Rattle.text_lines.proofs.put_pair.Statement.{statement}
 use Rattle.text_lines.proofs.put_pair.Tie as tie
 
-put-titled-requires : tie.Need-put-titled-requires
+put-titled-requires : tie.Need-put_titled-middle-requires
 unfolding pair_line ascii
-put-titled-requires c κs = simp length-append (omega (arith, simp length-append at c.before.before.before.before.requires))
+put-titled-requires c κs = simp length-append (omega (arith, simp length-append at c.requires))
 
-put-titled-requires-2 : tie.Need-put-titled-requires-2
+put-titled-requires-2 : tie.Need-put_titled-last-requires
 unfolding pair_line ascii
 put-titled-requires-2 c κs =
-    let f = c.before.before.before in
-    simp length-append (omega (arith, simp length-append at f.before.before.before.before.before.requires, simp length-append at f.put-titled.ensures.ends))
+    let f = c in
+    simp length-append (omega (arith, simp length-append at f.requires, simp length-append at f.put_titled-middle.ensures.ends))
 
-put-text-requires : tie.Need-put-text-requires
+put-text-requires : tie.Need-put_text-requires
 unfolding pair_line ascii
 put-text-requires c κs =
-    let s = c.before.before.before.before in
-    let f = s.before.before.before.before in
+    let s = c in
+    let f = s in
     omega
-    (arith, simp length-append at f.before.before.before.before.before.requires, simp length-append at f.put-titled.ensures.ends, simp length-append at s.put-titled2.ensures.ends)
+    (arith, simp length-append at f.requires, simp length-append at f.put_titled-middle.ensures.ends, simp length-append at s.put_titled-last.ensures.ends)
 
 returns : tie.Need-returns
 unfolding ascii
 returns c =
-    let n = c.before.before in
-    let s = n.before.before.before.before.before in
-    let f = s.before.before.before.before in
-    let a = f.before.before.before.before.before.args in
-    wrote-pair _ a.one _ a.two f.put-titled.ensures s.put-titled2.ensures n.put-text.ensures
+    let n = c in
+    let s = n in
+    let f = s in
+    let a = f.args in
+    wrote-pair _ a.one _ a.two f.put_titled-middle.ensures s.put_titled-last.ensures n.put_text.ensures
 
-pub put-pair-spec : {M : Type 1} → statement M
-put-pair-spec =
+pub put_pair_spec : {M : Type 1} → statement M
+put_pair_spec =
     tie.close
     (tie.spec
     put-titled-requires
     put-titled-requires-2
-    (λ c. search rules)
     put-text-requires
     (λ c. search rules)
     returns)

@@ -6,20 +6,18 @@ use Rattle.text_lines.specs.Text.{ascii, refused_text, pair_line}
 use Rattle.text_lines.proofs.put_refusal.Statement.{statement}
 use Rattle.text_lines.proofs.put_refusal.Tie as tie
 
-put-pair-requires : tie.Need-put-pair-requires
+put-pair-requires : tie.Need-put_pair-requires
 unfolding refused_text pair_line ascii
-put-pair-requires c κs = simp length-append (omega (arith, simp length-append at c.before.before.before.before.requires))
+put-pair-requires c κs = simp length-append (omega (arith, simp length-append at c.requires))
 
 returns : tie.Need-returns
 unfolding refused_text pair_line ascii
-returns c = c.before.before.put-pair.ensures
+returns c = c.put_pair.ensures
 
-pub put-refusal-spec : {M : Type 1} → statement M
-put-refusal-spec =
+pub put_refusal_spec : {M : Type 1} → statement M
+put_refusal_spec =
     tie.close
     (tie.spec
-    (λ c. search rules)
-    (λ c. search rules)
     put-pair-requires
     (λ c. search rules)
     returns)

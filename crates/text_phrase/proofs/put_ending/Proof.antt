@@ -8,16 +8,14 @@ use Rattle.text_phrase.proofs.put_ending.Tie as tie
 
 returns : tie.Need-returns
 unfolding phrase_end ascii
-returns c = put_then c.before.before.before.before.before.before.before.before.before.before.before.put-text.ensures (put_then c.before.before.before.before.before.before.before.put-phrase.ensures c.before.before.put-text2.ensures)
+returns c = put_then c.put_text-begun.ensures (put_then c.put_phrase-said.ensures c.put_text.ensures)
 
-pub put-ending-spec : {M : Type 1} → statement M
-put-ending-spec =
+pub put_ending_spec : {M : Type 1} → statement M
+put_ending_spec =
     tie.close
     (tie.spec
-    (λ c. search rules)
     (λ c κs. search rules)
     (λ c κs. search rules)
-    (λ c. search rules)
     (λ c κs. search rules)
     (λ c. search rules)
     returns)

@@ -5,225 +5,194 @@ use Rattle.text_phrase.specs.Phrase.{phrase, phrases}
 use Rattle.text_phrase.proofs.put_phrase.Statement.{statement}
 use Rattle.text_phrase.proofs.put_phrase.Tie as tie
 
-returns : tie.Need-returns
+returns : tie.Need-returns-in-Length
 unfolding phrase phrases ascii
-returns c = rw c.before.before.before.before.before.enum_told.given.1 c.before.before.put-text.ensures
+returns c = rw c.in-Length.is c.put_text.ensures
 
-returns-2 : tie.Need-returns-2
+returns-2 : tie.Need-returns-in-Version
 unfolding phrase phrases ascii
-returns-2 c = rw c.before.before.before.before.before.enum-told2.given.1 c.before.before.put-text2.ensures
+returns-2 c = rw c.in-Version.is c.put_text-in-Version.ensures
 
-returns-3 : tie.Need-returns-3
+returns-3 : tie.Need-returns-in-VariableCount
 unfolding phrase phrases ascii
-returns-3 c = rw c.before.before.before.before.before.enum-told3.given.1 c.before.before.put-text3.ensures
+returns-3 c = rw c.in-VariableCount.is c.put_text-in-VariableCount.ensures
 
-returns-4 : tie.Need-returns-4
+returns-4 : tie.Need-returns-in-Size
 unfolding phrase phrases ascii
-returns-4 c = rw c.before.before.before.before.before.enum-told4.given.1 c.before.before.put-text4.ensures
+returns-4 c = rw c.in-Size.is c.put_text-in-Size.ensures
 
-returns-5 : tie.Need-returns-5
+returns-5 : tie.Need-returns-in-ConstraintCount
 unfolding phrase phrases ascii
-returns-5 c = rw c.before.before.before.before.before.enum-told5.given.1 c.before.before.put-text5.ensures
+returns-5 c = rw c.in-ConstraintCount.is c.put_text-in-ConstraintCount.ensures
 
-returns-6 : tie.Need-returns-6
+returns-6 : tie.Need-returns-in-Extent
 unfolding phrase phrases ascii
-returns-6 c = rw c.before.before.before.before.before.enum-told6.given.1 c.before.before.put-text6.ensures
+returns-6 c = rw c.in-Extent.is c.put_text-in-Extent.ensures
 
-returns-7 : tie.Need-returns-7
+returns-7 : tie.Need-returns-in-PairRange
 unfolding phrase phrases ascii
-returns-7 c = rw c.before.before.before.before.before.enum-told7.given.1 c.before.before.put-text7.ensures
+returns-7 c = rw c.in-PairRange.is c.put_text-in-PairRange.ensures
 
-returns-8 : tie.Need-returns-8
+returns-8 : tie.Need-returns-in-PairOrder
 unfolding phrase phrases ascii
-returns-8 c = rw c.before.before.before.before.before.enum-told8.given.1 c.before.before.put-text8.ensures
+returns-8 c = rw c.in-PairOrder.is c.put_text-in-PairOrder.ensures
 
-returns-9 : tie.Need-returns-9
+returns-9 : tie.Need-returns-in-PairRepeated
 unfolding phrase phrases ascii
-returns-9 c = rw c.before.before.before.before.before.enum-told9.given.1 c.before.before.put-text9.ensures
+returns-9 c = rw c.in-PairRepeated.is c.put_text-in-PairRepeated.ensures
 
-returns-10 : tie.Need-returns-10
+returns-10 : tie.Need-returns-in-RowRange
 unfolding phrase phrases ascii
-returns-10 c = rw c.before.before.before.before.before.enum-told10.given.1 c.before.before.put-text10.ensures
+returns-10 c = rw c.in-RowRange.is c.put_text-in-RowRange.ensures
 
-returns-11 : tie.Need-returns-11
+returns-11 : tie.Need-returns-in-Unsound
 unfolding phrase phrases ascii
-returns-11 c = rw c.before.before.before.before.before.enum-told11.given.1 c.before.before.put-text11.ensures
+returns-11 c = rw c.in-Unsound.is c.put_text-in-Unsound.ensures
 
-returns-12 : tie.Need-returns-12
+returns-12 : tie.Need-returns-in-VariableNumber
 unfolding phrase phrases ascii
-returns-12 c = rw c.before.before.before.before.before.enum-told12.given.1 c.before.before.put-text12.ensures
+returns-12 c = rw c.in-VariableNumber.is c.put_text-in-VariableNumber.ensures
 
-returns-13 : tie.Need-returns-13
+returns-13 : tie.Need-returns-in-NotTwoFree
 unfolding phrase phrases ascii
-returns-13 c = rw c.before.before.before.before.before.enum-told13.given.1 c.before.before.put-text13.ensures
+returns-13 c = rw c.in-NotTwoFree.is c.put_text-in-NotTwoFree.ensures
 
-returns-14 : tie.Need-returns-14
+returns-14 : tie.Need-returns-in-NotStated
 unfolding phrase phrases ascii
-returns-14 c = rw c.before.before.before.before.before.enum-told14.given.1 c.before.before.put-text14.ensures
+returns-14 c = rw c.in-NotStated.is c.put_text-in-NotStated.ensures
 
-returns-15 : tie.Need-returns-15
+returns-15 : tie.Need-returns-in-NotFunctional
 unfolding phrase phrases ascii
-returns-15 c = rw c.before.before.before.before.before.enum-told15.given.1 c.before.before.put-text15.ensures
+returns-15 c = rw c.in-NotFunctional.is c.put_text-in-NotFunctional.ensures
 
-returns-16 : tie.Need-returns-16
+returns-16 : tie.Need-returns-in-SolutionLength
 unfolding phrase phrases ascii
-returns-16 c = rw c.before.before.before.before.before.enum-told16.given.1 c.before.before.put-text16.ensures
+returns-16 c = rw c.in-SolutionLength.is c.put_text-in-SolutionLength.ensures
 
-returns-17 : tie.Need-returns-17
+returns-17 : tie.Need-returns-in-ValueRange
 unfolding phrase phrases ascii
-returns-17 c = rw c.before.before.before.before.before.enum-told17.given.1 c.before.before.put-text17.ensures
+returns-17 c = rw c.in-ValueRange.is c.put_text-in-ValueRange.ensures
 
-returns-18 : tie.Need-returns-18
+returns-18 : tie.Need-returns-in-ValuesForbidden
 unfolding phrase phrases ascii
-returns-18 c = rw c.before.before.before.before.before.enum-told18.given.1 c.before.before.put-text18.ensures
+returns-18 c = rw c.in-ValuesForbidden.is c.put_text-in-ValuesForbidden.ensures
 
-returns-19 : tie.Need-returns-19
+returns-19 : tie.Need-returns-in-BufferLength
 unfolding phrase phrases ascii
-returns-19 c = rw c.before.before.before.before.before.enum-told19.given.1 c.before.before.put-text19.ensures
+returns-19 c = rw c.in-BufferLength.is c.put_text-in-BufferLength.ensures
 
-returns-20 : tie.Need-returns-20
+returns-20 : tie.Need-returns-in-NotFresh
 unfolding phrase phrases ascii
-returns-20 c = rw c.before.before.before.before.before.enum-told20.given.1 c.before.before.put-text20.ensures
+returns-20 c = rw c.in-NotFresh.is c.put_text-in-NotFresh.ensures
 
-returns-21 : tie.Need-returns-21
+returns-21 : tie.Need-returns-in-SameVariables
 unfolding phrase phrases ascii
-returns-21 c = rw c.before.before.before.before.before.enum-told21.given.1 c.before.before.put-text21.ensures
+returns-21 c = rw c.in-SameVariables.is c.put_text-in-SameVariables.ensures
 
-returns-22 : tie.Need-returns-22
+returns-22 : tie.Need-returns-in-TableRows
 unfolding phrase phrases ascii
-returns-22 c = rw c.before.before.before.before.before.enum-told22.given.1 c.before.before.put-text22.ensures
+returns-22 c = rw c.in-TableRows.is c.put_text-in-TableRows.ensures
 
-returns-23 : tie.Need-returns-23
+returns-23 : tie.Need-returns-in-TooManyChoices
 unfolding phrase phrases ascii
-returns-23 c = rw c.before.before.before.before.before.enum-told23.given.1 c.before.before.put-text23.ensures
+returns-23 c = rw c.in-TooManyChoices.is c.put_text-in-TooManyChoices.ensures
 
-returns-24 : tie.Need-returns-24
+returns-24 : tie.Need-returns-in-NotInVersion
 unfolding phrase phrases ascii
-returns-24 c = rw c.before.before.before.before.before.enum-told24.given.1 c.before.before.put-text24.ensures
+returns-24 c = rw c.in-NotInVersion.is c.put_text-in-NotInVersion.ensures
 
-returns-25 : tie.Need-returns-25
+returns-25 : tie.Need-returns-in-NotFlatMeter
 unfolding phrase phrases ascii
-returns-25 c = rw c.before.before.before.before.before.enum-told25.given.1 c.before.before.put-text25.ensures
+returns-25 c = rw c.in-NotFlatMeter.is c.put_text-in-NotFlatMeter.ensures
 
-returns-26 : tie.Need-returns-26
+returns-26 : tie.Need-returns-in-BlankRow
 unfolding phrase phrases ascii
-returns-26 c = rw c.before.before.before.before.before.enum-told26.given.1 c.before.before.put-text26.ensures
+returns-26 c = rw c.in-BlankRow.is c.put_text-in-BlankRow.ensures
 
-returns-27 : tie.Need-returns-27
+returns-27 : tie.Need-returns-in-BinRecords
 unfolding phrase phrases ascii
-returns-27 c = rw c.before.before.before.before.before.enum-told27.given.1 c.before.before.put-text27.ensures
+returns-27 c = rw c.in-BinRecords.is c.put_text-in-BinRecords.ensures
 
-returns-28 : tie.Need-returns-28
+returns-28 : tie.Need-returns-in-NotInStock
 unfolding phrase phrases ascii
-returns-28 c = rw c.before.before.before.before.before.enum-told28.given.1 c.before.before.put-text28.ensures
+returns-28 c = rw c.in-NotInStock.is c.put_text-in-NotInStock.ensures
 
-returns-29 : tie.Need-returns-29
+returns-29 : tie.Need-returns-in-BinTooLow
 unfolding phrase phrases ascii
-returns-29 c = rw c.before.before.before.before.before.enum-told29.given.1 c.before.before.put-text29.ensures
+returns-29 c = rw c.in-BinTooLow.is c.put_text-in-BinTooLow.ensures
 
-returns-30 : tie.Need-returns-30
+returns-30 : tie.Need-returns-in-OrderNumbers
 unfolding phrase phrases ascii
-returns-30 c = rw c.before.before.before.before.before.enum-told30.given.1 c.before.before.put-text30.ensures
+returns-30 c = rw c.in-OrderNumbers.is c.put_text-in-OrderNumbers.ensures
 
-returns-31 : tie.Need-returns-31
+returns-31 : tie.Need-returns-in-NotPaired
 unfolding phrase phrases ascii
-returns-31 c = rw c.before.before.before.before.before.enum-told31.given.1 c.before.before.put-text31.ensures
+returns-31 c = rw c.in-NotPaired.is c.put_text-in-NotPaired.ensures
 
-pub put-phrase-spec : {M : Type 1} → statement M
-put-phrase-spec =
+pub put_phrase_spec : {M : Type 1} → statement M
+put_phrase_spec =
     tie.close
     (tie.spec
     (λ c. search rules)
+    (λ c κs. search rules)
     (λ c. search rules)
     (λ c κs. search rules)
     (λ c. search rules)
+    (λ c κs. search rules)
     (λ c. search rules)
     (λ c κs. search rules)
     (λ c. search rules)
+    (λ c κs. search rules)
     (λ c. search rules)
     (λ c κs. search rules)
     (λ c. search rules)
+    (λ c κs. search rules)
     (λ c. search rules)
     (λ c κs. search rules)
     (λ c. search rules)
+    (λ c κs. search rules)
     (λ c. search rules)
     (λ c κs. search rules)
     (λ c. search rules)
+    (λ c κs. search rules)
     (λ c. search rules)
     (λ c κs. search rules)
     (λ c. search rules)
+    (λ c κs. search rules)
     (λ c. search rules)
     (λ c κs. search rules)
     (λ c. search rules)
+    (λ c κs. search rules)
     (λ c. search rules)
     (λ c κs. search rules)
     (λ c. search rules)
+    (λ c κs. search rules)
     (λ c. search rules)
     (λ c κs. search rules)
     (λ c. search rules)
+    (λ c κs. search rules)
     (λ c. search rules)
     (λ c κs. search rules)
     (λ c. search rules)
+    (λ c κs. search rules)
     (λ c. search rules)
     (λ c κs. search rules)
     (λ c. search rules)
+    (λ c κs. search rules)
     (λ c. search rules)
     (λ c κs. search rules)
     (λ c. search rules)
+    (λ c κs. search rules)
     (λ c. search rules)
     (λ c κs. search rules)
     (λ c. search rules)
+    (λ c κs. search rules)
     (λ c. search rules)
     (λ c κs. search rules)
     (λ c. search rules)
-    (λ c. search rules)
     (λ c κs. search rules)
     (λ c. search rules)
-    (λ c. search rules)
     (λ c κs. search rules)
-    (λ c. search rules)
-    (λ c. search rules)
-    (λ c κs. search rules)
-    (λ c. search rules)
-    (λ c. search rules)
-    (λ c κs. search rules)
-    (λ c. search rules)
-    (λ c. search rules)
-    (λ c κs. search rules)
-    (λ c. search rules)
-    (λ c. search rules)
-    (λ c κs. search rules)
-    (λ c. search rules)
-    (λ c. search rules)
-    (λ c κs. search rules)
-    (λ c. search rules)
-    (λ c. search rules)
-    (λ c κs. search rules)
-    (λ c. search rules)
-    (λ c. search rules)
-    (λ c κs. search rules)
-    (λ c. search rules)
-    (λ c. search rules)
-    (λ c κs. search rules)
-    (λ c. search rules)
-    (λ c. search rules)
-    (λ c κs. search rules)
-    (λ c. search rules)
-    (λ c. search rules)
-    (λ c κs. search rules)
-    (λ c. search rules)
-    (λ c. search rules)
-    (λ c κs. search rules)
-    (λ c. search rules)
-    (λ c. search rules)
-    (λ c κs. search rules)
-    (λ c. search rules)
-    (λ c. search rules)
-    (λ c κs. search rules)
-    (λ c. search rules)
-    (λ c. search rules)
-    (λ c κs. search rules)
-    (λ c. search rules)
     (λ c. search rules)
     (λ c κs. search rules)
     (λ c. search rules)

@@ -7,13 +7,12 @@ use Rattle.text_phrase.proofs.put_refusal.Tie as tie
 
 returns : tie.Need-returns
 unfolding ascii
-returns c = refusal-put c.before.before.before.before.before.before.before.number.ensures c.before.before.before.before.before.before.put-titled.ensures c.before.before.put-ending.ensures
+returns c = refusal-put c.number.ensures c.put_titled-numbered.ensures c.put_ending.ensures
 
-pub put-refusal-spec : {M : Type 1} → statement M
-put-refusal-spec =
+pub put_refusal_spec : {M : Type 1} → statement M
+put_refusal_spec =
     tie.close
     (tie.spec
-    (λ c. search rules)
     (λ c κs. search rules)
     (λ c. search rules)
     (λ c κs. search rules)

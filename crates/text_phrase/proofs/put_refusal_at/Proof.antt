@@ -7,17 +7,15 @@ use Rattle.text_phrase.proofs.put_refusal_at.Tie as tie
 
 returns : tie.Need-returns
 unfolding ascii
-returns c = refusal-at-put c.before.before.before.before.before.before.before.before.before.before.before.before.number.ensures c.before.before.before.before.before.before.before.before.before.before.before.put-titled.ensures _ c.before.before.before.before.before.before.put-titled2.ensures c.before.before.put-ending.ensures
+returns c = refusal-at-put c.number.ensures c.put_titled-numbered.ensures _ c.put_titled-placed.ensures c.put_ending.ensures
 
-pub put-refusal-at-spec : {M : Type 1} → statement M
-put-refusal-at-spec =
+pub put_refusal_at_spec : {M : Type 1} → statement M
+put_refusal_at_spec =
     tie.close
     (tie.spec
-    (λ c. search rules)
     (λ c κs. search rules)
     (λ c. search rules)
     (λ c κs. search rules)
-    (λ c. search rules)
     (λ c κs. search rules)
     (λ c κs. search rules)
     (λ c. search rules)

@@ -5,11 +5,11 @@ use Rattle.text_put.proofs.Laws.{put_one, put-out}
 use Rattle.text_put.proofs.put_byte.Statement.{statement}
 use Rattle.text_put.proofs.put_byte.Tie as tie
 
-returns : tie.Need-returns
+returns : tie.Need-returns-then-at-buffer
 returns c = put-out _ _ _ (omega arith)
 
-returns-2 : tie.Need-returns-2
+returns-2 : tie.Need-returns
 returns-2 c = put_one _ _ _ (omega arith)
 
-pub put-byte-spec : {M : Type 1} → statement M
-put-byte-spec = tie.close (tie.spec returns (λ c. search rules) (λ c. search rules) (λ c. search rules) returns-2)
+pub put_byte_spec : {M : Type 1} → statement M
+put_byte_spec = tie.close (tie.spec returns (λ c. search rules) (λ c. search rules) (λ c. search rules) returns-2)

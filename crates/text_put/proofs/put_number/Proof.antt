@@ -5,19 +5,19 @@ use Rattle.text_put.proofs.Laws.{put-text, wrote-first, wrote-end, digits-64}
 use Rattle.text_put.proofs.put_number.Statement.{statement}
 use Rattle.text_put.proofs.put_number.Tie as tie
 
-put-decimal-requires : tie.Need-put-decimal-requires
-put-decimal-requires c κs = omega (arith, digits-64 c.before.before.args.n (omega arith))
+put-decimal-requires : tie.Need-put_decimal-end-requires
+put-decimal-requires c κs = omega (arith, digits-64 c.args.n (omega arith))
 
-slice-aggregate-put-text : tie.Need-slice-aggregate-put-text
-slice-aggregate-put-text c = wrote-end c.before.before.before.put-decimal.ensures
+slice-aggregate-put-text : tie.Need-slice_bounds-put_text-end
+slice-aggregate-put-text c = wrote-end c.put_decimal-end.ensures
 
 returns : tie.Need-returns
 returns c =
-    let p = c.before.before in
-    put-text (wrote-first p.before.before.before.before.put-decimal.ensures) p.put-text.ensures
+    let p = c in
+    put-text (wrote-first p.put_decimal-end.ensures) p.put_text.ensures
 
-pub put-number-spec : {M : Type 1} → statement M
-put-number-spec =
+pub put_number_spec : {M : Type 1} → statement M
+put_number_spec =
     tie.close
     (tie.spec
     (λ c. search rules)

@@ -9,26 +9,26 @@ use Rattle.text_put.proofs.Laws.{put-none, copied_more, copied_all}
 use Rattle.text_put.proofs.put_text.Statement.{statement}
 use Rattle.text_put.proofs.put_text.Tie as tie
 
-abbrev invariant-loop : tie.invariant-loop
+abbrev invariant-loop : tie.invariant-loop-i
 invariant-loop buffer₀ at text next₀ i₀ i-end buffer next i = (i-end ≡ length text) × (i ≤ length text) × Put buffer₀ buffer (take i text) at next
 
-abbrev decreases-loop : tie.decreases-loop
+abbrev decreases-loop : tie.decreases-loop-i
 decreases-loop buffer₀ at text next₀ i₀ i-end buffer next i = i-end - i
 
-loop-holds : tie.Need-loop-init invariant-loop decreases-loop
+loop-holds : tie.Need-loop-i-init invariant-loop decreases-loop
 loop-holds c = (search rules, search rules, put-none _ _)
 
-loop-again : tie.Need-loop-preserved invariant-loop decreases-loop
+loop-again : tie.Need-loop-i-preserved invariant-loop decreases-loop
 loop-again c =
-    let p = c.before.before in
-    let l = p.before.before.before.before in
-    (search rules, search rules, copied_more l.before.before.before.args.text.now l.loop.i (omega arith) l.loop.invariant.2 p.put_byte.ensures)
+    let p = c in
+    let l = p in
+    (search rules, search rules, copied_more l.args.text.now l.loop-i.i (omega arith) l.loop-i.invariant.2 p.put_byte-next.ensures)
 
 returns : tie.Need-returns invariant-loop decreases-loop
-returns c = let l = c.before in copied_all l.before.before.before.args.text.now l.loop.i (omega arith) l.loop.invariant.2
+returns c = let l = c in copied_all l.args.text.now l.loop-i.i (omega arith) l.loop-i.invariant.2
 
-pub put-text-spec : {M : Type 1} → statement M
-put-text-spec =
+pub put_text_spec : {M : Type 1} → statement M
+put_text_spec =
     tie.close
     (tie.spec
     invariant-loop

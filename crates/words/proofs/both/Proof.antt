@@ -6,5 +6,5 @@ use Rattle.words.proofs.both.Tie as tie
 returns : tie.Need-returns
 returns c = search machine
 
-pub both-spec : {M : Type 1} → statement M
-both-spec = tie.close (tie.spec returns)
+pub both_spec : {M : Type 1} → statement M
+both_spec = tie.close (tie.spec returns)

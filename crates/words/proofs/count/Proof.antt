@@ -3,7 +3,7 @@ use Rattle.words.proofs.Machine.{machine}
 use Rattle.words.proofs.count.Statement.{statement}
 use Rattle.words.proofs.count.Tie as tie
 
-cast-result : tie.Need-overflow-cast-result
+cast-result : tie.Need-overflow_cast-result
 cast-result c = search machine
 
 returns : tie.Need-returns

@@ -3,5 +3,5 @@ use Rattle.words.proofs.Machine.{machine}
 use Rattle.words.proofs.full.Statement.{statement}
 use Rattle.words.proofs.full.Tie as tie
 
-pub full-spec : {M : Type 1} → statement M
-full-spec = tie.close (tie.spec (λ c. search machine) (λ c. search machine) (λ c. search machine) (λ c. search machine))
+pub full_spec : {M : Type 1} → statement M
+full_spec = tie.close (tie.spec (λ c. search machine) (λ c. search machine) (λ c. search machine) (λ c. search machine))

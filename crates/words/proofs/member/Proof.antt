@@ -3,14 +3,14 @@ use Rattle.words.proofs.Machine.{machine}
 use Rattle.words.proofs.member.Statement.{statement}
 use Rattle.words.proofs.member.Tie as tie
 
-cast-result : tie.Need-overflow-cast-result
+cast-result : tie.Need-overflow_cast-result
 cast-result c = search machine
 
-shr-result : tie.Need-overflow-shr-result
+shr-result : tie.Need-overflow_shr-result
 shr-result c = search machine
 
 returns : tie.Need-returns
 returns c = search machine
 
-pub member-spec : {M : Type 1} → statement M
-member-spec = tie.close (tie.spec cast-result shr-result returns)
+pub member_spec : {M : Type 1} → statement M
+member_spec = tie.close (tie.spec cast-result shr-result returns)

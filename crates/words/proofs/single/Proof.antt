@@ -3,14 +3,14 @@ use Rattle.words.proofs.Machine.{machine}
 use Rattle.words.proofs.single.Statement.{statement}
 use Rattle.words.proofs.single.Tie as tie
 
-cast-result : tie.Need-overflow-cast-result
+cast-result : tie.Need-overflow_cast-result
 cast-result c = search machine
 
-shl-result : tie.Need-overflow-shl-result
+shl-result : tie.Need-overflow_shl-result
 shl-result c = search machine
 
 returns : tie.Need-returns
 returns c = search machine
 
-pub single-spec : {M : Type 1} → statement M
-single-spec = tie.close (tie.spec cast-result shl-result returns)
+pub single_spec : {M : Type 1} → statement M
+single_spec = tie.close (tie.spec cast-result shl-result returns)

@@ -3,5 +3,5 @@ use Rattle.words.proofs.Machine.{machine}
 use Rattle.words.proofs.within.Statement.{statement}
 use Rattle.words.proofs.within.Tie as tie
 
-pub within-spec : {M : Type 1} → statement M
-within-spec = tie.close (tie.spec (λ c. search machine) (λ c. search machine))
+pub within_spec : {M : Type 1} → statement M
+within_spec = tie.close (tie.spec (λ c. search machine) (λ c. search machine))

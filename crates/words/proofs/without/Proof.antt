@@ -6,5 +6,5 @@ use Rattle.words.proofs.without.Tie as tie
 returns : tie.Need-returns
 returns c = search machine
 
-pub without-spec : {M : Type 1} → statement M
-without-spec = tie.close (tie.spec returns)
+pub without_spec : {M : Type 1} → statement M
+without_spec = tie.close (tie.spec returns)

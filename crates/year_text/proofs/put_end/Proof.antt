@@ -9,17 +9,15 @@ use Rattle.year_text.proofs.put_end.Tie as tie
 returns : tie.Need-returns
 unfolding end_line ascii
 returns c =
-    let p2 = c.before.before in
-    let p1 = p2.before.before.before.before.before in
-    put_then p1.put-titled.ensures p2.put-text.ensures
+    let p2 = c in
+    let p1 = p2 in
+    put_then p1.put_titled-counted.ensures p2.put_text.ensures
 
-pub put-end-spec : {M : Type 1} → statement M
-put-end-spec =
+pub put_end_spec : {M : Type 1} → statement M
+put_end_spec =
     tie.close
     (tie.spec
-    (λ c. search rules)
     (λ c κs. search rules)
-    (λ c. search rules)
     (λ c κs. search rules)
     (λ c. search rules)
     returns)

@@ -9,21 +9,18 @@ use Rattle.year_text.proofs.put_fault.Tie as tie
 returns : tie.Need-returns
 unfolding fault_line ascii
 returns c =
-    let p4 = c.before.before in
-    let p3 = p4.before.before.before.before in
-    let p2 = p3.before.before.before.before.before in
-    let p1 = p2.before.before.before.before.before in
-    put_then p1.put-titled.ensures (put_then p2.put-titled2.ensures (put_then p3.put-titled3.ensures p4.put-fault-end.ensures))
+    let p4 = c in
+    let p3 = p4 in
+    let p2 = p3 in
+    let p1 = p2 in
+    put_then p1.put_titled-refused.ensures (put_then p2.put_titled-numbered.ensures (put_then p3.put_titled-placed.ensures p4.put_fault_end.ensures))
 
-pub put-fault-spec : {M : Type 1} → statement M
-put-fault-spec =
+pub put_fault_spec : {M : Type 1} → statement M
+put_fault_spec =
     tie.close
     (tie.spec
-    (λ c. search rules)
     (λ c κs. search rules)
-    (λ c. search rules)
     (λ c κs. search rules)
-    (λ c. search rules)
     (λ c κs. search rules)
     (λ c κs. search rules)
     (λ c. search rules)

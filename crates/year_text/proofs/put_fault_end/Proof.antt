@@ -9,19 +9,17 @@ use Rattle.year_text.proofs.put_fault_end.Tie as tie
 returns : tie.Need-returns
 unfolding fault_end ascii
 returns c =
-    let p3 = c.before.before in
-    let p2 = p3.before.before.before.before.before in
-    let p1 = p2.before.before.before.before in
-    put_then p1.put-text.ensures (put_then p2.put-fault-phrase.ensures p3.put-text2.ensures)
+    let p3 = c in
+    let p2 = p3 in
+    let p1 = p2 in
+    put_then p1.put_text-begun.ensures (put_then p2.put_fault_phrase-said.ensures p3.put_text.ensures)
 
-pub put-fault-end-spec : {M : Type 1} → statement M
-put-fault-end-spec =
+pub put_fault_end_spec : {M : Type 1} → statement M
+put_fault_end_spec =
     tie.close
     (tie.spec
-    (λ c. search rules)
     (λ c κs. search rules)
     (λ c κs. search rules)
-    (λ c. search rules)
     (λ c κs. search rules)
     (λ c. search rules)
     returns)

@@ -7,54 +7,47 @@ use borrow.Author.Rules.{rules}
 use Rattle.year_text.proofs.put_fault_phrase.Statement.{statement}
 use Rattle.year_text.proofs.put_fault_phrase.Tie as tie
 
-returns : tie.Need-returns
+returns : tie.Need-returns-in-101
 unfolding text_phrase ascii if
-returns c = rw c.before.before.before.before.before.match.keys1 c.before.before.put-text.ensures
+returns c = rw c.in-101.is c.put_text.ensures
 
-returns-2 : tie.Need-returns-2
+returns-2 : tie.Need-returns-in-102
 unfolding text_phrase ascii if
-returns-2 c = rw c.before.before.before.before.before.match.keys2 c.before.before.put-text2.ensures
+returns-2 c = rw c.in-102.is c.put_text-in-102.ensures
 
-returns-3 : tie.Need-returns-3
+returns-3 : tie.Need-returns-in-103
 unfolding text_phrase ascii if
-returns-3 c = rw c.before.before.before.before.before.match.keys3 c.before.before.put-text3.ensures
+returns-3 c = rw c.in-103.is c.put_text-in-103.ensures
 
-returns-4 : tie.Need-returns-4
+returns-4 : tie.Need-returns-in-104
 unfolding text_phrase ascii if
-returns-4 c = rw c.before.before.before.before.before.match.keys4 c.before.before.put-text4.ensures
+returns-4 c = rw c.in-104.is c.put_text-in-104.ensures
 
-returns-5 : tie.Need-returns-5
+returns-5 : tie.Need-returns-in-105
 unfolding text_phrase ascii if
-returns-5 c = rw c.before.before.before.before.before.match.keys5 c.before.before.put-text5.ensures
+returns-5 c = rw c.in-105.is c.put_text-in-105.ensures
 
-returns-6 : tie.Need-returns-6
+returns-6 : tie.Need-returns-in-106
 unfolding text_phrase ascii if
-returns-6 c = rw c.before.before.before.before.before.match.keys6 c.before.before.put-text6.ensures
+returns-6 c = rw c.in-106.is c.put_text-in-106.ensures
 
-returns-7 : tie.Need-returns-7
+returns-7 : tie.Need-returns-in_default
 unfolding text_phrase ascii if
 returns-7 c =
-    let r = c.before.before.before.before.before.match.rest in
+    let r = c.in_default.in_default-own.rest in
     simp (ne_eqb _ _ r.0.0.0.0.0.1, ne_eqb _ _ r.0.0.0.0.1, ne_eqb _ _ r.0.0.0.1, ne_eqb _ _ r.0.0.1, ne_eqb _ _ r.0.1, ne_eqb _ _ r.1)
-    c.before.before.put-text7.ensures
+    c.put_text-in_default.ensures
 
-pub put-fault-phrase-spec : {M : Type 1} → statement M
-put-fault-phrase-spec =
+pub put_fault_phrase_spec : {M : Type 1} → statement M
+put_fault_phrase_spec =
     tie.close
     (tie.spec
-    (λ c. search rules)
     (λ c κs. search rules)
-    (λ c. search rules)
     (λ c κs. search rules)
-    (λ c. search rules)
     (λ c κs. search rules)
-    (λ c. search rules)
     (λ c κs. search rules)
-    (λ c. search rules)
     (λ c κs. search rules)
-    (λ c. search rules)
     (λ c κs. search rules)
-    (λ c. search rules)
     (λ c κs. search rules)
     (λ c. search rules)
     returns

@@ -10,42 +10,36 @@ use Rattle.year_text.proofs.put_first.Tie as tie
 returns : tie.Need-returns
 unfolding first_line ascii
 returns c =
-    let p6 = c.before.before in
-    let p5 = p6.before.before.before.before.before in
-    let p4 = p5.before.before.before.before.before in
-    let p3 = p4.before.before.before.before.before.before in
-    let p2 = p3.before.before.before.before.before.before in
-    let p1 = p2.before.before.before.before.before.before in
-    put_then p1.put-titled.ensures (put_then p2.put-titled2.ensures (put_then p3.put-titled3.ensures (put_then p4.put-titled4.ensures (put_then p5.put-titled5.ensures p6.put-text.ensures))))
+    let p6 = c in
+    let p5 = p6 in
+    let p4 = p5 in
+    let p3 = p4 in
+    let p2 = p3 in
+    let p1 = p2 in
+    put_then p1.put_titled-numbered.ensures (put_then p2.put_titled-binned.ensures (put_then p3.put_titled-valued.ensures (put_then p4.put_titled-counted.ensures (put_then p5.put_titled-wanted.ensures p6.put_text.ensures))))
 
-same_length : tie.Need-same-length
+same_length : tie.Need-shape_of-buffer
 same_length c =
-    let p6 = c.before.before in
-    let p5 = p6.before.before.before.before.before in
-    let p4 = p5.before.before.before.before.before in
-    let p3 = p4.before.before.before.before.before.before in
-    let p2 = p3.before.before.before.before.before.before in
-    let p1 = p2.before.before.before.before.before.before in
-    omega (arith, p1.put-titled.ensures.keeps, p2.put-titled2.ensures.keeps, p3.put-titled3.ensures.keeps, p4.put-titled4.ensures.keeps, p5.put-titled5.ensures.keeps, p6.put-text.ensures.keeps)
+    let p6 = c in
+    let p5 = p6 in
+    let p4 = p5 in
+    let p3 = p4 in
+    let p2 = p3 in
+    let p1 = p2 in
+    omega (arith, p1.put_titled-numbered.ensures.keeps, p2.put_titled-binned.ensures.keeps, p3.put_titled-valued.ensures.keeps, p4.put_titled-counted.ensures.keeps, p5.put_titled-wanted.ensures.keeps, p6.put_text.ensures.keeps)
 
-pub put-first-spec : {M : Type 1} → statement M
-put-first-spec =
+pub put_first_spec : {M : Type 1} → statement M
+put_first_spec =
     tie.close
     (tie.spec
-    (λ c. search rules)
     (λ c κs. search rules)
-    (λ c. search rules)
-    (λ c. search rules)
-    (λ c κs. search rules)
-    (λ c. search rules)
-    (λ c. search rules)
-    (λ c κs. search rules)
-    (λ c. search rules)
     (λ c. search rules)
     (λ c κs. search rules)
     (λ c. search rules)
     (λ c κs. search rules)
     (λ c. search rules)
+    (λ c κs. search rules)
+    (λ c κs. search rules)
     (λ c κs. search rules)
     same_length
     returns)

@@ -9,18 +9,16 @@ use Rattle.year_text.proofs.put_not_in_stock.Tie as tie
 returns : tie.Need-returns
 unfolding refused_line ascii
 returns c =
-    let p3 = c.before.before in
-    let p2 = p3.before.before.before.before in
-    let p1 = p2.before.before.before.before.before in
-    put_then p1.put-titled.ensures (put_then p2.put-titled2.ensures p3.put-phrase-end.ensures)
+    let p3 = c in
+    let p2 = p3 in
+    let p1 = p2 in
+    put_then p1.put_titled-refused.ensures (put_then p2.put_titled-numbered.ensures p3.put_phrase_end.ensures)
 
-pub put-not-in-stock-spec : {M : Type 1} → statement M
-put-not-in-stock-spec =
+pub put_not_in_stock_spec : {M : Type 1} → statement M
+put_not_in_stock_spec =
     tie.close
     (tie.spec
-    (λ c. search rules)
     (λ c κs. search rules)
-    (λ c. search rules)
     (λ c κs. search rules)
     (λ c κs. search rules)
     (λ c. search rules)

@@ -9,19 +9,17 @@ use Rattle.year_text.proofs.put_phrase_end.Tie as tie
 returns : tie.Need-returns
 unfolding phrase_end ascii
 returns c =
-    let p3 = c.before.before in
-    let p2 = p3.before.before.before.before.before in
-    let p1 = p2.before.before.before.before in
-    put_then p1.put-text.ensures (put_then p2.put-phrase.ensures p3.put-text2.ensures)
+    let p3 = c in
+    let p2 = p3 in
+    let p1 = p2 in
+    put_then p1.put_text-begun.ensures (put_then p2.put_phrase-said.ensures p3.put_text.ensures)
 
-pub put-phrase-end-spec : {M : Type 1} → statement M
-put-phrase-end-spec =
+pub put_phrase_end_spec : {M : Type 1} → statement M
+put_phrase_end_spec =
     tie.close
     (tie.spec
-    (λ c. search rules)
     (λ c κs. search rules)
     (λ c κs. search rules)
-    (λ c. search rules)
     (λ c κs. search rules)
     (λ c. search rules)
     returns)

@@ -9,23 +9,19 @@ use Rattle.year_text.proofs.put_short.Tie as tie
 returns : tie.Need-returns
 unfolding short_entries ascii
 returns c =
-    let p4 = c.before.before in
-    let p3 = p4.before.before.before.before.before in
-    let p2 = p3.before.before.before.before.before in
-    let p1 = p2.before.before.before.before.before in
-    put_then p1.put-titled.ensures (put_then p2.put-titled2.ensures (put_then p3.put-titled3.ensures p4.put-text.ensures))
+    let p4 = c in
+    let p3 = p4 in
+    let p2 = p3 in
+    let p1 = p2 in
+    put_then p1.put_titled-binned.ensures (put_then p2.put_titled-valued.ensures (put_then p3.put_titled-counted.ensures p4.put_text.ensures))
 
-pub put-short-spec : {M : Type 1} → statement M
-put-short-spec =
+pub put_short_spec : {M : Type 1} → statement M
+put_short_spec =
     tie.close
     (tie.spec
-    (λ c. search rules)
     (λ c κs. search rules)
-    (λ c. search rules)
     (λ c κs. search rules)
-    (λ c. search rules)
     (λ c κs. search rules)
-    (λ c. search rules)
     (λ c κs. search rules)
     (λ c. search rules)
     returns)

@@ -9,26 +9,22 @@ use Rattle.year_text.proofs.put_too_low.Tie as tie
 returns : tie.Need-returns
 unfolding short_line ascii
 returns c =
-    let p5 = c.before.before in
-    let p4 = p5.before.before.before.before in
-    let p3 = p4.before.before.before.before.before.before in
-    let p2 = p3.before.before.before.before.before.before in
-    let p1 = p2.before.before.before.before.before.before in
-    put_then p1.put-titled.ensures (put_then p2.put-titled2.ensures (put_then p3.put-titled3.ensures (put_then p4.put-titled4.ensures p5.put-phrase-end.ensures)))
+    let p5 = c in
+    let p4 = p5 in
+    let p3 = p4 in
+    let p2 = p3 in
+    let p1 = p2 in
+    put_then p1.put_titled-numbered.ensures (put_then p2.put_titled-binned.ensures (put_then p3.put_titled-valued.ensures (put_then p4.put_titled-counted.ensures p5.put_phrase_end.ensures)))
 
-pub put-too-low-spec : {M : Type 1} → statement M
-put-too-low-spec =
+pub put_too_low_spec : {M : Type 1} → statement M
+put_too_low_spec =
     tie.close
     (tie.spec
+    (λ c κs. search rules)
     (λ c. search rules)
     (λ c κs. search rules)
     (λ c. search rules)
-    (λ c. search rules)
     (λ c κs. search rules)
-    (λ c. search rules)
-    (λ c. search rules)
-    (λ c κs. search rules)
-    (λ c. search rules)
     (λ c. search rules)
     (λ c κs. search rules)
     (λ c κs. search rules)

@@ -13,27 +13,27 @@ use Rattle.pairs.proofs.Runs.{bit-joins, hits-is}
 use Rattle.pairs.proofs.run.hits.Statement.{statement}
 use Rattle.pairs.proofs.run.hits.Tie as tie
 
-abbrev invariant-loop : tie.invariant-loop
+abbrev invariant-loop : tie.invariant-loop-a
 invariant-loop rows at set members₀ a₀ members a =
     (a ≤ 32) × (members ≡ word a (λ (a : ℕ). some 32 (λ (v : ℕ). and (has (get_or rows (at + a) 0) v) (has set v))))
 
-abbrev decreases-loop : tie.decreases-loop
+abbrev decreases-loop : tie.decreases-loop-a
 decreases-loop rows at set members₀ a₀ members a = 32 - a
 
-loop-holds : tie.Need-loop-init invariant-loop decreases-loop
+loop-holds : tie.Need-loop-a-init invariant-loop decreases-loop
 loop-holds c = (omega arith, sym (word-zero _))
 
-loop-again : tie.Need-loop-preserved invariant-loop decreases-loop
+loop-again : tie.Need-loop-a-preserved invariant-loop decreases-loop
 loop-again c = (
   omega arith,
-  bit-joins (2 ^ 32) _ _ (pow_mono {j = 32} (omega arith)) c.before.before.before.loop.invariant.1 c.meets.ensures,
+  bit-joins (2 ^ 32) _ _ (pow_mono {j = 32} (omega arith)) c.loop-a.invariant.1 c.meets.ensures,
 )
 
 returns : tie.Need-returns invariant-loop decreases-loop
-returns c = hits-is 32 _ _ _ (omega arith) c.before.loop.invariant.1
+returns c = hits-is 32 _ _ _ (omega arith) c.loop-a.invariant.1
 
-pub hits-spec : {M : Type 1} → statement M
-hits-spec =
+pub hits_spec : {M : Type 1} → statement M
+hits_spec =
     tie.close
     (tie.spec
     invariant-loop

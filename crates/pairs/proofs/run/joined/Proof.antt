@@ -12,10 +12,10 @@ use Rattle.pairs.proofs.Runs.{join-none, join_more}
 use Rattle.pairs.proofs.run.joined.Statement.{statement}
 use Rattle.pairs.proofs.run.joined.Tie as tie
 
-abbrev invariant-loop : tie.invariant-loop
+abbrev invariant-loop : tie.invariant-loop-k
 invariant-loop rows at end all₀ k₀ all k = (at ≤ k) × (k ≤ end) × (all ≡ join_of 32 rows at (k - at))
 
-abbrev decreases-loop : tie.decreases-loop
+abbrev decreases-loop : tie.decreases-loop-k
 decreases-loop rows at end all₀ k₀ all k = end - k
 
 joins : (rows : List ℕ) (at : ℕ) {n m all : ℕ} → n ≡ m → all ≡ join_of 32 rows at n → all ≡ join_of 32 rows at m
@@ -26,19 +26,19 @@ next : (rows : List ℕ) (at : ℕ) {k : ℕ} (n : ℕ) {all r : ℕ} → at + n
     → r ≡ join_of 32 rows at (k + 1 - at)
 next rows at n {all} {r} e h q = joins rows at (omega arith) (join_more 32 rows at n all r h (rw e q))
 
-loop-holds : tie.Need-loop-init invariant-loop decreases-loop
+loop-holds : tie.Need-loop-k-init invariant-loop decreases-loop
 loop-holds c = (omega arith, omega arith, joins _ _ (omega arith) (join-none 32 _ _))
 
-loop-again : tie.Need-loop-preserved invariant-loop decreases-loop
+loop-again : tie.Need-loop-k-preserved invariant-loop decreases-loop
 loop-again c =
-    let i = c.before.before.before.loop.invariant in
-    (omega arith, omega arith, next _ _ _ (omega arith) i.2 c.either.ensures)
+    let i = c.loop-k.invariant in
+    (omega arith, omega arith, next _ _ _ (omega arith) i.2 c.either-all.ensures)
 
 returns : tie.Need-returns invariant-loop decreases-loop
-returns c = joins _ _ (omega arith) c.before.loop.invariant.2
+returns c = joins _ _ (omega arith) c.loop-k.invariant.2
 
-pub joined-spec : {M : Type 1} → statement M
-joined-spec =
+pub joined_spec : {M : Type 1} → statement M
+joined_spec =
     tie.close
     (tie.spec
     invariant-loop

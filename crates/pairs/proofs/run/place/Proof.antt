@@ -11,8 +11,8 @@ returns : tie.Need-returns
 unfolding slot
 returns c = let h = room 32 _ _ c.requires.0 c.requires.1 in (omega arith, omega (arith, h))
 
-pub place-spec : {M : Type 1} → statement M
-place-spec =
+pub place_spec : {M : Type 1} → statement M
+place_spec =
     tie.close
     (tie.spec
     (λ c. search rules)

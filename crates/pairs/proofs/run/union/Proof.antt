@@ -10,38 +10,38 @@ use Rattle.pairs.proofs.Runs.{union_but, Within, union-none, union-all, union-st
 use Rattle.pairs.proofs.run.union.Statement.{statement}
 use Rattle.pairs.proofs.run.union.Tie as tie
 
-abbrev invariant-loop : tie.invariant-loop
+abbrev invariant-loop : tie.invariant-loop-rest
 invariant-loop rows at set all₀ rest₀ all rest = (rest < 2 ^ 32) × Within rest set × (all ≡ union_but 32 rows at set rest)
 
-abbrev decreases-loop : tie.decreases-loop
+abbrev decreases-loop : tie.decreases-loop-rest
 decreases-loop rows at set all₀ rest₀ all rest = count 32 (has rest)
 
-loop-holds : tie.Need-loop-init invariant-loop decreases-loop
+loop-holds : tie.Need-loop-rest-init invariant-loop decreases-loop
 loop-holds c = (c.ranges.set.fits, (λ u t. t), union-none 32 _ _ _)
 
 -- The value taken is in the rest.
-found : (c : tie.After-lowest invariant-loop decreases-loop) → (c.lowest.result < 32) × (has c.before.before.loop.rest c.lowest.result ≡ true)
-found c = lowest-in 32 _ _ c.before.before.loop.invariant.0 c.before.loop-test.true c.lowest.ensures
+found : (c : tie.After-lowest-a invariant-loop decreases-loop) → (c.lowest-a.result < 32) × (has c.loop-rest.rest c.lowest-a.result ≡ true)
+found c = lowest-in 32 _ _ c.loop-rest.invariant.0 c.loop-rest-test.true c.lowest-a.ensures
 
-loop-less : tie.Need-loop-smaller invariant-loop decreases-loop
+loop-less : tie.Need-loop-rest-smaller invariant-loop decreases-loop
 loop-less c =
-    let at = c.before.before.before in
-    rest-less 32 at.before.before.loop.invariant.0 at.before.loop-test.true at.lowest.ensures c.dropped.ensures
+    let at = c in
+    rest-less 32 at.loop-rest.invariant.0 at.loop-rest-test.true at.lowest-a.ensures c.dropped-rest.ensures
 
-loop-again : tie.Need-loop-preserved invariant-loop decreases-loop
+loop-again : tie.Need-loop-rest-preserved invariant-loop decreases-loop
 loop-again c =
-    let at = c.before.before.before in
-    let i = at.before.before.loop.invariant in
-    let n = at.before.loop-test.true in
-    let low = at.lowest.ensures in
-    let re = c.dropped.ensures in
-    (rest_lt 32 i.0 n low re, rest-within 32 i.0 n low re _ i.1, union-step 32 _ _ _ i.0 n low re i.1 i.2 c.before.either.ensures)
+    let at = c in
+    let i = at.loop-rest.invariant in
+    let n = at.loop-rest-test.true in
+    let low = at.lowest-a.ensures in
+    let re = c.dropped-rest.ensures in
+    (rest_lt 32 i.0 n low re, rest-within 32 i.0 n low re _ i.1, union-step 32 _ _ _ i.0 n low re i.1 i.2 c.either-all.ensures)
 
 returns : tie.Need-returns invariant-loop decreases-loop
-returns c = union-all 32 _ _ _ c.loop-test.false c.before.loop.invariant.2
+returns c = union-all 32 _ _ _ c.loop-rest-test.false c.loop-rest.invariant.2
 
-pub union-spec : {M : Type 1} → statement M
-union-spec =
+pub union_spec : {M : Type 1} → statement M
+union_spec =
     tie.close
     (tie.spec
     invariant-loop
@@ -50,7 +50,7 @@ union-spec =
     (λ c κs. search rules)
     (λ c. let l = (found c).0 in search rules)
     (λ c. let l = (found c).0 in search rules)
-    (λ c. let l = (found c).0 in search rules)
+    (λ c. let l = (found c.before).0 in search rules)
     (λ c κs. search rules)
     (λ c κs. search rules)
     loop-less

@@ -17,10 +17,10 @@ at_place e h = rw e h
 
 returns : tie.Need-returns
 returns c =
-    let p = c.before.requires in
-    at_place c.place.ensures.0 (row_put 32 _ _ p.0 p.1 p.2 p.3 c.before.ranges.x.fits)
+    let p = c.requires in
+    at_place c.place.ensures.0 (row_put 32 _ _ p.0 p.1 p.2 p.3 c.ranges.x.fits)
 
-pub put-row-spec : {M : Type 1} → statement M
-put-row-spec =
+pub put_row_spec : {M : Type 1} → statement M
+put_row_spec =
     tie.close
     (tie.spec (λ c κs. search rules) (λ c. search rules) (λ c. search rules) (λ c. search rules) returns)

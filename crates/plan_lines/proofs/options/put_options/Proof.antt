@@ -9,25 +9,25 @@ use Rattle.text_put.proofs.Laws.{each_none, each_more}
 use Rattle.plan_lines.proofs.options.put_options.Statement.{statement}
 use Rattle.plan_lines.proofs.options.put_options.Tie as tie
 
-abbrev invariant-loop : tie.invariant-loop
+abbrev invariant-loop : tie.invariant-loop-i
 invariant-loop buffer₀ at n leaders lists next₀ i₀ buffer next i = (i ≤ n) × Put buffer₀ buffer (option_lines leaders lists i) at next
 
-abbrev decreases-loop : tie.decreases-loop
+abbrev decreases-loop : tie.decreases-loop-i
 decreases-loop buffer₀ at n leaders lists next₀ i₀ buffer next i = n - i
 
-loop-holds : tie.Need-loop-init invariant-loop decreases-loop
+loop-holds : tie.Need-loop-i-init invariant-loop decreases-loop
 unfolding option_lines
 loop-holds c = (search rules, each_none _ _ _)
 
-loop-again : tie.Need-loop-preserved invariant-loop decreases-loop
+loop-again : tie.Need-loop-i-preserved invariant-loop decreases-loop
 unfolding option_lines
-loop-again c = (search rules, each_more _ _ c.before.before.before.before.before.before.before.loop.invariant.1 c.before.before.put-option.ensures)
+loop-again c = (search rules, each_more _ _ c.loop-i.invariant.1 c.put_option-next.ensures)
 
 returns : tie.Need-returns invariant-loop decreases-loop
-returns c = let e : c.before.loop.i ≡ c.before.before.before.args.n = omega arith in rw e at c.before.loop.invariant.1
+returns c = let e : c.loop-i.i ≡ c.args.n = omega arith in rw e at c.loop-i.invariant.1
 
-pub put-options-spec : {M : Type 1} → statement M
-put-options-spec =
+pub put_options_spec : {M : Type 1} → statement M
+put_options_spec =
     tie.close
     (tie.spec
     invariant-loop

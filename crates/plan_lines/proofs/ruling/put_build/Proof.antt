@@ -9,25 +9,25 @@ use Rattle.text_put.proofs.Laws.{put-text, each_none, each_more}
 use Rattle.plan_lines.proofs.ruling.put_build.Statement.{statement}
 use Rattle.plan_lines.proofs.ruling.put_build.Tie as tie
 
-abbrev invariant-loop : tie.invariant-loop
+abbrev invariant-loop : tie.invariant-loop-i
 invariant-loop buffer₀ at n build next₀ i₀ buffer next i = (i ≤ n) × Put buffer₀ buffer (build_texts build i) at next
 
-abbrev decreases-loop : tie.decreases-loop
+abbrev decreases-loop : tie.decreases-loop-i
 decreases-loop buffer₀ at n build next₀ i₀ buffer next i = n - i
 
-loop-holds : tie.Need-loop-init invariant-loop decreases-loop
+loop-holds : tie.Need-loop-i-init invariant-loop decreases-loop
 unfolding build_texts
 loop-holds c = (search rules, each_none _ _ _)
 
-loop-again : tie.Need-loop-preserved invariant-loop decreases-loop
+loop-again : tie.Need-loop-i-preserved invariant-loop decreases-loop
 unfolding build_texts
-loop-again c = (search rules, each_more _ _ c.before.before.before.before.before.before.before.loop.invariant.1 (put-text (ap spaced c.before.before.before.wide.ensures) c.before.before.put-spaced.ensures))
+loop-again c = (search rules, each_more _ _ c.loop-i.invariant.1 (put-text (ap spaced c.wide.ensures) c.put_spaced-next.ensures))
 
 returns : tie.Need-returns invariant-loop decreases-loop
-returns c = let e : c.before.loop.i ≡ c.before.before.before.args.n = omega arith in rw e at c.before.loop.invariant.1
+returns c = let e : c.loop-i.i ≡ c.args.n = omega arith in rw e at c.loop-i.invariant.1
 
-pub put-build-spec : {M : Type 1} → statement M
-put-build-spec =
+pub put_build_spec : {M : Type 1} → statement M
+put_build_spec =
     tie.close
     (tie.spec
     invariant-loop

@@ -8,16 +8,14 @@ use Rattle.plan_lines.proofs.ruling.put_built.Tie as tie
 
 returns : tie.Need-returns
 unfolding built_text ascii
-returns c = put_then c.before.before.before.before.before.before.before.before.before.before.before.put-text.ensures (put_then c.before.before.before.before.before.before.before.put-build.ensures c.before.before.put-text2.ensures)
+returns c = put_then c.put_text-titled.ensures (put_then c.put_build-built.ensures c.put_text.ensures)
 
-pub put-built-spec : {M : Type 1} → statement M
-put-built-spec =
+pub put_built_spec : {M : Type 1} → statement M
+put_built_spec =
     tie.close
     (tie.spec
-    (λ c. search rules)
     (λ c κs. search rules)
     (λ c κs. search rules)
-    (λ c. search rules)
     (λ c κs. search rules)
     (λ c. search rules)
     returns)

@@ -8,13 +8,12 @@ use Rattle.plan_lines.proofs.ruling.put_refused.Tie as tie
 
 returns : tie.Need-returns
 unfolding refused_text ascii
-returns c = put_then c.before.before.before.before.before.before.put-text.ensures c.before.before.put-refusal.ensures
+returns c = put_then c.put_text-spaced.ensures c.put_refusal.ensures
 
-pub put-refused-spec : {M : Type 1} → statement M
-put-refused-spec =
+pub put_refused_spec : {M : Type 1} → statement M
+put_refused_spec =
     tie.close
     (tie.spec
-    (λ c. search rules)
     (λ c κs. search rules)
     (λ c κs. search rules)
     (λ c. search rules)

@@ -5,10 +5,10 @@ use Rattle.plan_lines.proofs.stock.idle_word.Statement.{statement}
 use Rattle.plan_lines.proofs.stock.idle_word.Tie as tie
 
 returns : tie.Need-returns
-returns c = idle-is _ _ c.before.before.wide.ensures c.before.full.ensures c.without.ensures
+returns c = idle-is _ _ c.wide.ensures c.full.ensures c.without.ensures
 
-pub idle-word-spec : {M : Type 1} → statement M
-idle-word-spec =
+pub idle_word_spec : {M : Type 1} → statement M
+idle_word_spec =
     tie.close
     (tie.spec
     (λ c κs. search rules)

@@ -9,29 +9,29 @@ use Rattle.text_put.proofs.Laws.{each_none, each_more}
 use Rattle.plan_lines.proofs.stock.put_idle.Statement.{statement}
 use Rattle.plan_lines.proofs.stock.put_idle.Tie as tie
 
-abbrev invariant-loop : tie.invariant-loop
+abbrev invariant-loop : tie.invariant-loop-i
 invariant-loop buffer₀ at n sizes words next₀ i₀ buffer next i = (i ≤ n) × Put buffer₀ buffer (idle_lines sizes words i) at next
 
-abbrev decreases-loop : tie.decreases-loop
+abbrev decreases-loop : tie.decreases-loop-i
 decreases-loop buffer₀ at n sizes words next₀ i₀ buffer next i = n - i
 
-loop-holds : tie.Need-loop-init invariant-loop decreases-loop
+loop-holds : tie.Need-loop-i-init invariant-loop decreases-loop
 unfolding idle_lines
 loop-holds c = (search rules, each_none _ _ _)
 
-put-idle-line-requires : tie.Need-put-idle-line-requires invariant-loop decreases-loop
+put-idle-line-requires : tie.Need-put_idle_line-next-requires invariant-loop decreases-loop
 put-idle-line-requires c κs =
-    let l = c.before.before.before.before in (search rules, l.before.before.requires.1 l.loop.i)
+    let l = c in (search rules, l.requires.1 l.loop-i.i)
 
-loop-again : tie.Need-loop-preserved invariant-loop decreases-loop
+loop-again : tie.Need-loop-i-preserved invariant-loop decreases-loop
 unfolding idle_lines
-loop-again c = (search rules, each_more _ _ c.before.before.before.before.before.before.before.loop.invariant.1 c.before.before.put-idle-line.ensures)
+loop-again c = (search rules, each_more _ _ c.loop-i.invariant.1 c.put_idle_line-next.ensures)
 
 returns : tie.Need-returns invariant-loop decreases-loop
-returns c = let e : c.before.loop.i ≡ c.before.before.before.args.n = omega arith in rw e at c.before.loop.invariant.1
+returns c = let e : c.loop-i.i ≡ c.args.n = omega arith in rw e at c.loop-i.invariant.1
 
-pub put-idle-spec : {M : Type 1} → statement M
-put-idle-spec =
+pub put_idle_spec : {M : Type 1} → statement M
+put_idle_spec =
     tie.close
     (tie.spec
     invariant-loop

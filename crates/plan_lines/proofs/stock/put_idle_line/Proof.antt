@@ -9,13 +9,12 @@ use Rattle.plan_lines.proofs.stock.put_idle_line.Tie as tie
 
 returns : tie.Need-returns
 unfolding idle_line ascii
-returns c = put-text (ap (stock_line (ascii "IDLE ") _) c.before.before.before.idle-word.ensures) c.before.before.put-stock-line.ensures
+returns c = put-text (ap (stock_line (ascii "IDLE ") _) c.idle_word.ensures) c.put_stock_line.ensures
 
-pub put-idle-line-spec : {M : Type 1} → statement M
-put-idle-line-spec =
+pub put_idle_line_spec : {M : Type 1} → statement M
+put_idle_line_spec =
     tie.close
     (tie.spec
-    (λ c. search rules)
     (λ c κs. search rules)
     (λ c κs. search rules)
     (λ c. search rules)

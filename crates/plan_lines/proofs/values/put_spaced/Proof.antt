@@ -7,13 +7,12 @@ use Rattle.plan_lines.proofs.values.put_spaced.Tie as tie
 
 returns : tie.Need-returns
 unfolding spaced ascii
-returns c = c.before.before.put-titled.ensures
+returns c = c.put_titled.ensures
 
-pub put-spaced-spec : {M : Type 1} → statement M
-put-spaced-spec =
+pub put_spaced_spec : {M : Type 1} → statement M
+put_spaced_spec =
     tie.close
     (tie.spec
-    (λ c. search rules)
     (λ c κs. search rules)
     (λ c. search rules)
     returns)

@@ -7,14 +7,14 @@ use Rattle.plan_lines.proofs.Laws.{value_in, value_out}
 use Rattle.plan_lines.proofs.values.put_value.Statement.{statement}
 use Rattle.plan_lines.proofs.values.put_value.Tie as tie
 
-returns : tie.Need-returns
-returns c = rw (value_out _ _ (sym c.before.member.ensures ∙ not-true _ c.if1.true)) (put-none _ _)
+returns : tie.Need-returns-then-not-member
+returns c = rw (value_out _ _ (sym c.member.ensures ∙ c.if-not-member.true)) (put-none _ _)
 
-returns-2 : tie.Need-returns-2
-returns-2 c = rw (value_in _ _ (sym c.before.before.before.before.before.member.ensures ∙ not-false _ c.before.before.before.before.if1.false)) c.before.before.put-spaced.ensures
+returns-2 : tie.Need-returns
+returns-2 c = rw (value_in _ _ (sym c.member.ensures ∙ c.if-not-member.false)) c.put_spaced.ensures
 
-pub put-value-spec : {M : Type 1} → statement M
-put-value-spec =
+pub put_value_spec : {M : Type 1} → statement M
+put_value_spec =
     tie.close
     (tie.spec
     (λ c κs. search rules)

@@ -10,23 +10,23 @@ use Rattle.plan_lines.specs.Lines.{value_among}
 use Rattle.plan_lines.proofs.values.put_values.Statement.{statement}
 use Rattle.plan_lines.proofs.values.put_values.Tie as tie
 
-abbrev invariant-loop : tie.invariant-loop
+abbrev invariant-loop : tie.invariant-loop-v
 invariant-loop buffer₀ at x next₀ v₀ buffer next v = (v ≤ 32) × Put buffer₀ buffer (each (value_among x) v) at next
 
-abbrev decreases-loop : tie.decreases-loop
+abbrev decreases-loop : tie.decreases-loop-v
 decreases-loop buffer₀ at x next₀ v₀ buffer next v = 32 - v
 
-loop-holds : tie.Need-loop-init invariant-loop decreases-loop
+loop-holds : tie.Need-loop-v-init invariant-loop decreases-loop
 loop-holds c = (search rules, each_none _ _ _)
 
-loop-again : tie.Need-loop-preserved invariant-loop decreases-loop
-loop-again c = (search rules, each_more _ _ c.before.before.before.before.before.loop.invariant.1 c.before.before.put-value.ensures)
+loop-again : tie.Need-loop-v-preserved invariant-loop decreases-loop
+loop-again c = (search rules, each_more _ _ c.loop-v.invariant.1 c.put_value-next.ensures)
 
 returns : tie.Need-returns invariant-loop decreases-loop
-returns c = let e : c.before.loop.v ≡ 32 = omega arith in rw e at c.before.loop.invariant.1
+returns c = let e : c.loop-v.v ≡ 32 = omega arith in rw e at c.loop-v.invariant.1
 
-pub put-values-spec : {M : Type 1} → statement M
-put-values-spec =
+pub put_values_spec : {M : Type 1} → statement M
+put_values_spec =
     tie.close
     (tie.spec
     invariant-loop

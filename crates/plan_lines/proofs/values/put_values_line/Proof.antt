@@ -8,18 +8,16 @@ use Rattle.plan_lines.proofs.values.put_values_line.Tie as tie
 
 returns : tie.Need-returns
 unfolding values_line ascii
-returns c = put_then c.before.before.before.before.before.before.before.before.before.before.before.before.before.before.before.before.put-titled.ensures (put_then c.before.before.before.before.before.before.before.before.before.before.before.put-text.ensures (put_then c.before.before.before.before.before.before.before.put-values.ensures c.before.before.put-text2.ensures))
+returns c = put_then c.put_titled-named.ensures (put_then c.put_text-titled.ensures (put_then c.put_values-listed.ensures c.put_text.ensures))
 
-pub put-values-line-spec : {M : Type 1} → statement M
-put-values-line-spec =
+pub put_values_line_spec : {M : Type 1} → statement M
+put_values_line_spec =
     tie.close
     (tie.spec
     (λ c. search rules)
     (λ c κs. search rules)
-    (λ c. search rules)
     (λ c κs. search rules)
     (λ c κs. search rules)
-    (λ c. search rules)
     (λ c κs. search rules)
     (λ c. search rules)
     returns)

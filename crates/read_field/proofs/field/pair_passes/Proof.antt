@@ -6,5 +6,5 @@ use Rattle.read_field.proofs.field.pair_passes.Tie as tie
 returns : tie.Need-returns
 returns c = pair-decided _ _ _
 
-pub pair-passes-spec : {M : Type 1} → statement M
-pair-passes-spec = tie.close (tie.spec returns)
+pub pair_passes_spec : {M : Type 1} → statement M
+pair_passes_spec = tie.close (tie.spec returns)

@@ -7,27 +7,27 @@ use Rattle.read_field.proofs.Fields.{field_cut, field-fault, field-fine, within-
 use Rattle.read_field.proofs.field.row_field.Statement.{statement}
 use Rattle.read_field.proofs.field.row_field.Tie as tie
 
-returns : tie.Need-returns
-returns c = field_cut c.before.before.args.k _ _ _ (omega arith)
+returns : tie.Need-returns-then-bytes-next
+returns c = field_cut c.args.k _ _ _ (omega arith)
 
-returns-2 : tie.Need-returns-2
+returns-2 : tie.Need-returns-then-not-within
 returns-2 c =
-    field-fault c.before.before.before.before.before.args.k _ _ _ c.before.before.number.ensures (omega arith)
-    (within-fault 32 _ _ _ (omega arith) (sym c.before.within.ensures ∙ not-true _ c.if2.true))
+    field-fault c.args.k _ _ _ c.number-row.ensures (omega arith)
+    (within-fault 32 _ _ _ (omega arith) (sym c.within.ensures ∙ c.if-not-within.true))
 
-returns-3 : tie.Need-returns-3
+returns-3 : tie.Need-returns-then-filled-row
 returns-3 c =
-    let test = c.before in
-    field-fault test.before.before.before.before.before.args.k _ _ _ test.before.before.number.ensures (omega arith)
-    (blank-fault 32 _ _ _ (omega arith) c.if3.true)
+    let test = c in
+    field-fault test.args.k _ _ _ test.number-row.ensures (omega arith)
+    (blank-fault 32 _ _ _ (omega arith) c.if-filled-row.true)
 
-returns-4 : tie.Need-returns-4
+returns-4 : tie.Need-returns
 returns-4 c =
-    let test = c.before in
-    field-fine test.before.before.before.before.before.args.k _ _ _ test.before.before.number.ensures refl (omega arith)
-    (within-fine 32 _ _ _ (omega arith) (sym test.before.within.ensures ∙ not-false _ test.if2.false) c.if3.false)
+    let test = c in
+    field-fine test.args.k _ _ _ test.number-row.ensures refl (omega arith)
+    (within-fine 32 _ _ _ (omega arith) (sym test.within.ensures ∙ test.if-not-within.false) c.if-filled-row.false)
 
-pub row-field-spec : {M : Type 1} → statement M
-row-field-spec =
+pub row_field_spec : {M : Type 1} → statement M
+row_field_spec =
     tie.close
     (tie.spec (λ c. search rules) returns (λ c κs. search rules) (λ c κs. search rules) returns-2 returns-3 (λ c. search rules) returns-4)

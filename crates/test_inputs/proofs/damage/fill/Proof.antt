@@ -3,10 +3,10 @@ use Rattle.std.proofs.Common.{◌-◌, rules}
 use Rattle.test_inputs.proofs.damage.fill.Statement.{statement}
 use Rattle.test_inputs.proofs.damage.fill.Tie as tie
 
-abbrev invariant-loop : tie.invariant-loop
+abbrev invariant-loop : tie.invariant-loop-at
 invariant-loop bytes₀ count seed₀ at₀ bytes seed at = Unit
 
-abbrev decreases-loop : tie.decreases-loop
+abbrev decreases-loop : tie.decreases-loop-at
 decreases-loop bytes₀ count seed₀ at₀ bytes seed at = count - at
 
 pub fill_spec : {M : Type 1} → statement M

@@ -9,8 +9,8 @@ invariant-loop bytes tuple n tables at₀ counter₀ at counter = Unit
 abbrev decreases-loop : tie.decreases-loop
 decreases-loop bytes tuple n tables at₀ counter₀ at counter = tables - counter
 
-pub tables-allow-spec : {M : Type 1} → statement M
-tables-allow-spec =
+pub tables_allow_spec : {M : Type 1} → statement M
+tables_allow_spec =
     tie.close
     (tie.spec invariant-loop decreases-loop (λ c κs. search rules) (λ c κs. search rules) (λ c κs. search rules)
     (λ c. search rules) (λ c κs. search rules) (λ c. search rules) (λ c κs. search rules) (λ c. search rules)

@@ -3,14 +3,14 @@ use Rattle.std.proofs.Common.{◌-◌, rules}
 use Rattle.test_oracle.proofs.choices.are_lowest.Statement.{statement}
 use Rattle.test_oracle.proofs.choices.are_lowest.Tie as tie
 
-abbrev invariant-loop : tie.invariant-loop
+abbrev invariant-loop : tie.invariant-loop-i
 invariant-loop free domains tuple i₀ i = Unit
 
-abbrev decreases-loop : tie.decreases-loop
+abbrev decreases-loop : tie.decreases-loop-i
 decreases-loop free domains tuple i₀ i = 16 - i
 
-pub are-lowest-spec : {M : Type 1} → statement M
-are-lowest-spec =
+pub are_lowest_spec : {M : Type 1} → statement M
+are_lowest_spec =
     tie.close
     (tie.spec invariant-loop decreases-loop (λ c. search rules) (λ c κs. search rules) (λ c. search rules) (λ c. search rules)
     (λ c. search rules) (λ c. search rules) (λ c. search rules))

@@ -3,14 +3,14 @@ use Rattle.std.proofs.Common.{◌-◌, rules}
 use Rattle.test_oracle.proofs.choices.is_choice.Statement.{statement}
 use Rattle.test_oracle.proofs.choices.is_choice.Tie as tie
 
-abbrev invariant-loop : tie.invariant-loop
+abbrev invariant-loop : tie.invariant-loop-i
 invariant-loop free tuple i₀ i = Unit
 
-abbrev decreases-loop : tie.decreases-loop
+abbrev decreases-loop : tie.decreases-loop-i
 decreases-loop free tuple i₀ i = 16 - i
 
-pub is-choice-spec : {M : Type 1} → statement M
-is-choice-spec =
+pub is_choice_spec : {M : Type 1} → statement M
+is_choice_spec =
     tie.close
     (tie.spec invariant-loop decreases-loop (λ c. search rules) (λ c κs. search rules) (λ c κs. search rules) (λ c. search rules)
     (λ c. search rules) (λ c. search rules) (λ c. search rules) (λ c. search rules))

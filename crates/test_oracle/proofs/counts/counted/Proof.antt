@@ -3,10 +3,10 @@ use Rattle.std.proofs.Common.{◌-◌, rules}
 use Rattle.test_oracle.proofs.counts.counted.Statement.{statement}
 use Rattle.test_oracle.proofs.counts.counted.Tie as tie
 
-abbrev invariant-loop : tie.invariant-loop
+abbrev invariant-loop : tie.invariant-loop-k
 invariant-loop bytes tables free domains stated rows counts₀ k₀ counts k = Unit
 
-abbrev decreases-loop : tie.decreases-loop
+abbrev decreases-loop : tie.decreases-loop-k
 decreases-loop bytes tables free domains stated rows counts₀ k₀ counts k = 1024 - k
 
 pub counted_spec : {M : Type 1} → statement M

@@ -3,14 +3,14 @@ use Rattle.std.proofs.Common.{◌-◌, rules}
 use Rattle.test_oracle.proofs.judge.are_fresh.Statement.{statement}
 use Rattle.test_oracle.proofs.judge.are_fresh.Tie as tie
 
-abbrev invariant-loop : tie.invariant-loop
+abbrev invariant-loop : tie.invariant-loop-i
 invariant-loop bytes sizes domains leaders i₀ i = Unit
 
-abbrev decreases-loop : tie.decreases-loop
+abbrev decreases-loop : tie.decreases-loop-i
 decreases-loop bytes sizes domains leaders i₀ i = 16 - i
 
-pub are-fresh-spec : {M : Type 1} → statement M
-are-fresh-spec =
+pub are_fresh_spec : {M : Type 1} → statement M
+are_fresh_spec =
     tie.close
     (tie.spec invariant-loop decreases-loop (λ c. search rules) (λ c κs. search rules) (λ c. search rules) (λ c. search rules)
     (λ c. search rules) (λ c κs. search rules) (λ c κs. search rules) (λ c κs. search rules) (λ c. search rules)

@@ -9,8 +9,8 @@ invariant-loop bytes from count size at₀ counter₀ at counter = Unit
 abbrev decreases-loop : tie.decreases-loop
 decreases-loop bytes from count size at₀ counter₀ at counter = count - counter
 
-pub judge-rows-spec : {M : Type 1} → statement M
-judge-rows-spec =
+pub judge_rows_spec : {M : Type 1} → statement M
+judge_rows_spec =
     tie.close
     (tie.spec invariant-loop decreases-loop (λ c. search rules) (λ c κs. search rules) (λ c κs. search rules)
     (λ c. search rules) (λ c κs. search rules) (λ c κs. search rules) (λ c. search rules) (λ c. search rules)

@@ -9,8 +9,8 @@ invariant-loop bytes n from tables at₀ before₀ counter₀ at before counter 
 abbrev decreases-loop : tie.decreases-loop
 decreases-loop bytes n from tables at₀ before₀ counter₀ at before counter = tables - counter
 
-pub judge-tables-spec : {M : Type 1} → statement M
-judge-tables-spec =
+pub judge_tables_spec : {M : Type 1} → statement M
+judge_tables_spec =
     tie.close
     (tie.spec invariant-loop decreases-loop (λ c. search rules) (λ c κs. search rules) (λ c. search rules) (λ c. search rules)
     (λ c. search rules) (λ c. search rules) (λ c κs. search rules) (λ c. search rules))

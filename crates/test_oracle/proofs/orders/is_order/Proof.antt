@@ -3,13 +3,13 @@ use Rattle.std.proofs.Common.{◌-◌, rules}
 use Rattle.test_oracle.proofs.orders.is_order.Statement.{statement}
 use Rattle.test_oracle.proofs.orders.is_order.Tie as tie
 
-abbrev invariant-loop : tie.invariant-loop
+abbrev invariant-loop : tie.invariant-loop-i
 invariant-loop list n i₀ i = Unit
 
-abbrev decreases-loop : tie.decreases-loop
+abbrev decreases-loop : tie.decreases-loop-i
 decreases-loop list n i₀ i = n - i
 
-pub is-order-spec : {M : Type 1} → statement M
-is-order-spec =
+pub is_order_spec : {M : Type 1} → statement M
+is_order_spec =
     tie.close
     (tie.spec invariant-loop decreases-loop (λ c. search rules) (λ c. search rules) (λ c κs. search rules) (λ c κs. search rules) (λ c. search rules) (λ c. search rules) (λ c. search rules) (λ c. search rules) (λ c. search rules))

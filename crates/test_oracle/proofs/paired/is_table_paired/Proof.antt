@@ -3,13 +3,13 @@ use Rattle.std.proofs.Common.{◌-◌, rules}
 use Rattle.test_oracle.proofs.paired.is_table_paired.Statement.{statement}
 use Rattle.test_oracle.proofs.paired.is_table_paired.Tie as tie
 
-abbrev invariant-loop : tie.invariant-loop
+abbrev invariant-loop : tie.invariant-loop-v
 invariant-loop bytes at count v₀ v = Unit
 
-abbrev decreases-loop : tie.decreases-loop
+abbrev decreases-loop : tie.decreases-loop-v
 decreases-loop bytes at count v₀ v = count - v
 
-pub is-table-paired-spec : {M : Type 1} → statement M
-is-table-paired-spec =
+pub is_table_paired_spec : {M : Type 1} → statement M
+is_table_paired_spec =
     tie.close
     (tie.spec invariant-loop decreases-loop (λ c κs. search rules) (λ c. search rules) (λ c κs. search rules) (λ c. search rules) (λ c κs. search rules) (λ c. search rules) (λ c. search rules) (λ c. search rules) (λ c. search rules) (λ c. search rules))

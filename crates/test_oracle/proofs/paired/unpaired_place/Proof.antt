@@ -9,8 +9,8 @@ invariant-loop bytes n tables at₀ counter₀ at counter = Unit
 abbrev decreases-loop : tie.decreases-loop
 decreases-loop bytes n tables at₀ counter₀ at counter = tables - counter
 
-pub unpaired-place-spec : {M : Type 1} → statement M
-unpaired-place-spec =
+pub unpaired_place_spec : {M : Type 1} → statement M
+unpaired_place_spec =
     tie.close
     (tie.spec invariant-loop decreases-loop (λ c κs. search rules) (λ c κs. search rules) (λ c κs. search rules)
     (λ c. search rules) (λ c κs. search rules) (λ c. search rules) (λ c κs. search rules) (λ c. search rules)
