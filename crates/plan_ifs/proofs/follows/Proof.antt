@@ -7,10 +7,10 @@ use Rattle.plan_ifs.proofs.follows.Statement.{statement}
 use Rattle.plan_ifs.proofs.follows.Tie as tie
 
 returns : tie.Need-returns
-returns c = ap (λ (l : ℕ). eqb l (c.before.args.i + 1)) c.wide.ensures
+returns c = ap (λ (l : ℕ). eqb l (c.args.i + 1)) c.wide.ensures
 
-pub follows-spec : {M : Type 1} → statement M
-follows-spec =
+pub follows_spec : {M : Type 1} → statement M
+follows_spec =
     tie.close
     (tie.spec
     (λ c κs. search rules)

@@ -12,26 +12,26 @@ use Rattle.bounded.proofs.Bool.{not-true→false, clash}
 use Rattle.plan_ifs.proofs.is_leader.Statement.{statement}
 use Rattle.plan_ifs.proofs.is_leader.Tie as tie
 
-abbrev invariant-loop : tie.invariant-loop
+abbrev invariant-loop : tie.invariant-loop-j
 invariant-loop n leaders i j₀ j = (j ≤ n) × ((k : ℕ) → k < j → eqb (get_or leaders k 0) (i + 1) ≡ false)
 
-abbrev decreases-loop : tie.decreases-loop
+abbrev decreases-loop : tie.decreases-loop-j
 decreases-loop n leaders i j₀ j = n - j
 
-loop-holds : tie.Need-loop-init invariant-loop decreases-loop
+loop-holds : tie.Need-loop-j-init invariant-loop decreases-loop
 loop-holds c = (search rules, λ k l. absurd (let x : ⊥ = omega arith in x))
 
-returns : tie.Need-returns invariant-loop decreases-loop
-returns c = sym (some-i _ _ c.before.before.before.before.loop.j (omega arith) (sym c.before.follows.ensures ∙ c.if1.true))
+returns : tie.Need-returns-then-follows invariant-loop decreases-loop
+returns c = sym (some-i _ _ c.loop-j.j (omega arith) (sym c.follows.ensures ∙ c.if-follows.true))
 
-loop-again : tie.Need-loop-preserved invariant-loop decreases-loop
-loop-again c = (search rules, below_more _ _ c.before.before.before.before.loop.invariant.1 (sym c.before.follows.ensures ∙ c.if1.false))
+loop-again : tie.Need-loop-j-preserved invariant-loop decreases-loop
+loop-again c = (search rules, below_more _ _ c.loop-j.invariant.1 (sym c.follows.ensures ∙ c.if-follows.false))
 
-returns-2 : tie.Need-returns-2 invariant-loop decreases-loop
-returns-2 c = sym (some-none _ _ (λ k l. c.before.loop.invariant.1 k (omega arith)))
+returns-2 : tie.Need-returns invariant-loop decreases-loop
+returns-2 c = sym (some-none _ _ (λ k l. c.loop-j.invariant.1 k (omega arith)))
 
-pub is-leader-spec : {M : Type 1} → statement M
-is-leader-spec =
+pub is_leader_spec : {M : Type 1} → statement M
+is_leader_spec =
     tie.close
     (tie.spec
     invariant-loop

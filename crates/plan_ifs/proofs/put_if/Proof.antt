@@ -9,18 +9,18 @@ use Rattle.head.specs.Held.{held}
 use Rattle.plan_ifs.proofs.put_if.Statement.{statement}
 use Rattle.plan_ifs.proofs.put_if.Tie as tie
 
-returns : tie.Need-returns
-returns c = rw (if-out c.before.before.before.before.args.head _ _ _ (sym c.before.member.ensures ∙ not-true _ c.if1.true)) (put-none _ _)
+returns : tie.Need-returns-then-not-member
+returns c = rw (if-out c.args.head _ _ _ (sym c.member.ensures ∙ c.if-not-member.true)) (put-none _ _)
 
-put-thens-requires : tie.Need-put-thens-requires
-put-thens-requires c κs = let s = c.before.before.before.before.before.before.before.before.before.before.before.before.before.before.before.before.before.before.before in (s.requires.0, s.requires.1, sym c.before.before.before.before.before.before.before.before.before.before.before.before.before.before.before.before.member.ensures ∙ not-false _ c.before.before.before.before.before.before.before.before.before.before.before.before.before.before.before.if1.false)
+put-thens-requires : tie.Need-put_thens-followed-requires
+put-thens-requires c κs = let s = c in (s.requires.0, s.requires.1, sym c.member.ensures ∙ c.if-not-member.false)
 
-returns-2 : tie.Need-returns-2
+returns-2 : tie.Need-returns
 unfolding ascii held
-returns-2 c = rw (if-in c.before.before.before.before.before.before.before.before.before.before.before.before.before.before.before.before.before.before.before.before.before.before.before.before.before.before.before.args.head _ _ _ (sym c.before.before.before.before.before.before.before.before.before.before.before.before.before.before.before.before.before.before.before.before.before.before.before.before.member.ensures ∙ not-false _ c.before.before.before.before.before.before.before.before.before.before.before.before.before.before.before.before.before.before.before.before.before.before.before.if1.false)) (if-put _ _ _ c.before.before.before.before.before.before.before.before.before.before.before.before.before.before.before.before.before.before.before.before.put-titled.ensures c.before.before.before.before.before.before.before.before.before.before.before.before.before.before.before.before.put-spaced.ensures c.before.before.before.before.before.before.before.before.before.before.before.put-text.ensures c.before.before.before.before.before.before.before.put-thens.ensures c.before.before.put-text2.ensures)
+returns-2 c = rw (if-in c.args.head _ _ _ (sym c.member.ensures ∙ c.if-not-member.false)) (if-put _ _ _ c.put_titled-named.ensures c.put_spaced-valued.ensures c.put_text-titled.ensures c.put_thens-followed.ensures c.put_text.ensures)
 
-pub put-if-spec : {M : Type 1} → statement M
-put-if-spec =
+pub put_if_spec : {M : Type 1} → statement M
+put_if_spec =
     tie.close
     (tie.spec
     (λ c. search rules)
@@ -28,13 +28,10 @@ put-if-spec =
     (λ c κs. search rules)
     returns
     (λ c. search rules)
-    (λ c. search rules)
     (λ c κs. search rules)
     (λ c κs. search rules)
-    (λ c. search rules)
     (λ c κs. search rules)
     put-thens-requires
-    (λ c. search rules)
     (λ c κs. search rules)
     (λ c. search rules)
     returns-2)

@@ -10,23 +10,23 @@ use Rattle.plan_ifs.specs.Ifs.{if_line}
 use Rattle.plan_ifs.proofs.put_if_values.Statement.{statement}
 use Rattle.plan_ifs.proofs.put_if_values.Tie as tie
 
-abbrev invariant-loop : tie.invariant-loop
+abbrev invariant-loop : tie.invariant-loop-a
 invariant-loop buffer₀ at head rows i next₀ a₀ buffer next a = (a ≤ 32) × Put buffer₀ buffer (each (if_line (held head rows) i) a) at next
 
-abbrev decreases-loop : tie.decreases-loop
+abbrev decreases-loop : tie.decreases-loop-a
 decreases-loop buffer₀ at head rows i next₀ a₀ buffer next a = 32 - a
 
-loop-holds : tie.Need-loop-init invariant-loop decreases-loop
+loop-holds : tie.Need-loop-a-init invariant-loop decreases-loop
 loop-holds c = (search rules, each_none _ _ _)
 
-loop-again : tie.Need-loop-preserved invariant-loop decreases-loop
-loop-again c = (search rules, each_more _ _ c.before.before.before.before.before.loop.invariant.1 c.before.before.put_if.ensures)
+loop-again : tie.Need-loop-a-preserved invariant-loop decreases-loop
+loop-again c = (search rules, each_more _ _ c.loop-a.invariant.1 c.put_if-next.ensures)
 
 returns : tie.Need-returns invariant-loop decreases-loop
-returns c = let e : c.before.loop.a ≡ 32 = omega arith in rw e at c.before.loop.invariant.1
+returns c = let e : c.loop-a.a ≡ 32 = omega arith in rw e at c.loop-a.invariant.1
 
-pub put-if-values-spec : {M : Type 1} → statement M
-put-if-values-spec =
+pub put_if_values_spec : {M : Type 1} → statement M
+put_if_values_spec =
     tie.close
     (tie.spec
     invariant-loop

@@ -11,27 +11,27 @@ use Rattle.head.specs.Held.{held}
 use Rattle.plan_ifs.proofs.put_ifs.Statement.{statement}
 use Rattle.plan_ifs.proofs.put_ifs.Tie as tie
 
-abbrev invariant-loop : tie.invariant-loop
+abbrev invariant-loop : tie.invariant-loop-i
 invariant-loop buffer₀ at head rows n next₀ i₀ buffer next i = (i ≤ n) × Put buffer₀ buffer (each (if_lines_of (held head rows)) i) at next
 
-abbrev decreases-loop : tie.decreases-loop
+abbrev decreases-loop : tie.decreases-loop-i
 decreases-loop buffer₀ at head rows n next₀ i₀ buffer next i = n - i
 
-loop-holds : tie.Need-loop-init invariant-loop decreases-loop
+loop-holds : tie.Need-loop-i-init invariant-loop decreases-loop
 loop-holds c = (search rules, each_none _ _ _)
 
-put-ifs-of-requires : tie.Need-put-ifs-of-requires invariant-loop decreases-loop
-put-ifs-of-requires c κs = let s = c.before.before.before.before in let most = held-n _ _ s.requires in (s.requires, omega arith)
+put-ifs-of-requires : tie.Need-put_ifs_of-next-requires invariant-loop decreases-loop
+put-ifs-of-requires c κs = let s = c in let most = held-n _ _ s.requires in (s.requires, omega arith)
 
-loop-again : tie.Need-loop-preserved invariant-loop decreases-loop
-loop-again c = (search rules, each_more _ _ c.before.before.before.before.before.loop.invariant.1 c.before.before.put-ifs-of.ensures)
+loop-again : tie.Need-loop-i-preserved invariant-loop decreases-loop
+loop-again c = (search rules, each_more _ _ c.loop-i.invariant.1 c.put_ifs_of-next.ensures)
 
 returns : tie.Need-returns invariant-loop decreases-loop
 unfolding if_lines held
-returns c = let e : c.before.loop.i ≡ c.before.before.before.args.head.n = omega arith in rw e at c.before.loop.invariant.1
+returns c = let e : c.loop-i.i ≡ c.args.head.n = omega arith in rw e at c.loop-i.invariant.1
 
-pub put-ifs-spec : {M : Type 1} → statement M
-put-ifs-spec =
+pub put_ifs_spec : {M : Type 1} → statement M
+put_ifs_spec =
     tie.close
     (tie.spec
     invariant-loop

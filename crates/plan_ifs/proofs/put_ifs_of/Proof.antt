@@ -9,17 +9,17 @@ use Rattle.plan_ifs.proofs.Laws.{ifs-none, ifs-some}
 use Rattle.plan_ifs.proofs.put_ifs_of.Statement.{statement}
 use Rattle.plan_ifs.proofs.put_ifs_of.Tie as tie
 
-is-leader-requires : tie.Need-is-leader-requires
-is-leader-requires c κs = let s = c.before.before.before in let most = held-n _ _ s.requires.0 in (omega arith, s.requires.1)
+is-leader-requires : tie.Need-is_leader-requires
+is-leader-requires c κs = let s = c in let most = held-n _ _ s.requires.0 in (omega arith, s.requires.1)
 
-returns : tie.Need-returns
-returns c = rw (ifs-none c.before.before.before.before.before.args.head _ _ (sym c.before.is-leader.ensures ∙ not-true _ c.if1.true)) (put-none _ _)
+returns : tie.Need-returns-then-not-is_leader
+returns c = rw (ifs-none c.args.head _ _ (sym c.is_leader.ensures ∙ c.if-not-is_leader.true)) (put-none _ _)
 
-returns-2 : tie.Need-returns-2
-returns-2 c = rw (ifs-some c.before.before.before.before.before.before.before.before.before.args.head _ _ (sym c.before.before.before.before.before.is-leader.ensures ∙ not-false _ c.before.before.before.before.if1.false)) c.before.before.put-if-values.ensures
+returns-2 : tie.Need-returns
+returns-2 c = rw (ifs-some c.args.head _ _ (sym c.is_leader.ensures ∙ c.if-not-is_leader.false)) c.put_if_values.ensures
 
-pub put-ifs-of-spec : {M : Type 1} → statement M
-put-ifs-of-spec =
+pub put_ifs_of_spec : {M : Type 1} → statement M
+put_ifs_of_spec =
     tie.close
     (tie.spec
     is-leader-requires

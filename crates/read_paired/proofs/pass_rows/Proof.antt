@@ -34,9 +34,9 @@ loop-again c =
       omega arith,
       passed-more 32 P r.standing-row.ensures
           (record {
-            row_in = r.standing-row.type-inv;
+            row_in = r.standing-row.type_inv;
             more_in = P.more_in;
-            past_in = p.past_lowest.type-inv;
+            past_in = p.past_lowest.type_inv;
             seen_is = s.either-seen.ensures;
             past_is = p.past_lowest.ensures;
             more_is = m.either-more.ensures;

@@ -55,12 +55,12 @@ told c = c.rows_paired.ensures ∙ sym (rows c.before).told
 returns : tie.Need-returns-then-not-rows_paired invariant-loop decreases-loop
 returns c =
     let i = c.loop.invariant in
-    walking_here _ _ i.2 (omega (arith, i.0)) (sym (told c.before) ∙ not-true _ c.if-not-rows_paired.true)
+    walking_here _ _ i.2 (omega (arith, i.0)) (sym (told c.before) ∙ c.if-not-rows_paired.true)
 
 loop-again : tie.Need-loop-preserved invariant-loop decreases-loop
 loop-again c =
     let i = c.loop.invariant in
-    (i.0, i.1, walking-more _ _ i.2 (omega (arith, i.0)) (sym (told c.before) ∙ not-false _ c.if-not-rows_paired.false) (sym (rows c.before.before).next))
+    (i.0, i.1, walking-more _ _ i.2 (omega (arith, i.0)) (sym (told c.before) ∙ c.if-not-rows_paired.false) (sym (rows c.before.before).next))
 
 returns-2 : tie.Need-returns invariant-loop decreases-loop
 returns-2 c = let i = c.loop.invariant in walking-end _ _ i.2 (omega (arith, i.0))

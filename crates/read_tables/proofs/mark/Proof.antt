@@ -5,7 +5,7 @@ use Rattle.read_tables.proofs.mark.Statement.{statement}
 use Rattle.read_tables.proofs.mark.Tie as tie
 
 returns : tie.Need-returns
-returns c = mark-stores _ _ _ c.before.single.ensures c.either.ensures
+returns c = mark-stores _ _ _ c.single.ensures c.either.ensures
 
 pub mark_spec : {M : Type 1} → statement M
 mark_spec =

@@ -17,21 +17,21 @@ decreases-loop bytes from k filled n count sizes stated₀ rows₀ at₀ previou
 loop-holds : tie.Need-loop-init invariant-loop decreases-loop
 loop-holds c = search (tables-none, rules)
 
-returns : tie.Need-returns invariant-loop decreases-loop
+returns : tie.Need-returns-in_default invariant-loop decreases-loop
 returns c =
-    let take = c.before.before in
-    stop-fault (tables-stop take.before.before.before.before.loop.invariant (omega arith) (take.take-table.ensures.none c.enum_told.given.1))
+    let take = c in
+    stop-fault (tables-stop take.loop.invariant (omega arith) (take.take_table-table.ensures.none c.in_default.is))
 
 loop-again : tie.Need-loop-preserved invariant-loop decreases-loop
 loop-again c =
-    let take = c.before.before.before in
-    tables_more take.before.before.before.before.loop.invariant (omega arith) (take.take-table.ensures.one _ _ c.before.table.given.1)
+    let take = c in
+    tables_more take.loop.invariant (omega arith) (take.take_table-table.ensures.one _ _ c.in-One.is)
 
-returns-2 : tie.Need-returns-2 invariant-loop decreases-loop
-returns-2 c = stop-end (tables_end c.before.loop.invariant (omega arith))
+returns-2 : tie.Need-returns invariant-loop decreases-loop
+returns-2 c = stop-end (tables_end c.loop.invariant (omega arith))
 
-pub take-tables-spec : {M : Type 1} → statement M
-take-tables-spec =
+pub take_tables_spec : {M : Type 1} → statement M
+take_tables_spec =
     tie.close
     (tie.spec
     invariant-loop

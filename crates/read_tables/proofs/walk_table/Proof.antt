@@ -9,53 +9,53 @@ use Rattle.read_tables.proofs.TablesLoop.{PairIn, pair_in, pair-walked, rows_wal
 use Rattle.read_tables.proofs.walk_table.Statement.{statement}
 use Rattle.read_tables.proofs.walk_table.Tie as tie
 
-returns : tie.Need-returns
+returns : tie.Need-returns-in_default
 returns c =
-    rw c.enum_told.given.1
-    (pair-walked c.before.before.before.before.requires.3 (omega arith) _ _ _
-    (read-bad c.before.before.pair-field.ensures c.enum_told.given.1))
+    rw c.in_default.is
+    (pair-walked c.requires.3 (omega arith) _ _ _
+    (read-bad c.pair_field-head.ensures c.in_default.is))
 
 -- The pair is read; what is known of it.
-pair_read : (c : tie.After-known-told)
-    → (let start = c.before.before.before.before.before in
+pair_read : (c : tie.In-Value)
+    → (let start = c in
     field 2 (pair_test start.args.n start.args.previous) start.args.bytes.now start.args.at
-    ≡ got c.before.head.given.0.0 c.before.head.given.0.1.0)
-pair_read c = read-got c.before.before.before.pair-field.ensures c.before.head.given.1
+    ≡ got c.in-Value.pair c.in-Value.next)
+pair_read c = read-got c.pair_field-head.ensures c.in-Value.is
 
-pair-known : (c : tie.After-known-told)
-    → (let start = c.before.before.before.before.before in
+pair-known : (c : tie.In-Value)
+    → (let start = c in
     PairIn start.args.bytes.now start.args.n start.args.previous start.args.sizes.now
-    c.before.head.given.0.0 c.before.head.given.0.1.0)
-pair-known c = pair_in _ c.before.before.before.before.before.requires.3 (pair_read c)
+    c.in-Value.pair c.in-Value.next)
+pair-known c = pair_in _ c.requires.3 (pair_read c)
 
-sub-count : tie.Need-overflow-sub-count
+sub-count : tie.Need-overflow_sub-count
 sub-count c = omega (arith, pair-known c)
 
-element-copy-out-count : tie.Need-element-copy-out-count
-element-copy-out-count c = omega (arith, pair-known c)
+element-copy-out-count : tie.Need-bounds-sizes-pair
+element-copy-out-count c = omega (arith, pair-known c.before)
 
-cast-count : tie.Need-overflow-cast-count
-cast-count c = omega (arith, pair-known c.before)
+cast-count : tie.Need-overflow_cast-count
+cast-count c = omega (arith, pair-known c.before.before)
 
-sub-size : tie.Need-overflow-sub-size
-sub-size c = omega (arith, pair-known c.before)
+sub-size : tie.Need-overflow_sub-size
+sub-size c = omega (arith, pair-known c.before.before)
 
-element-copy-out-size : tie.Need-element-copy-out-size
-element-copy-out-size c = omega (arith, pair-known c.before)
+element-copy-out-size : tie.Need-bounds-sizes-pair-2
+element-copy-out-size c = omega (arith, pair-known c.before.before)
 
-cast-size : tie.Need-overflow-cast-size
-cast-size c = omega (arith, pair-known c.before.before)
+cast-size : tie.Need-overflow_cast-size
+cast-size c = omega (arith, pair-known c.before.before.before)
 
-walk-rows-requires : tie.Need-walk-rows-requires
-walk-rows-requires c κs = omega (arith, pair-known c.before.before)
+walk-rows-requires : tie.Need-walk_rows-requires
+walk-rows-requires c κs = omega (arith, pair-known c.before.before.before)
 
-returns-2 : tie.Need-returns-2
+returns-2 : tie.Need-returns
 returns-2 c =
-    let pair = c.before.before.before in
-    rows_walked pair.before.before.before.before.before.requires.3 (omega arith) _ _ _ (pair_read pair) c.walk_rows.ensures
+    let pair = c in
+    rows_walked pair.requires.3 (omega arith) _ _ _ (pair_read c.before.before.before.before) c.walk_rows.ensures
 
-pub walk-table-spec : {M : Type 1} → statement M
-walk-table-spec =
+pub walk_table_spec : {M : Type 1} → statement M
+walk_table_spec =
     tie.close
     (tie.spec
     (λ c κs. search rules)

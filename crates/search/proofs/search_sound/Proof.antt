@@ -15,45 +15,45 @@ shaped c = search shape
 product-requires : tie.Need-product-requires
 product-requires c κs = held-n _ _ c.requires
 
-returns : tie.Need-returns
+returns : tie.Need-returns-then-product-eq0
 returns c =
-    let s = c.before.before in
-    product-settled _ (shaped s) s.requires (product-zero _ _ (c.before.product.ensures _ s.requires) c.if1.true)
+    let s = c in
+    product-settled _ (shaped c.before.before) s.requires (product-zero _ _ (c.product.ensures _ s.requires) c.if-product-eq0.true)
 
-free-variables-requires : tie.Need-free-variables-requires
-free-variables-requires c κs = held-n _ _ c.before.before.before.before.before.before.requires
+free-variables-requires : tie.Need-free_variables-left-requires
+free-variables-requires c κs = held-n _ _ c.requires
 
 choose-requires : tie.Need-choose-requires
 choose-requires c κs =
-    let s = c.before.before.before.before.before.before.before.before.before.before in
+    let s = c in
     let most = held-n _ _ s.requires in
-    (λ j h. omega (arith, start-below _ _ _ c.before.before.before.free-variables.ensures j h), search rules, search rules)
+    (λ j h. omega (arith, start-below _ _ _ c.free_variables-left.ensures j h), search rules, search rules)
 
-returns-2 : tie.Need-returns-2
+returns-2 : tie.Need-returns-then-not-choose
 returns-2 c =
-    let a = c.before in
-    let s = a.before.before.before.before.before.before.before.before.before.before.before in
-    chosen_none _ (shaped s) s.requires a.before.before.before.before.free-variables.ensures a.choose.ensures.chooses (not-true _ c.if2.true)
+    let a = c in
+    let s = a in
+    chosen_none _ (shaped c.before.before.before.before.before.before.before.before.before.before.before.before) s.requires a.free_variables-left.ensures a.choose.ensures.chooses (c.if-not-choose.true)
 
-complete-values-requires : tie.Need-complete-values-requires
+complete-values-requires : tie.Need-complete_values-requires
 complete-values-requires c κs =
-    let f = c.before.before.before in
-    let a = f.before in
-    let s = a.before.before.before.before.before.before.before.before.before.before.before in
-    chosen-led _ (shaped s) s.requires a.before.before.before.before.free-variables.ensures a.choose.ensures.chooses (not-false _ f.if2.false)
+    let f = c in
+    let a = f in
+    let s = a in
+    chosen-led _ (shaped c.before.before.before.before.before.before.before.before.before.before.before.before.before.before.before) s.requires a.free_variables-left.ensures a.choose.ensures.chooses (f.if-not-choose.false)
     a.choose.ensures.whole
 
-returns-3 : tie.Need-returns-3
+returns-3 : tie.Need-returns
 returns-3 c =
-    let f = c.before.before.before.before.before in
-    let a = f.before in
-    let s = a.before.before.before.before.before.before.before.before.before.before.before in
-    let done = c.before.complete-values.ensures in
-    chosen-found _ (shaped s) s.requires a.before.before.before.before.free-variables.ensures a.choose.ensures.chooses (not-false _ f.if2.false)
+    let f = c in
+    let a = f in
+    let s = a in
+    let done = c.complete_values.ensures in
+    chosen-found _ (shaped c.before.before.before.before.before.before.before.before.before.before.before.before.before.before.before.before.before) s.requires a.free_variables-left.ensures a.choose.ensures.chooses (f.if-not-choose.false)
     (done.same_length ∙ a.choose.ensures.whole) done
 
-pub search-sound-spec : {M : Type 1} → statement M
-search-sound-spec =
+pub search_sound_spec : {M : Type 1} → statement M
+search_sound_spec =
     tie.close
     (tie.spec
     product-requires

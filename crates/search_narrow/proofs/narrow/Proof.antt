@@ -10,48 +10,48 @@ use Rattle.search_narrow.proofs.Narrowing.{Narrowing, narrowing_none, narrowing-
 use Rattle.search_narrow.proofs.narrow.Statement.{statement}
 use Rattle.search_narrow.proofs.narrow.Tie as tie
 
-abbrev invariant-loop : tie.invariant-loop
+abbrev invariant-loop : tie.invariant-loop-rest
 invariant-loop domains₀ rows among k v changed₀ rest₀ domains changed rest = Narrowing 32 rows domains₀ among k v domains changed rest
 
-abbrev decreases-loop : tie.decreases-loop
+abbrev decreases-loop : tie.decreases-loop-rest
 decreases-loop domains₀ rows among k v changed₀ rest₀ domains changed rest = count width (has rest)
 
-loop-holds : tie.Need-loop-init invariant-loop decreases-loop
+loop-holds : tie.Need-loop-rest-init invariant-loop decreases-loop
 loop-holds c = narrowing_none c.ranges.among.fits
 
 -- The next variable is above k.
-next : (c : tie.After-lowest invariant-loop decreases-loop) → (c.before.before.before.args.k < c.lowest.result) × (c.lowest.result < variables)
+next : (c : tie.After-lowest-j invariant-loop decreases-loop) → (c.args.k < c.lowest-j.result) × (c.lowest-j.result < variables)
 next c =
-    let l = c.before.before.loop.invariant in
-    c.before.before.before.requires.1 _ (l.rest_in _ (lowest-in width _ _ l.rest_fits c.before.loop-test.true c.lowest.ensures).1)
+    let l = c.loop-rest.invariant in
+    c.requires.1 _ (l.rest_in _ (lowest-in width _ _ l.rest_fits c.loop-rest-test.true c.lowest-j.ensures).1)
 
-mul-before : tie.Need-overflow-mul-before invariant-loop decreases-loop
+mul-before : tie.Need-offset_bounds-domains-j invariant-loop decreases-loop
 mul-before c = let l = (next c).1 in search rules
 
-cut-requires : tie.Need-cut-requires invariant-loop decreases-loop
-cut-requires c κs = let l = next c.before in (omega arith, omega arith, search rules)
+cut-requires : tie.Need-cut-after-requires invariant-loop decreases-loop
+cut-requires c κs = let l = next c.before.before in (omega arith, omega arith, search rules)
 
-mul-domains : tie.Need-overflow-mul-domains invariant-loop decreases-loop
-mul-domains c = let l = (next c.before.before).1 in search rules
+mul-domains : tie.Need-offset_bounds-domains-j-in-loop-rest invariant-loop decreases-loop
+mul-domains c = let l = (next c.before.before.before).1 in search rules
 
-loop-less : tie.Need-loop-smaller invariant-loop decreases-loop
+loop-less : tie.Need-loop-rest-smaller invariant-loop decreases-loop
 loop-less c =
-    let l = c.before.before.before in
-    rest-less width l.before.before.loop.invariant.rest_fits l.before.loop-test.true l.lowest.ensures c.dropped.ensures
+    let l = c in
+    rest-less width l.loop-rest.invariant.rest_fits l.loop-rest-test.true l.lowest-j.ensures c.dropped-rest.ensures
 
-loop-again : tie.Need-loop-preserved invariant-loop decreases-loop
+loop-again : tie.Need-loop-rest-preserved invariant-loop decreases-loop
 loop-again c =
-    let l = c.before.before.before in
-    let long = l.before.before.before.requires.2 in
-    let inside = (next l).1 in
-    narrowing-more l.before.before.loop.invariant l.before.loop-test.true l.lowest.ensures (omega arith)
-    c.before.cut.ensures c.dropped.ensures
+    let l = c in
+    let long = l.requires.2 in
+    let inside = (next c.before.before.before.before).1 in
+    narrowing-more l.loop-rest.invariant l.loop-rest-test.true l.lowest-j.ensures (omega arith)
+    c.cut-after.ensures c.dropped-rest.ensures
 
 returns : tie.Need-returns invariant-loop decreases-loop
-returns c = narrowing-end c.before.loop.invariant c.loop-test.false
+returns c = narrowing-end c.loop-rest.invariant c.loop-rest-test.false
 
-pub narrow-spec : {M : Type 1} → statement M
-narrow-spec =
+pub narrow_spec : {M : Type 1} → statement M
+narrow_spec =
     tie.close
     (tie.spec
     invariant-loop
@@ -59,10 +59,10 @@ narrow-spec =
     loop-holds
     (λ c κs. search rules)
     mul-before
-    (λ c. (next c).1)
+    (λ c. (next c.before).1)
     cut-requires
     mul-domains
-    (λ c. (next c.before.before).1)
+    (λ c. (next c.before.before.before).1)
     (λ c κs. search rules)
     loop-less
     loop-again

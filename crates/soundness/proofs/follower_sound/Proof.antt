@@ -10,55 +10,55 @@ use Rattle.soundness.proofs.Tests.{not_itself, follower-tied}
 use Rattle.soundness.proofs.follower_sound.Statement.{statement}
 use Rattle.soundness.proofs.follower_sound.Tie as tie
 
-returns : tie.Need-returns
+returns : tie.Need-returns-then-n-l
 unfolding follower_fits
-returns c = sym (and-fails _ _ (le-ltb _ _ c.if1.true))
+returns c = sym (and-fails _ _ (le-ltb _ _ c.if-n-l.true))
 
-returns-2 : tie.Need-returns-2
+returns-2 : tie.Need-returns-then-leaders-l-ne0
 unfolding follower_fits
-returns-2 c = sym (and-holds _ _ (lt-ltb _ _ c.before.before.if1.false) ∙ and-fails _ _ (ne_eqb _ _ c.if2.true))
+returns-2 c = sym (and-holds _ _ (lt-ltb _ _ c.if-n-l.false) ∙ and-fails _ _ (ne_eqb _ _ c.if-leaders-l-ne0.true))
 
-returns-3 : tie.Need-returns-3
+returns-3 : tie.Need-returns-then-stated-single
 unfolding follower_fits
 returns-3 c =
-    sym (and-holds _ _ (lt-ltb _ _ c.before.before.before.before.if1.false) ∙ and-holds _ _ (eq-eqb _ _ c.before.before.if2.false)
-    ∙ and-fails _ _ (ne_eqb _ _ (λ e. c.if3.true (e ∙ sym c.before.single.ensures))))
+    sym (and-holds _ _ (lt-ltb _ _ c.if-n-l.false) ∙ and-holds _ _ (eq-eqb _ _ c.if-leaders-l-ne0.false)
+    ∙ and-fails _ _ (ne_eqb _ _ (λ e. c.if-stated-single.true (e ∙ sym c.single.ensures))))
 
-partners-within-requires : tie.Need-partners-within-requires
+partners-within-requires : tie.Need-partners_within-requires
 partners-within-requires c κs =
-    let passed = c.before.before in
-    let start = passed.before.before.before.before.before in (
+    let passed = c in
+    let start = passed in (
       search rules,
       search rules,
-      not_itself width _ _ _ (omega (arith, start.requires.1)) start.requires.2 (passed.if3.false ∙ passed.before.single.ensures),
+      not_itself width _ _ _ (omega (arith, start.requires.1)) start.requires.2 (passed.if-stated-single.false ∙ passed.single.ensures),
     )
 
-returns-4 : tie.Need-returns-4
+returns-4 : tie.Need-returns-then-not-partners_within
 returns-4 c =
-    let passed = c.before.before.before.before in
-    sym (follower-tied _ _ _ _ _ _ _ passed.before.before.before.before.if1.false passed.before.before.if2.false
-    (passed.if3.false ∙ passed.before.single.ensures)
-    ∙ and-fails _ _ (sym c.before.partners-within.ensures ∙ not-true _ c.if4.true))
+    let passed = c in
+    sym (follower-tied _ _ _ _ _ _ _ passed.if-n-l.false passed.if-leaders-l-ne0.false
+    (passed.if-stated-single.false ∙ passed.single.ensures)
+    ∙ and-fails _ _ (sym c.partners_within.ensures ∙ c.if-not-partners_within.true))
 
-trimmed-to-requires : tie.Need-trimmed-to-requires
+trimmed-to-requires : tie.Need-trimmed_to-requires
 trimmed-to-requires c κs =
-    let passed = c.before.before.before.before in
-    let start = passed.before.before.before.before.before in (
+    let passed = c in
+    let start = passed in (
       search rules,
       search rules,
-      not_itself width _ _ _ (omega (arith, start.requires.1)) start.requires.2 (passed.if3.false ∙ passed.before.single.ensures),
+      not_itself width _ _ _ (omega (arith, start.requires.1)) start.requires.2 (passed.if-stated-single.false ∙ passed.single.ensures),
     )
 
-returns-5 : tie.Need-returns-5
+returns-5 : tie.Need-returns
 returns-5 c =
-    let passed = c.before.before.before.before.before in
-    c.trimmed-to.ensures
-    ∙ sym (follower-tied _ _ _ _ _ _ _ passed.before.before.before.before.if1.false passed.before.before.if2.false
-    (passed.if3.false ∙ passed.before.single.ensures)
-    ∙ and-holds _ _ (sym c.before.before.partners-within.ensures ∙ not-false _ c.before.if4.false))
+    let passed = c in
+    c.trimmed_to.ensures
+    ∙ sym (follower-tied _ _ _ _ _ _ _ passed.if-n-l.false passed.if-leaders-l-ne0.false
+    (passed.if-stated-single.false ∙ passed.single.ensures)
+    ∙ and-holds _ _ (sym c.partners_within.ensures ∙ c.if-not-partners_within.false))
 
-pub follower-sound-spec : {M : Type 1} → statement M
-follower-sound-spec =
+pub follower_sound_spec : {M : Type 1} → statement M
+follower_sound_spec =
     tie.close
     (tie.spec
     returns

@@ -8,17 +8,17 @@ use Rattle.soundness.proofs.Tests.{from_one}
 use Rattle.soundness.proofs.free_or_sound.Statement.{statement}
 use Rattle.soundness.proofs.free_or_sound.Tie as tie
 
-returns : tie.Need-returns
+returns : tie.Need-returns-then-leader-eq0
 unfolding free_or_fits
-returns c = sym (implies-false _ _ (not-false-i _ (eq-eqb _ _ c.if1.true)))
+returns c = sym (implies-false _ _ (not-false-i _ (eq-eqb _ _ c.if-leader-eq0.true)))
 
-returns-2 : tie.Need-returns-2
+returns-2 : tie.Need-returns
 unfolding free_or_fits
 returns-2 c =
-    rw (from_one c.before.wide.ensures) at c.follower-sound.ensures ∙ sym (implies_true _ _ (not-i _ (ne_eqb _ _ c.before.before.if1.false)))
+    rw (from_one c.wide.ensures) at c.follower_sound.ensures ∙ sym (implies_true _ _ (not-i _ (ne_eqb _ _ c.if-leader-eq0.false)))
 
-pub free-or-sound-spec : {M : Type 1} → statement M
-free-or-sound-spec =
+pub free_or_sound_spec : {M : Type 1} → statement M
+free_or_sound_spec =
     tie.close
     (tie.spec
     (λ c. search rules)

@@ -6,8 +6,8 @@ use Rattle.soundness.proofs.trimmed_to.Tie as tie
 
 returns : tie.Need-returns
 returns c =
-    let s = c.before.before.args in
-    trimmed-is _ s.i s.l s.di s.dl (search rules) c.before.partners.ensures c.both.ensures
+    let s = c.args in
+    trimmed-is _ s.i s.l s.di s.dl (search rules) c.partners.ensures c.both.ensures
 
-pub trimmed-to-spec : {M : Type 1} → statement M
-trimmed-to-spec = tie.close (tie.spec (λ c κs. search rules) (λ c κs. search rules) returns)
+pub trimmed_to_spec : {M : Type 1} → statement M
+trimmed_to_spec = tie.close (tie.spec (λ c κs. search rules) (λ c κs. search rules) returns)

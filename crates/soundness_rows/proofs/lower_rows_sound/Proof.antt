@@ -12,39 +12,39 @@ use Rattle.soundness_rows.proofs.Tests.{pair_same}
 use Rattle.soundness_rows.proofs.lower_rows_sound.Statement.{statement}
 use Rattle.soundness_rows.proofs.lower_rows_sound.Tie as tie
 
-abbrev invariant-loop : tie.invariant-loop
+abbrev invariant-loop : tie.invariant-loop-i
 invariant-loop sizes stated rows j other all₀ i₀ all i =
     (i ≤ j) × (all ≡ every i (λ (k : ℕ). pair_rows_fit 32 rows (has stated k) k j (get_or sizes k 0) (get_or sizes j 0)))
 
-abbrev decreases-loop : tie.decreases-loop
+abbrev decreases-loop : tie.decreases-loop-i
 decreases-loop sizes stated rows j other all₀ i₀ all i = j - i
 
-loop-holds : tie.Need-loop-init invariant-loop decreases-loop
+loop-holds : tie.Need-loop-i-init invariant-loop decreases-loop
 unfolding every
 loop-holds c = (omega arith, refl)
 
-pair-rows-sound-requires : tie.Need-pair-rows-sound-requires invariant-loop decreases-loop
+pair-rows-sound-requires : tie.Need-pair_rows_sound-all-requires invariant-loop decreases-loop
 pair-rows-sound-requires c κs =
-    let loop = c.before.before.before.before in
-    let start = loop.before.before.before in
-    let size = start.requires.1 loop.loop.i in
+    let loop = c in
+    let start = loop in
+    let size = start.requires.1 loop.loop-i.i in
     let other = start.requires.1 start.args.j in
     (search rules, search rules, search rules, search rules)
 
-loop-again : tie.Need-loop-preserved invariant-loop decreases-loop
+loop-again : tie.Need-loop-i-preserved invariant-loop decreases-loop
 loop-again c =
-    let loop = c.before.before.before.before.before in (
+    let loop = c in (
       omega arith,
-      test-joins _ _ loop.loop.invariant.1
-          (pair_same 32 _ _ _ c.pair-rows-sound.ensures c.before.before.before.member.ensures c.before.wide2.ensures loop.before.wide.ensures),
+      test-joins _ _ loop.loop-i.invariant.1
+          (pair_same 32 _ _ _ c.pair_rows_sound-all.ensures c.member.ensures c.wide.ensures loop.wide-other.ensures),
     )
 
 returns : tie.Need-returns invariant-loop decreases-loop
 unfolding lower_rows_fit
-returns c = rw (let e : c.before.loop.i ≡ c.before.before.before.before.args.j = omega arith in e) at c.before.loop.invariant.1
+returns c = rw (let e : c.loop-i.i ≡ c.args.j = omega arith in e) at c.loop-i.invariant.1
 
-pub lower-rows-sound-spec : {M : Type 1} → statement M
-lower-rows-sound-spec =
+pub lower_rows_sound_spec : {M : Type 1} → statement M
+lower_rows_sound_spec =
     tie.close
     (tie.spec
     invariant-loop

@@ -11,18 +11,18 @@ use Rattle.soundness_rows.proofs.Tests.{run-same}
 use Rattle.soundness_rows.proofs.pair_rows_sound.Statement.{statement}
 use Rattle.soundness_rows.proofs.pair_rows_sound.Tie as tie
 
-returns : tie.Need-returns
+returns : tie.Need-returns-then-not-stated
 unfolding pair_rows_fit
 returns c =
-    ap (λ (x : ℕ). eqb x 0) (run-same 32 _ c.joined.ensures c.before.before.place.ensures.0 (omega arith))
-    ∙ sym (if-false _ _ _ (not-true _ c.before.if1.true))
+    ap (λ (x : ℕ). eqb x 0) (run-same 32 _ c.joined.ensures c.place-at.ensures.0 (omega arith))
+    ∙ sym (if-false _ _ _ (c.if-not-stated.true))
 
-returns-2 : tie.Need-returns-2
+returns-2 : tie.Need-returns
 unfolding pair_rows_fit
-returns-2 c = rw c.before.before.place.ensures.0 at c.constraint-sound.ensures ∙ sym (if-true _ _ _ (not-false _ c.before.if1.false))
+returns-2 c = rw c.place-at.ensures.0 at c.constraint_sound.ensures ∙ sym (if-true _ _ _ (c.if-not-stated.false))
 
-pub pair-rows-sound-spec : {M : Type 1} → statement M
-pair-rows-sound-spec =
+pub pair_rows_sound_spec : {M : Type 1} → statement M
+pair_rows_sound_spec =
     tie.close
     (tie.spec
     (λ c κs. search rules)

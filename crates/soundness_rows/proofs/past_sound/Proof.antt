@@ -11,8 +11,8 @@ returns : tie.Need-returns
 unfolding slot
 returns c = past_is 32 _ _ c.joined.ensures (omega arith)
 
-pub past-sound-spec : {M : Type 1} → statement M
-past-sound-spec =
+pub past_sound_spec : {M : Type 1} → statement M
+past_sound_spec =
     tie.close
     (tie.spec
     (λ c. search rules)

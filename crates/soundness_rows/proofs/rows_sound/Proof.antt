@@ -12,35 +12,35 @@ use Rattle.soundness_rows.specs.Fits.{lower_rows_fit, rows_fit}
 use Rattle.soundness_rows.proofs.rows_sound.Statement.{statement}
 use Rattle.soundness_rows.proofs.rows_sound.Tie as tie
 
-abbrev invariant-loop : tie.invariant-loop
+abbrev invariant-loop : tie.invariant-loop-j
 invariant-loop n sizes stated rows all₀ j₀ all j = (j ≤ n) × (all ≡ every j (λ (k : ℕ). lower_rows_fit 32 sizes (get_or stated k 0) rows k))
 
-abbrev decreases-loop : tie.decreases-loop
+abbrev decreases-loop : tie.decreases-loop-j
 decreases-loop n sizes stated rows all₀ j₀ all j = n - j
 
-returns : tie.Need-returns invariant-loop decreases-loop
+returns : tie.Need-returns-then-not-past_sound invariant-loop decreases-loop
 unfolding rows_fit
-returns c = sym (and-fails _ _ (sym c.before.past-sound.ensures ∙ not-true _ c.if1.true))
+returns c = sym (and-fails _ _ (sym c.past_sound.ensures ∙ c.if-not-past_sound.true))
 
-loop-holds : tie.Need-loop-init invariant-loop decreases-loop
+loop-holds : tie.Need-loop-j-init invariant-loop decreases-loop
 unfolding every
 loop-holds c = (omega arith, refl)
 
-lower-rows-sound-requires : tie.Need-lower-rows-sound-requires invariant-loop decreases-loop
-lower-rows-sound-requires c κs = (search rules, c.before.before.before.before.before.requires.2)
+lower-rows-sound-requires : tie.Need-lower_rows_sound-all-requires invariant-loop decreases-loop
+lower-rows-sound-requires c κs = (search rules, c.requires.2)
 
-loop-again : tie.Need-loop-preserved invariant-loop decreases-loop
-loop-again c = (omega arith, test-joins _ _ c.before.before.before.loop.invariant.1 c.lower-rows-sound.ensures)
+loop-again : tie.Need-loop-j-preserved invariant-loop decreases-loop
+loop-again c = (omega arith, test-joins _ _ c.loop-j.invariant.1 c.lower_rows_sound-all.ensures)
 
-returns-2 : tie.Need-returns-2 invariant-loop decreases-loop
+returns-2 : tie.Need-returns invariant-loop decreases-loop
 unfolding rows_fit
 returns-2 c =
-    let past = c.before.before in
-    rw (let e : c.before.loop.j ≡ past.before.before.args.n = omega arith in e) at c.before.loop.invariant.1
-    ∙ sym (and-holds _ _ (sym past.before.past-sound.ensures ∙ not-false _ past.if1.false))
+    let past = c in
+    rw (let e : c.loop-j.j ≡ past.args.n = omega arith in e) at c.loop-j.invariant.1
+    ∙ sym (and-holds _ _ (sym past.past_sound.ensures ∙ past.if-not-past_sound.false))
 
-pub rows-sound-spec : {M : Type 1} → statement M
-rows-sound-spec =
+pub rows_sound_spec : {M : Type 1} → statement M
+rows_sound_spec =
     tie.close
     (tie.spec
     invariant-loop

@@ -6,11 +6,11 @@ use Rattle.survey_product.proofs.Ties.{tied-none, tied-some}
 use Rattle.survey_product.proofs.is_tied.Statement.{statement}
 use Rattle.survey_product.proofs.is_tied.Tie as tie
 
-returns : tie.Need-returns
-returns c = tied-none _ _ _ (sym c.before.member.ensures ∙ not-true _ c.if1.true)
+returns : tie.Need-returns-then-not-member
+returns c = tied-none _ _ _ (sym c.member.ensures ∙ c.if-not-member.true)
 
-returns-2 : tie.Need-returns-2
-returns-2 c = tied-some _ _ _ _ (sym c.before.before.member.ensures ∙ not-false _ c.before.if1.false) c.both.ensures
+returns-2 : tie.Need-returns
+returns-2 c = tied-some _ _ _ _ (sym c.member.ensures ∙ c.if-not-member.false) c.both.ensures
 
-pub is-tied-spec : {M : Type 1} → statement M
-is-tied-spec = tie.close (tie.spec (λ c κs. search rules) returns (λ c κs. search rules) returns-2)
+pub is_tied_spec : {M : Type 1} → statement M
+is_tied_spec = tie.close (tie.spec (λ c κs. search rules) returns (λ c κs. search rules) returns-2)

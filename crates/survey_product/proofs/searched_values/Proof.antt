@@ -8,29 +8,29 @@ use Rattle.survey_product.proofs.Ties.{searched-led, searched-tied, searched-emp
 use Rattle.survey_product.proofs.searched_values.Statement.{statement}
 use Rattle.survey_product.proofs.searched_values.Tie as tie
 
-returns : tie.Need-returns
-returns c = searched-led _ _ _ _ (sym c.before.member.ensures ∙ not-true _ c.if1.true)
+returns : tie.Need-returns-then-not-member
+returns c = searched-led _ _ _ _ (sym c.member.ensures ∙ c.if-not-member.true)
 
-is_free : (c : tie.After-member2) → has c.before.before.before.args.free c.before.before.before.args.i ≡ true
-is_free c = sym c.before.before.member.ensures ∙ not-false _ c.before.if1.false
+is_free : (c : tie.After-member-2) → has c.args.free c.args.i ≡ true
+is_free c = sym c.member.ensures ∙ c.if-not-member.false
 
-returns-2 : tie.Need-returns-2
+returns-2 : tie.Need-returns-then-member
 returns-2 c =
-    let m = c.before.before in
-    c.count.ensures ∙ searched-tied _ _ _ _ (is_free m) (sym m.member2.ensures ∙ c.before.if2.true)
+    let m = c in
+    c.count.ensures ∙ searched-tied _ _ _ _ (is_free c.before.before) (sym m.member-2.ensures ∙ c.if-member.true)
 
-returns-3 : tie.Need-returns-3
+returns-3 : tie.Need-returns-then-domain-eq0
 returns-3 c =
-    let m = c.before.before in
-    searched-empty _ _ _ _ (is_free m) (sym m.member2.ensures ∙ c.before.if2.false) c.if3.true
+    let m = c in
+    searched-empty _ _ _ _ (is_free c.before.before) (sym m.member-2.ensures ∙ c.if-member.false) c.if-domain-eq0.true
 
-returns-4 : tie.Need-returns-4
+returns-4 : tie.Need-returns
 returns-4 c =
-    let m = c.before.before in
-    searched-open _ _ _ _ (is_free m) (sym m.member2.ensures ∙ c.before.if2.false) m.before.before.before.ranges.domain.fits c.if3.false
+    let m = c in
+    searched-open _ _ _ _ (is_free c.before.before) (sym m.member-2.ensures ∙ c.if-member.false) m.ranges.domain.fits c.if-domain-eq0.false
 
-pub searched-values-spec : {M : Type 1} → statement M
-searched-values-spec =
+pub searched_values_spec : {M : Type 1} → statement M
+searched_values_spec =
     tie.close
     (tie.spec
     (λ c κs. search rules)

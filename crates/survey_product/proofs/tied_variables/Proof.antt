@@ -10,25 +10,25 @@ use Rattle.survey_product.specs.Tied.{tied_word}
 use Rattle.survey_product.proofs.tied_variables.Statement.{statement}
 use Rattle.survey_product.proofs.tied_variables.Tie as tie
 
-abbrev invariant-loop : tie.invariant-loop
+abbrev invariant-loop : tie.invariant-loop-i
 invariant-loop n free stated tied₀ i₀ tied i = (i ≤ n) × (tied ≡ tied_word i free stated)
 
-abbrev decreases-loop : tie.decreases-loop
+abbrev decreases-loop : tie.decreases-loop-i
 decreases-loop n free stated tied₀ i₀ tied i = n - i
 
-loop-holds : tie.Need-loop-init invariant-loop decreases-loop
+loop-holds : tie.Need-loop-i-init invariant-loop decreases-loop
 unfolding tied_word
 loop-holds c = (omega arith, sym (word-zero _))
 
-loop-again : tie.Need-loop-preserved invariant-loop decreases-loop
+loop-again : tie.Need-loop-i-preserved invariant-loop decreases-loop
 unfolding tied_word
-loop-again c = (omega arith, bit-joins 4294967296 _ _ (pow_mono {j = 32} (omega arith)) c.before.before.before.loop.invariant.1 c.is_Tied.ensures)
+loop-again c = (omega arith, bit-joins 4294967296 _ _ (pow_mono {j = 32} (omega arith)) c.loop-i.invariant.1 c.is_tied.ensures)
 
 returns : tie.Need-returns invariant-loop decreases-loop
-returns c = rw (let e : c.before.loop.i ≡ c.before.before.args.n = omega arith in e) at c.before.loop.invariant.1
+returns c = rw (let e : c.loop-i.i ≡ c.args.n = omega arith in e) at c.loop-i.invariant.1
 
-pub tied-variables-spec : {M : Type 1} → statement M
-tied-variables-spec =
+pub tied_variables_spec : {M : Type 1} → statement M
+tied_variables_spec =
     tie.close
     (tie.spec
     invariant-loop

@@ -6,90 +6,90 @@ use Rattle.read_body.proofs.Reading.{no-count, no-sizes, no-constraints, no-tabl
 use Rattle.read_body.proofs.body.read_body.Statement.{statement}
 use Rattle.read_body.proofs.body.read_body.Tie as tie
 
-returns : tie.Need-returns
+returns : tie.Need-returns-in_default
 returns c =
-    rw c.enum_told.given.1
-    (no-count _ (read-bad c.before.before.byte-field.ensures c.enum_told.given.1))
+    rw c.in_default.is
+    (no-count _ (read-bad c.byte_field-count.ensures c.in_default.is))
 
 -- n is read.
-at_n : (c : tie.After-known-told) → Counted c.before.before.before.before.before.args.bytes.now c.before.count.given.0.0
-at_n c = counted _ (read-got c.before.before.before.byte-field.ensures c.before.count.given.1)
+at_n : (c : tie.In-Value) → Counted c.args.bytes.now c.in-Value.n
+at_n c = counted _ (read-got c.byte_field-count.ensures c.in-Value.is)
 
-read-sizes-requires : tie.Need-read-sizes-requires
+read-sizes-requires : tie.Need-read_sizes-listed-requires
 read-sizes-requires c κs =
-    let start = c.before.before.before.before.before.before in
+    let start = c in
     ((at_n c.before).few, start.requires.1, start.requires.2)
 
-returns-2 : tie.Need-returns-2
+returns-2 : tie.Need-returns-in_default-listed
 returns-2 c =
-    rw c.enum-told2.given.1
-    (no-sizes _ (at_n c.before.before.before.before) c.before.before.read-sizes.ensures c.enum-told2.given.1)
+    rw c.in_default-listed.is
+    (no-sizes _ (at_n c.before.before.before.before) c.read_sizes-listed.ensures c.in_default-listed.is)
 
 -- The sizes are read.
-at-sizes : (c : tie.After-known-told2)
-    → (let sizes = c.before.before.before in
-    let n = sizes.before.before.before in
-    let args = n.before.before.before.before.args in
-    Listed args.bytes.now args.most n.count.given.0.0 sizes.read-sizes.new.1.1.1.0
-    c.before.listed.given.0.1.0)
+at-sizes : (c : tie.In-Value-listed)
+    → (let sizes = c in
+    let n = sizes in
+    let args = n.args in
+    Listed args.bytes.now args.most n.in-Value.n sizes.read_sizes-listed.new.1.1.1.0
+    c.in-Value-listed.after)
 at-sizes c =
     let sizes = c.before.before.before in
-    listed _ (at_n sizes.before.before) sizes.read-sizes.ensures c.before.listed.given.1
+    listed _ (at_n c.before.before.before.before.before) sizes.read_sizes-listed.ensures c.in-Value-listed.is
 
-sub-byte-field : tie.Need-overflow-sub-byte-field
+sub-byte-field : tie.Need-overflow_sub-n
 sub-byte-field c = (at-sizes c).some
 
-mul-byte-field : tie.Need-overflow-mul-byte-field
+mul-byte-field : tie.Need-overflow_mul-n
 mul-byte-field c = pairs-fit _ (at-sizes c).few
 
-returns-3 : tie.Need-returns-3
+returns-3 : tie.Need-returns-in_default-constraints
 returns-3 c =
-    rw c.enum-told3.given.1
-    (no-constraints _ (at-sizes c.before.before.before) (read-bad c.before.before.byte-field2.ensures c.enum-told3.given.1))
+    rw c.in_default-constraints.is
+    (no-constraints _ (at-sizes c.before.before.before) (read-bad c.byte_field-constraints.ensures c.in_default-constraints.is))
 
 -- p is read.
-at_p : (c : tie.After-known-told3)
-    → (let sizes = c.before.before.before.before.before.before.before in
-    let n = sizes.before.before.before in
-    let args = n.before.before.before.before.args in
-    Constrained args.bytes.now args.most n.count.given.0.0 sizes.read-sizes.new.1.1.1.0
-    c.before.constraints.given.0.0 c.before.constraints.given.0.1.0)
+at_p : (c : tie.In-Value-constraints)
+    → (let sizes = c in
+    let n = sizes in
+    let args = n.args in
+    Constrained args.bytes.now args.most n.in-Value.n sizes.read_sizes-listed.new.1.1.1.0
+    c.in-Value-constraints.p c.in-Value-constraints.first)
 at_p c =
     constrained _ (at-sizes c.before.before.before.before)
-    (read-got c.before.before.before.byte-field2.ensures c.before.constraints.given.1)
+    (read-got c.byte_field-constraints.ensures c.in-Value-constraints.is)
 
-read-tables-requires : tie.Need-read-tables-requires
+read-tables-requires : tie.Need-read_tables-all-requires
 read-tables-requires c κs =
-    let p = c.before.before.before in
-    let start = p.before.before.before.before.before.before.before.before.before.before.before.before.before.before in
-    ((at_p p).inside, start.requires.0, (at_p p).few, start.requires.3, start.requires.4, (at_p p).sized)
+    let p = c in
+    let start = p in
+    ((at_p c.before.before).inside, start.requires.0, (at_p c.before.before).few, start.requires.3, start.requires.4, (at_p c.before.before).sized)
 
-returns-4 : tie.Need-returns-4
+returns-4 : tie.Need-returns-in_default-all
 returns-4 c =
     let tables = c.before.before in
-    rw c.enum-told4.given.1
-    (no-tables _ (at_p tables.before.before.before.before) tables.read-tables.ensures c.enum-told4.given.1)
+    rw c.in_default-all.is
+    (no-tables _ (at_p c.before.before.before.before.before) tables.read_tables-all.ensures c.in_default-all.is)
 
 -- The tables are read.
-at-end : (c : tie.After-known-told4)
-    → (let tables = c.before.before.before in
-    let sizes = tables.before.before.before.before.before.before.before.before.before.before.before in
-    let n = sizes.before.before.before in
-    let args = n.before.before.before.before.args in
-    Tabled args.bytes.now args.k args.filled args.most n.count.given.0.0 sizes.read-sizes.new.1.1.1.0
-    tables.read-tables.new.1.1.1.1.1.1.1.0 tables.read-tables.new.1.1.1.1.1.1.1.1.0 c.before.all.given.0.1.0)
+at-end : (c : tie.In-Value-all)
+    → (let tables = c in
+    let sizes = tables in
+    let n = sizes in
+    let args = n.args in
+    Tabled args.bytes.now args.k args.filled args.most n.in-Value.n sizes.read_sizes-listed.new.1.1.1.0
+    tables.read_tables-all.new.1.1.1.1.1.1.1.0 tables.read_tables-all.new.1.1.1.1.1.1.1.1.0 c.in-Value-all.end)
 at-end c =
     let tables = c.before.before.before in
-    tabled-all _ (at_p tables.before.before.before.before) tables.read-tables.ensures c.before.all.given.1
+    tabled-all _ (at_p c.before.before.before.before.before.before) tables.read_tables-all.ensures c.in-Value-all.is
 
-returns-5 : tie.Need-returns-5
-returns-5 c = left_over _ (at-end c.before) c.if1.true
+returns-5 : tie.Need-returns-then-end-bytes
+returns-5 c = left_over _ (at-end c.before) c.if-end-bytes.true
 
-returns-6 : tie.Need-returns-6
-returns-6 c = body-read _ (at-end c.before) c.if1.false
+returns-6 : tie.Need-returns
+returns-6 c = body-read _ (at-end c.before) c.if-end-bytes.false
 
-pub read-body-spec : {M : Type 1} → statement M
-read-body-spec =
+pub read_body_spec : {M : Type 1} → statement M
+read_body_spec =
     tie.close
     (tie.spec
     (λ c κs. search rules)

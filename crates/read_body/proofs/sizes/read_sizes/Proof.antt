@@ -7,34 +7,34 @@ use Rattle.read_body.proofs.SizesLoop.{SizesSoFar, size_fits, sizes-none, sizes-
 use Rattle.read_body.proofs.sizes.read_sizes.Statement.{statement}
 use Rattle.read_body.proofs.sizes.read_sizes.Tie as tie
 
-abbrev invariant-loop : tie.invariant-loop
+abbrev invariant-loop : tie.invariant-loop-i
 invariant-loop bytes n most sizes₀ at₀ i₀ sizes at i = SizesSoFar bytes n most sizes at i
 
-abbrev decreases-loop : tie.decreases-loop
+abbrev decreases-loop : tie.decreases-loop-i
 decreases-loop bytes n most sizes₀ at₀ i₀ sizes at i = n - i
 
-loop-holds : tie.Need-loop-init invariant-loop decreases-loop
+loop-holds : tie.Need-loop-i-init invariant-loop decreases-loop
 loop-holds c = search (sizes-none, rules)
 
-returns : tie.Need-returns invariant-loop decreases-loop
+returns : tie.Need-returns-in_default invariant-loop decreases-loop
 returns c =
-    rw c.enum_told.given.1
-    (sizes-refused c.before.before.before.before.loop.invariant (omega arith)
-    (read-bad c.before.before.byte-field.ensures c.enum_told.given.1))
+    rw c.in_default.is
+    (sizes-refused c.loop-i.invariant (omega arith)
+    (read-bad c.byte_field-size.ensures c.in_default.is))
 
-cast-sizes : tie.Need-overflow-cast-sizes invariant-loop decreases-loop
-cast-sizes c = size_fits _ _ (omega arith) (read-got c.before.before.before.byte-field.ensures c.before.size.given.1)
+cast-sizes : tie.Need-overflow_cast-sizes invariant-loop decreases-loop
+cast-sizes c = size_fits _ _ (omega arith) (read-got c.byte_field-size.ensures c.in-Value.is)
 
-loop-again : tie.Need-loop-preserved invariant-loop decreases-loop
+loop-again : tie.Need-loop-i-preserved invariant-loop decreases-loop
 loop-again c =
-    sizes-more c.before.before.before.before.before.loop.invariant (omega arith) (omega arith) (omega arith)
-    (read-got c.before.before.before.byte-field.ensures c.before.size.given.1)
+    sizes-more c.loop-i.invariant (omega arith) (omega arith) (omega arith)
+    (read-got c.byte_field-size.ensures c.in-Value.is)
 
-returns-2 : tie.Need-returns-2 invariant-loop decreases-loop
+returns-2 : tie.Need-returns invariant-loop decreases-loop
 returns-2 c = search (sizes-end, rules)
 
-pub read-sizes-spec : {M : Type 1} → statement M
-read-sizes-spec =
+pub read_sizes_spec : {M : Type 1} → statement M
+read_sizes_spec =
     tie.close
     (tie.spec
     invariant-loop

@@ -78,127 +78,127 @@ choose-calls t = (
 module _ (t : ℕ) where
   -- ---- attempt
 
-  returns : attempt-lts.Need-returns (attempt-calls t) (attempt-at t) attempt.Post
-  returns c = record { whole = c.before.requires.1.3; chooses = λ N L f. tried-none _ L f c.if1.true }
+  returns : attempt-lts.Need-returns-then-left-eq0 (attempt-calls t) (attempt-at t) attempt.Post
+  returns c = record { whole = c.requires.1.3; chooses = λ N L f. tried-none _ L f c.if-left-eq0.true }
 
   -- The value that is tried is one of the rest.
   tried : (c : attempt-lts.After-next-value (attempt-calls t) (attempt-at t) attempt.Post)
-      → (c.next-value.result < width) × (has c.before.before.args.rest c.next-value.result ≡ true)
-  tried c = lowest-in width _ _ c.before.before.ranges.rest.fits c.before.if1.false c.next-value.ensures
+      → (c.next_value-v.result < width) × (has c.args.rest c.next_value-v.result ≡ true)
+  tried c = lowest-in width _ _ c.ranges.rest.fits c.if-left-eq0.false c.next_value-v.ensures
 
-  narrow-requires : attempt-lts.Need-narrow-requires (attempt-calls t) (attempt-at t) attempt.Post
+  narrow-requires : attempt-lts.Need-narrow-changed-requires (attempt-calls t) (attempt-at t) attempt.Post
   narrow-requires c κs =
-      let l = c.before.before.before.before in
-      let s = l.before.before in
+      let l = c in
+      let s = l in
       ((tried l).0, λ j h. s.requires.1.1 j (in-second width _ _ _ j c.both.ensures h), s.requires.1.2)
 
   choose-requires : attempt-lts.Need-choose-requires (attempt-calls t) (attempt-at t) attempt.Post
   choose-requires c κs =
-      let n = c.before.before in
-      let s = n.before.before.before.before.before.before.before in
-      (omega (arith, s.requires.0), (λ j h. (s.requires.1.1 j h).1, n.narrow.ensures.whole ∙ s.requires.1.2, s.requires.1.3))
+      let n = c in
+      let s = n in
+      (omega (arith, s.requires.0), (λ j h. (s.requires.1.1 j h).1, n.narrow-changed.ensures.whole ∙ s.requires.1.2, s.requires.1.3))
 
-  cast-values : attempt-lts.Need-cast-values (attempt-calls t) (attempt-at t) attempt.Post
+  cast-values : attempt-lts.Need-overflow_cast-values (attempt-calls t) (attempt-at t) attempt.Post
   cast-values c = let l = (tried c.before.before.before.before.before.before.before.before.before).0 in search rules
 
   -- What is known once the other variables are chosen, or cannot be.
   taken : (c : attempt-lts.After-choose (attempt-calls t) (attempt-at t) attempt.Post) (N : Network)
-      → let n = c.before.before.before in
-      let l = n.before.before.before.before.before in
-      let s = l.before.before in
+      → let n = c in
+      let l = n in
+      let s = l in
       Left 32 N s.args.stated.now s.args.rows.now (s.args.k + 1) s.args.left → free N s.args.k ≡ true
       → Taken 32 N s.args.stated.now s.args.rows.now s.args.k s.args.left s.args.domains.now s.args.rest
-      l.next-value.result n.narrow.result n.narrow.new.0 c.choose.result s.args.values.now c.choose.new.1.1.1.1.0
+      l.next_value-v.result n.narrow-changed.result n.narrow-changed.new.0 c.choose.result s.args.values.now c.choose.new.1.1.1.1.0
   taken c N L f =
       let n = c.before.before.before in
       let l = n.before.before.before.before.before in
-      let s = l.before.before in
+      let s = l in
       record {
         left_after = L;
         k_free = f;
         rest_fits = s.ranges.rest.fits;
         left_fits = s.ranges.left.fits;
-        some = l.before.if1.false;
-        lowest = l.next-value.ensures;
-        narrowed = rw n.before.both.ensures at n.narrow.ensures;
+        some = l.if-left-eq0.false;
+        lowest = l.next_value-v.ensures;
+        narrowed = rw n.both.ensures at n.narrow-changed.ensures;
         chosen = c.choose.ensures.chooses N _ L;
       }
 
-  returns-2 : attempt-lts.Need-returns-2 (attempt-calls t) (attempt-at t) attempt.Post
+  returns-2 : attempt-lts.Need-returns (attempt-calls t) (attempt-at t) attempt.Post
   returns-2 c =
       let a = c.before in
       let long = a.choose.ensures.whole in
-      let k_in = a.before.before.before.before.before.before.before.before.before.before.requires.1.0 in
+      let k_in = a.requires.1.0 in
       record {
         whole = length-set a.choose.new.1.1.1.1.0 _ _ ∙ long;
-        chooses = λ N L f. taken-hit (taken a N L f) c.if2.true (omega (arith, long, k_in));
+        chooses = λ N L f. taken-hit (taken a N L f) c.if-choose.true (omega (arith, long, k_in));
       }
 
-  returns-3 : attempt-lts.Need-returns-3 (attempt-calls t) (attempt-at t) attempt.Post
+  returns-3 : attempt-lts.Need-returns-then-not-changed (attempt-calls t) (attempt-at t) attempt.Post
   returns-3 c =
-      let a = c.before.before in
+      let a = c in
       record {
         whole = a.choose.ensures.whole;
-        chooses = λ N L f. taken-stuck (taken a N L f) c.before.if2.false (not-true _ c.if3.true);
+        chooses = λ N L f. taken-stuck (taken a N L f) c.if-choose.false (c.if-not-changed.true);
       }
 
   attempt-requires : attempt-lts.Need-attempt-requires (attempt-calls t) (attempt-at t) attempt.Post
   attempt-requires c κs =
-      let a = c.before.before.before.before in
-      let l = a.before.before.before.before.before.before.before.before in
-      let s = l.before.before in
-      let less = rest-less width s.ranges.rest.fits l.before.if1.false l.next-value.ensures c.before.dropped.ensures in
+      let a = c in
+      let l = a in
+      let s = l in
+      let less = rest-less width s.ranges.rest.fits l.if-left-eq0.false l.next_value-v.ensures c.dropped.ensures in
       (omega (arith, less, s.requires.0), (s.requires.1.0, s.requires.1.1, s.requires.1.2, a.choose.ensures.whole))
 
-  returns-4 : attempt-lts.Need-returns-4 (attempt-calls t) (attempt-at t) attempt.Post
+  returns-4 : attempt-lts.Need-returns (attempt-calls t) (attempt-at t) attempt.Post
   returns-4 c =
-      let e = c.before.before.before.before in
+      let e = c in
       record {
         whole = c.attempt.ensures.whole;
         chooses = λ N L f.
-            taken-miss (taken e.before N L f) _ c.before.before.dropped.ensures _ _ e.if2.false (c.attempt.ensures.chooses N L f);
+            taken-miss (taken e.before N L f) _ c.dropped.ensures _ _ e.if-choose.false (c.attempt.ensures.chooses N L f);
       }
 
   -- ---- choose
 
-  choose-returns : choose-lts.Need-returns (choose-calls t) (choose-at t) choose.Post
-  choose-returns c = record { whole = c.before.requires.1.2; chooses = λ N k L. chosen-end L c.if1.true }
+  choose-returns : choose-lts.Need-returns-then-left-eq0 (choose-calls t) (choose-at t) choose.Post
+  choose-returns c = record { whole = c.requires.1.2; chooses = λ N k L. chosen-end L c.if-left-eq0.true }
 
   -- The variable that is chosen is one of those that are left.
-  chosen : (c : choose-lts.After-lowest (choose-calls t) (choose-at t) choose.Post) → c.lowest.result < variables
+  chosen : (c : choose-lts.After-lowest (choose-calls t) (choose-at t) choose.Post) → c.lowest-k.result < variables
   chosen c =
-      c.before.before.requires.1.0 _
-      (lowest-in width _ _ c.before.before.ranges.left.fits c.before.if1.false c.lowest.ensures).1
+      c.requires.1.0 _
+      (lowest-in width _ _ c.ranges.left.fits c.if-left-eq0.false c.lowest-k.ensures).1
 
-  mul-attempt : choose-lts.Need-overflow-mul-attempt (choose-calls t) (choose-at t) choose.Post
+  mul-attempt : choose-lts.Need-offset_bounds-domains-k (choose-calls t) (choose-at t) choose.Post
   mul-attempt c = let l = chosen c in search rules
 
   choose-attempt-requires : choose-lts.Need-attempt-requires (choose-calls t) (choose-at t) choose.Post
   choose-attempt-requires c κs =
       let l = c.before.before.before in
-      let s = l.before.before in
+      let s = l in
       let fits = s.ranges.left.fits in
-      let some = l.before.if1.false in
-      let e = c.before.dropped.ensures in
-      let less = rest-less width fits some l.lowest.ensures e in
-      let most = count-le width (has (get_or s.args.domains.now l.lowest.result 0)) in (
+      let some = l.if-left-eq0.false in
+      let e = c.dropped.ensures in
+      let less = rest-less width fits some l.lowest-k.ensures e in
+      let most = count-le width (has (get_or s.args.domains.now l.lowest-k.result 0)) in (
         omega (arith, less, most, s.requires.0),
-        (chosen l, λ j h. let q = above-lowest width _ _ _ fits some l.lowest.ensures e j h in (q.1, s.requires.1.0 j q.0), s.requires.1.1, s.requires.1.2),
+        (chosen l, λ j h. let q = above-lowest width _ _ _ fits some l.lowest-k.ensures e j h in (q.1, s.requires.1.0 j q.0), s.requires.1.1, s.requires.1.2),
       )
 
-  choose-returns-2 : choose-lts.Need-returns-2 (choose-calls t) (choose-at t) choose.Post
+  choose-returns-2 : choose-lts.Need-returns (choose-calls t) (choose-at t) choose.Post
   choose-returns-2 c =
       let l = c.before.before.before.before in
       let s = l.before.before in
       record {
         whole = c.attempt.ensures.whole;
         chooses = λ N k L.
-            chosen-next L s.ranges.left.fits l.before.if1.false l.lowest.ensures c.before.before.dropped.ensures
+            chosen-next L s.ranges.left.fits l.if-left-eq0.false l.lowest-k.ensures c.dropped.ensures
             _ (c.attempt.ensures.chooses N);
       }
 
-pub +attempt-choose-spec : {M : Type 1} → statement M
-+attempt-choose-spec =
+pub +attempt_choose_spec : {M : Type 1} → statement M
++attempt_choose_spec =
     close μ-attempt μ-choose
     (λ t. attempt-lts.spec (attempt-calls t) (attempt-at t) attempt.Post
     (returns t)

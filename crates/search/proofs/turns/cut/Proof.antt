@@ -11,9 +11,9 @@ use Rattle.search.proofs.turns.cut.Tie as tie
 returns : tie.Need-returns
 unfolding cut_by
 returns c =
-    let domain = c.before.before.args.domain in
+    let domain = c.args.domain in
     c.both.ensures
-    ∙ word-cong width _ _ (λ u b. ap (and (has domain u)) (rw c.before.Stored-row.ensures (has_word width _ u b)))
+    ∙ word-cong width _ _ (λ u b. ap (and (has domain u)) (rw c.stored_row.ensures (has_word width _ u b)))
 
 pub cut_spec : {M : Type 1} → statement M
 cut_spec = tie.close (tie.spec (λ c κs. search rules) (λ c κs. search rules) returns)

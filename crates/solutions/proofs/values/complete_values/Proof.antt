@@ -8,40 +8,40 @@ use Rattle.solutions.proofs.Choices.{completed-none, completed-more, leader-read
 use Rattle.solutions.proofs.values.complete_values.Statement.{statement}
 use Rattle.solutions.proofs.values.complete_values.Tie as tie
 
-abbrev invariant-loop : tie.invariant-loop
+abbrev invariant-loop : tie.invariant-loop-i
 invariant-loop n domains leaders rows values₀ i₀ values i = (i ≤ n) × Completed 32 i domains leaders rows values₀ values
 
-abbrev decreases-loop : tie.decreases-loop
+abbrev decreases-loop : tie.decreases-loop-i
 decreases-loop n domains leaders rows values₀ i₀ values i = n - i
 
-loop-holds : tie.Need-loop-init invariant-loop decreases-loop
+loop-holds : tie.Need-loop-i-init invariant-loop decreases-loop
 loop-holds c = (omega arith, completed-none)
 
-value-completed-requires : tie.Need-value-completed-requires invariant-loop decreases-loop
+value-completed-requires : tie.Need-value_completed-value-requires invariant-loop decreases-loop
 value-completed-requires c κs = (
-  omega (arith, c.before.before.before.before.requires.led_n),
-  omega (arith, c.before.before.before.before.requires.led_length, c.before.before.loop.invariant.1.same_length),
-  leader-ready c.before.before.before.before.requires c.before.before.loop.invariant.1 c.before.loop-test.true,
+  omega (arith, c.requires.led_n),
+  omega (arith, c.requires.led_length, c.loop-i.invariant.1.same_length),
+  leader-ready c.requires c.loop-i.invariant.1 c.loop-i-test.true,
 )
 
-slice-write-values : tie.Need-slice-write-values invariant-loop decreases-loop
-slice-write-values c = omega (arith, c.before.before.before.before.before.requires.led_length, c.before.before.before.loop.invariant.1.same_length)
+slice-write-values : tie.Need-bounds-values-i invariant-loop decreases-loop
+slice-write-values c = omega (arith, c.requires.led_length, c.loop-i.invariant.1.same_length)
 
-loop-again : tie.Need-loop-preserved invariant-loop decreases-loop
+loop-again : tie.Need-loop-i-preserved invariant-loop decreases-loop
 loop-again c = (
   omega arith,
-  completed-more c.before.before.before.before.before.requires c.before.before.before.loop.invariant.1 c.before.before.loop-test.true
-      c.value_completed.ensures,
+  completed-more c.requires c.loop-i.invariant.1 c.loop-i-test.true
+      c.value_completed-value.ensures,
 )
 
-same_length : tie.Need-same-length invariant-loop decreases-loop
-same_length c = c.before.loop.invariant.1.same_length
+same_length : tie.Need-shape_of-values invariant-loop decreases-loop
+same_length c = c.loop-i.invariant.1.same_length
 
 returns : tie.Need-returns invariant-loop decreases-loop
-returns c = rw (let e : c.before.loop.i ≡ c.before.before.before.args.n = omega arith in e) at c.before.loop.invariant.1
+returns c = rw (let e : c.loop-i.i ≡ c.args.n = omega arith in e) at c.loop-i.invariant.1
 
-pub complete-values-spec : {M : Type 1} → statement M
-complete-values-spec =
+pub complete_values_spec : {M : Type 1} → statement M
+complete_values_spec =
     tie.close
     (tie.spec
     invariant-loop

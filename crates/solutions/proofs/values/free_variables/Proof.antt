@@ -10,25 +10,25 @@ use Rattle.solutions.specs.Choices.{free_word}
 use Rattle.solutions.proofs.values.free_variables.Statement.{statement}
 use Rattle.solutions.proofs.values.free_variables.Tie as tie
 
-abbrev invariant-loop : tie.invariant-loop
+abbrev invariant-loop : tie.invariant-loop-i
 invariant-loop n leaders free₀ i₀ free i = (i ≤ n) × (free ≡ free_word i leaders)
 
-abbrev decreases-loop : tie.decreases-loop
+abbrev decreases-loop : tie.decreases-loop-i
 decreases-loop n leaders free₀ i₀ free i = n - i
 
-loop-holds : tie.Need-loop-init invariant-loop decreases-loop
+loop-holds : tie.Need-loop-i-init invariant-loop decreases-loop
 unfolding free_word
 loop-holds c = (omega arith, sym (word-zero _))
 
-loop-again : tie.Need-loop-preserved invariant-loop decreases-loop
+loop-again : tie.Need-loop-i-preserved invariant-loop decreases-loop
 unfolding free_word
-loop-again c = (omega arith, bit-joins 4294967296 _ _ (pow_mono {j = 32} (omega arith)) c.before.before.loop.invariant.1 refl)
+loop-again c = (omega arith, bit-joins 4294967296 _ _ (pow_mono {j = 32} (omega arith)) c.loop-i.invariant.1 refl)
 
 returns : tie.Need-returns invariant-loop decreases-loop
-returns c = rw (let e : c.before.loop.i ≡ c.before.before.args.n = omega arith in e) at c.before.loop.invariant.1
+returns c = rw (let e : c.loop-i.i ≡ c.args.n = omega arith in e) at c.loop-i.invariant.1
 
-pub free-variables-spec : {M : Type 1} → statement M
-free-variables-spec =
+pub free_variables_spec : {M : Type 1} → statement M
+free_variables_spec =
     tie.close
     (tie.spec
     invariant-loop

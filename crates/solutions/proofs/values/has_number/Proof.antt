@@ -7,11 +7,11 @@ use Rattle.words.proofs.Laws.{has-past}
 use Rattle.solutions.proofs.values.has_number.Statement.{statement}
 use Rattle.solutions.proofs.values.has_number.Tie as tie
 
-returns : tie.Need-returns
-returns c = sym (has-past width _ _ c.before.ranges.members.fits (omega arith))
+returns : tie.Need-returns-then-v-ge-WIDTH
+returns c = sym (has-past width _ _ c.ranges.members.fits (omega arith))
 
-returns-2 : tie.Need-returns-2
+returns-2 : tie.Need-returns
 returns-2 c = c.member.ensures
 
-pub has-number-spec : {M : Type 1} → statement M
-has-number-spec = tie.close (tie.spec returns (λ c κs. search rules) returns-2)
+pub has_number_spec : {M : Type 1} → statement M
+has_number_spec = tie.close (tie.spec returns (λ c κs. search rules) returns-2)

@@ -6,7 +6,7 @@ use Rattle.solutions.proofs.values.has_value.Statement.{statement}
 use Rattle.solutions.proofs.values.has_value.Tie as tie
 
 returns : tie.Need-returns
-returns c = c.has-number.ensures ∙ ap (has _) c.before.wide.ensures
+returns c = c.has_number.ensures ∙ ap (has _) c.wide.ensures
 
-pub has-value-spec : {M : Type 1} → statement M
-has-value-spec = tie.close (tie.spec (λ c κs. search rules) (λ c κs. search rules) returns)
+pub has_value_spec : {M : Type 1} → statement M
+has_value_spec = tie.close (tie.spec (λ c κs. search rules) (λ c κs. search rules) returns)

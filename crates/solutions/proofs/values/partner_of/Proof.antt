@@ -7,7 +7,7 @@ use Rattle.solutions.proofs.values.partner_of.Tie as tie
 
 returns : tie.Need-returns
 unfolding partner_of
-returns c = partner-found 32 _ _ c.before.before.row.ensures c.before.both.ensures c.lowest-value.ensures
+returns c = partner-found 32 _ _ c.row.ensures c.both.ensures c.lowest_value.ensures
 
-pub partner-of-spec : {M : Type 1} → statement M
-partner-of-spec = tie.close (tie.spec (λ c κs. search rules) (λ c κs. search rules) (λ c κs. search rules) returns)
+pub partner_of_spec : {M : Type 1} → statement M
+partner_of_spec = tie.close (tie.spec (λ c κs. search rules) (λ c κs. search rules) (λ c κs. search rules) returns)

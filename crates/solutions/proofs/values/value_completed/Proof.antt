@@ -9,32 +9,32 @@ use Rattle.solutions.proofs.values.value_completed.Statement.{statement}
 use Rattle.solutions.proofs.values.value_completed.Tie as tie
 
 -- The leader, counted from 0, is a variable that has a value.
-led : (c : tie.After-wide)
-    → LeaderReady 32 c.before.before.before.before.args.i (c.wide.result - 1) c.before.before.before.before.args.values.now
-led c = c.before.before.before.before.requires.2 (c.wide.result - 1) (omega (arith, c.wide.ensures, c.before.if1.false))
+led : (c : tie.After-wide-l)
+    → LeaderReady 32 c.args.i (c.wide-l.result - 1) c.args.values.now
+led c = c.requires.2 (c.wide-l.result - 1) (omega (arith, c.wide-l.ensures, c.if-leader-eq0.false))
 
-returns : tie.Need-returns
+returns : tie.Need-returns-then-leader-eq0
 returns c =
-    let s = c.before.before.before.before.args in
-    completed-live 32 s.domains.now s.leaders.now s.rows.now s.values.now s.i c.before.if1.true
+    let s = c.args in
+    completed-live 32 s.domains.now s.leaders.now s.rows.now s.values.now s.i c.if-leader-eq0.true
 
-shared-slice-read-wide : tie.Need-shared-slice-read-wide
-shared-slice-read-wide c = (led c.before.before).leader_read
+shared-slice-read-wide : tie.Need-bounds-values-l
+shared-slice-read-wide c = (led c.before.before.before).leader_read
 
-partner-of-requires : tie.Need-partner-of-requires
+partner-of-requires : tie.Need-partner_of-requires
 partner-of-requires c κs =
-    let l = led c.before.before.before in
-    (l.leader_in, c.before.before.before.before.before.before.before.requires.0, l.leader_other, omega (arith, c.wide2.ensures, l.leader_fits))
+    let l = led c.before.before.before.before in
+    (l.leader_in, c.requires.0, l.leader_other, omega (arith, c.wide.ensures, l.leader_fits))
 
-returns-2 : tie.Need-returns-2
+returns-2 : tie.Need-returns
 returns-2 c =
-    let s = c.before.before.before.before.before.before.before.before.args in
-    c.partner-of.ensures
+    let s = c.args in
+    c.partner_of.ensures
     ∙ completed-follower 32 s.domains.now s.leaders.now s.rows.now s.values.now s.i _ _
-    c.before.before.before.before.before.if1.false (omega (arith, c.before.before.before.before.wide.ensures)) c.before.wide2.ensures
+    c.if-leader-eq0.false (omega (arith, c.wide-l.ensures)) c.wide.ensures
 
-pub value-completed-spec : {M : Type 1} → statement M
-value-completed-spec =
+pub value_completed_spec : {M : Type 1} → statement M
+value_completed_spec =
     tie.close
     (tie.spec
     (λ c. search rules)

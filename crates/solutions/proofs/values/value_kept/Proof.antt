@@ -5,11 +5,11 @@ use borrow.Author.Rules.{rules}
 use Rattle.solutions.proofs.values.value_kept.Statement.{statement}
 use Rattle.solutions.proofs.values.value_kept.Tie as tie
 
-returns : tie.Need-returns
-returns c = value-led _ _ _ c.if1.true
+returns : tie.Need-returns-then-leader-ne0
+returns c = value-led _ _ _ c.if-leader-ne0.true
 
-returns-2 : tie.Need-returns-2
-returns-2 c = c.has_value.ensures ∙ value-live _ _ _ c.before.if1.false
+returns-2 : tie.Need-returns
+returns-2 c = c.has_value.ensures ∙ value-live _ _ _ c.if-leader-ne0.false
 
-pub value-kept-spec : {M : Type 1} → statement M
-value-kept-spec = tie.close (tie.spec returns (λ c κs. search rules) returns-2)
+pub value_kept_spec : {M : Type 1} → statement M
+value_kept_spec = tie.close (tie.spec returns (λ c κs. search rules) returns-2)

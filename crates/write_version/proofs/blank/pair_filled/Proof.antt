@@ -8,22 +8,22 @@ use Rattle.write_version.proofs.Filled.{rows_filled}
 use Rattle.write_version.proofs.blank.pair_filled.Statement.{statement}
 use Rattle.write_version.proofs.blank.pair_filled.Tie as tie
 
-returns : tie.Need-returns
+returns : tie.Need-returns-then-not-member
 unfolding pair_filled
-returns c = sym (implies-false _ _ (sym c.before.member.ensures ∙ not-true _ c.if1.true))
+returns c = sym (implies-false _ _ (sym c.member.ensures ∙ c.if-not-member.true))
 
-returns-2 : tie.Need-returns-2
+returns-2 : tie.Need-returns
 unfolding pair_filled
 returns-2 c =
-    let w = c.before.before in
-    let p = w.before in
-    let e = p.before.before in
-    rows_filled 32 _ _ _ e.before.before.requires.0 (rw w.wide.ensures at c.before.full2.ensures) p.before.full.ensures p.partners.ensures
+    let w = c in
+    let p = w in
+    let e = p in
+    rows_filled 32 _ _ _ e.requires.0 (rw w.wide.ensures at c.full-2.ensures) p.full.ensures p.partners-partners.ensures
     c.without.ensures
-    ∙ sym (implies_true _ _ (sym e.before.member.ensures ∙ not-false _ e.if1.false))
+    ∙ sym (implies_true _ _ (sym e.member.ensures ∙ e.if-not-member.false))
 
-pub pair-filled-spec : {M : Type 1} → statement M
-pair-filled-spec =
+pub pair_filled_spec : {M : Type 1} → statement M
+pair_filled_spec =
     tie.close
     (tie.spec
     (λ c κs. search rules)

@@ -8,29 +8,29 @@ use Rattle.write_version.proofs.Filled.{banned-pass, allowed-pass}
 use Rattle.write_version.proofs.blank.rows_pass.Statement.{statement}
 use Rattle.write_version.proofs.blank.rows_pass.Tie as tie
 
-shaped : (c : tie.Start) → HeadShaped c.args.t1
+shaped : (c : tie.Start) → HeadShaped c.args.head
 shaped c = search shape
 
-returns : tie.Need-returns
+returns : tie.Need-returns-then-not-fixed_by
 returns c =
-    let f = c.before.before in
-    let s = f.before in
-    allowed-pass _ (shaped s) s.requires _ (sym f.fixed-by.ensures.filled_is ∙ not-true _ c.if1.true)
+    let f = c in
+    let s = f in
+    allowed-pass _ (shaped c.before.before.before) s.requires _ (sym f.fixed_by.ensures.filled_is ∙ c.if-not-fixed_by.true)
 
-all-filled-requires : tie.Need-all-filled-requires
+all-filled-requires : tie.Need-all_filled-requires
 all-filled-requires c κs =
-    let s = c.before.before.before.before.before.before in
-    (held-n _ _ s.requires, λ i. omega (arith, held-size _ _ (shaped s) s.requires i))
+    let s = c in
+    (held-n _ _ s.requires, λ i. omega (arith, held-size _ _ (shaped c.before.before.before.before.before) s.requires i))
 
-returns-2 : tie.Need-returns-2
+returns-2 : tie.Need-returns
 returns-2 c =
-    let e = c.before.before.before.before in
-    let f = e.before.before in
-    let s = f.before in
-    banned-pass _ (shaped s) s.requires _ (sym f.fixed-by.ensures.filled_is ∙ not-false _ e.if1.false) c.all-filled.ensures
+    let e = c in
+    let f = e in
+    let s = f in
+    banned-pass _ (shaped c.before.before.before.before.before.before) s.requires _ (sym f.fixed_by.ensures.filled_is ∙ e.if-not-fixed_by.false) c.all_filled.ensures
 
-pub rows-pass-spec : {M : Type 1} → statement M
-rows-pass-spec =
+pub rows_pass_spec : {M : Type 1} → statement M
+rows_pass_spec =
     tie.close
     (tie.spec
     (λ c κs. search rules)

@@ -11,30 +11,30 @@ use Rattle.write_version.proofs.Version.{none-fits, limit-fits}
 use Rattle.write_version.proofs.layout.fits_version.Statement.{statement}
 use Rattle.write_version.proofs.layout.fits_version.Tie as tie
 
-abbrev invariant-loop : tie.invariant-loop
+abbrev invariant-loop : tie.invariant-loop-i
 invariant-loop version n sizes most all₀ i₀ all i = (i ≤ n) × (all ≡ every i (λ (k : ℕ). leb (get_or sizes k 0) most))
 
-abbrev decreases-loop : tie.decreases-loop
+abbrev decreases-loop : tie.decreases-loop-i
 decreases-loop version n sizes most all₀ i₀ all i = n - i
 
-returns : tie.Need-returns invariant-loop decreases-loop
-returns c h rows n sizes = sym (none-fits _ _ c.before.fixed-by.ensures h rows c.if1.true)
+returns : tie.Need-returns-then-most-eq0 invariant-loop decreases-loop
+returns c h rows n sizes = sym (none-fits _ _ c.fixed_by-most.ensures h rows c.if-most-eq0.true)
 
-loop-holds : tie.Need-loop-init invariant-loop decreases-loop
+loop-holds : tie.Need-loop-i-init invariant-loop decreases-loop
 unfolding every
 loop-holds c = (omega arith, refl)
 
-loop-again : tie.Need-loop-preserved invariant-loop decreases-loop
-loop-again c = (omega arith, test-joins _ _ c.before.before.loop.invariant.1 refl)
+loop-again : tie.Need-loop-i-preserved invariant-loop decreases-loop
+loop-again c = (omega arith, test-joins _ _ c.loop-i.invariant.1 refl)
 
-returns-2 : tie.Need-returns-2 invariant-loop decreases-loop
+returns-2 : tie.Need-returns invariant-loop decreases-loop
 returns-2 c h rows n sizes =
-    let f = c.before.before.before in
-    let e : c.before.loop.i ≡ h.n = omega arith in
-    rw (e, ← sizes) at c.before.loop.invariant.1 ∙ limit-fits _ _ f.fixed-by.ensures h rows c.before.before.if1.false
+    let f = c in
+    let e : c.loop-i.i ≡ h.n = omega arith in
+    rw (e, ← sizes) at c.loop-i.invariant.1 ∙ limit-fits _ _ f.fixed_by-most.ensures h rows c.if-most-eq0.false
 
-pub fits-version-spec : {M : Type 1} → statement M
-fits-version-spec =
+pub fits_version_spec : {M : Type 1} → statement M
+fits_version_spec =
     tie.close
     (tie.spec
     invariant-loop
