@@ -20,13 +20,13 @@ loop-holds c = (omega arith, each_none _ _ _ _)
 add-at-requires : tie.Need-add_at-requires invariant-loop decreases-loop
 add-at-requires c κs =
     let l = c in
-    omega (arith, c.spot_of_lem.ensures, l.requires.1 l.loop-o.o (omega arith))
+    omega (arith, c.spot_of.ensures, l.requires.1 l.loop-o.o (omega arith))
 
 loop-again : tie.Need-loop-o-preserved invariant-loop decreases-loop
 loop-again c =
     let s = c in
     let l = s in
-    (omega arith, each_more _ _ _ _ l.loop-o.o _ _ _ l.loop-o.invariant.1 s.spot_of_lem.ensures c.add_at.ensures)
+    (omega arith, each_more _ _ _ _ l.loop-o.o _ _ _ l.loop-o.invariant.1 s.spot_of.ensures c.add_at.ensures)
 
 returns : tie.Need-returns invariant-loop decreases-loop
 returns c = let e : c.loop-o.o ≡ c.args.n = omega arith in rw e at c.loop-o.invariant.1

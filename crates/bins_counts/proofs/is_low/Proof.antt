@@ -10,7 +10,7 @@ use Rattle.bins_counts.proofs.is_low.Tie as tie
 
 returns : tie.Need-returns
 unfolding is_low
-returns c = let a = c.args in ap (λ (i : ℕ). ltb (get_or a.counts.now i 0) a.amount) c.spot_of_lem.ensures
+returns c = let a = c.args in ap (λ (i : ℕ). ltb (get_or a.counts.now i 0) a.amount) c.spot_of-at.ensures
 
 pub is_low_spec : {M : Type 1} → statement M
 is_low_spec =

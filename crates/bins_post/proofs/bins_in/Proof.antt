@@ -132,7 +132,7 @@ module _ {M : Type 1} {𝓤 : Ura M} (𝓛 : Logic 𝓤) (at_mem : Memory → SP
   abbrev to-post : Lft → ℕ → GName → (Posted 𝓛 at_mem run).Ghost
   to-post κ b γ = (((κ, tt), (full_share, tt), tt, (lent b γ, (p, tt)), (slice_val (b, 0) (length ys) ∷ [], (planV p ∷ [], tt))), tt)
 
-  goes-post : (κ : Lft) (b : ℕ) (γ : GName) → ent 𝓤 (⋆ 𝓛 (‵ (flft κ full_share) ∷ ‵ (Bins κ b γ) ∷ [])) ((Posted 𝓛 at_mem run).pre (to-post κ b γ))
+  goes-post : (κ : Lft) (b : ℕ) (γ : GName) → ent 𝓤 (⋆ 𝓛 (‵ (flft κ full_share) ∷ ‵ (Bins κ b γ) ∷ [])) ((Posted 𝓛 at_mem run).requires (to-post κ b γ))
   goes-post κ b γ =
       qed 𝓛 (‵ (flft κ full_share) ∷ ‵ (Bins κ b γ) ∷ []) ∵ nothing ! $ owned ! P.the_row (Is P.the_row) (LL.makes P.the_type P'.the_plain 𝓛) p _ isp $ fjoin ! $ move ! (2 ∷ 0 ∷ []) $ fjoin ! $
       nothing ! $ move ! (2 ∷ 0 ∷ 1 ∷ []) $ join ! $ join ! $ frame ! $ done !
@@ -159,7 +159,7 @@ module _ {M : Type 1} {𝓤 : Ura M} (𝓛 : Logic 𝓤) (at_mem : Memory → SP
         assigns ! (addr ! (from ! (stop !))) (from ! (stop !)) (init ! 6 refl (tt, tt)) $
         assigns ! (agg ! (and_then ! (load ! (from ! (stop !)) (look ! 6 refl)) (and_then ! (load ! (from ! (stop !)) (look ! 13 refl)) (no_more !)))) (from ! (stop !)) (init ! 4 refl (tt, (tt, (record { fits = n-fits }, tt)))) $
         rewrite ! 4 (λ (m : ℕ). ‵ (fat full_share (slice_ty (ty_ref erased mut (pointee (B.the_row).written))) l₇ 0 (slice_val (l₄, 0) m))) (sym ys-long) refl $
-        move ! (2 ∷ 0 ∷ []) $ use2 𝓛 (raw ((Posted 𝓛 at_mem run).pre (to-post (α ∷ []) l₄ γ))) (goes-post (α ∷ []) l₄ γ) $
+        move ! (2 ∷ 0 ∷ []) $ use2 𝓛 (raw ((Posted 𝓛 at_mem run).requires (to-post (α ∷ []) l₄ γ))) (goes-post (α ∷ []) l₄ γ) $
         -- [what `post` asks; the lender's part; the other elements; _7; …]
         calls_at ! fm (Posted 𝓛 at_mem run) ko (to-post (α ∷ []) l₄ γ) (and_then ! (load ! (from ! (stop !)) (look ! 3 refl)) (and_then ! (load ! (from ! (stop !)) (look ! 10 refl)) (no_more !))) (λ w.
         use1 𝓛 (later (some (λ (c : ℕ). ((‵ (flft (α ∷ []) full_share) ⊛ ‵ ftrue) ⊛ ‵ (u8.own_val c (w ∷ []))) ⊛ raw (ensured 𝓛 po.ended (po.clauses 𝓛 at_mem run) ((α ∷ []), tt) (lent l₄ γ, (p, tt)) tt c)))) (id⊢ 𝓤 _) $ await ! tt $ pick ! (λ c.

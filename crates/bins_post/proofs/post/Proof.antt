@@ -277,7 +277,7 @@ module _ {M : Type 1} {𝓤 : Ura M} (𝓛 : Logic 𝓤) (at_mem : Memory → SP
           elem_out ! B.the_row (Is B.the_row) (shows 𝓛 B.the_row) (LL.vals B.the_type B'.the_laws) (LL.tells B.the_type B'.the_laws) full_share zs i none b o within (λ ie.
           -- [bins[i]; what it owns; the others; the open borrow; obs; auth; _18; …]
           assigns ! (of_opd ! (load ! (from ! (hop ! (look ! 12 refl) (stop !))) (look_raw ! 0 refl))) (from ! (stop !)) (init ! 10 refl ((LL.lawful B.the_type B'.the_laws 𝓛).typed e _ ie).0) $
-          nothing ! $ use1 𝓛 (raw ((Moved 𝓛 at_mem run).pre (to-moved 𝓛 at_mem run p e))) (goes_moved 𝓛 at_mem run p isp e ie) $
+          nothing ! $ use1 𝓛 (raw ((Moved 𝓛 at_mem run).requires (to-moved 𝓛 at_mem run p e))) (goes_moved 𝓛 at_mem run p isp e ie) $
           calls_at ! fm (Moved 𝓛 at_mem run) known-moved (to-moved 𝓛 at_mem run p e) (and_then ! (load ! (from ! (stop !)) (look ! 39 refl)) (and_then ! (load ! (from ! (stop !)) (look ! 11 refl)) (no_more !))) (λ u.
           use1 𝓛 (later (some (λ (w : Bin). (‵ ftrue ⊛ ‵ ((B.the_row).own_val w (u ∷ []))) ⊛ raw (Said-moved 𝓛 at_mem run p e w)))) (id⊢ 𝓤 _) $
           answered ! tt B.the_row (Said-moved 𝓛 at_mem run p e) (λ w. w ≡ moved_of p e) (said-moved 𝓛 at_mem run p e) u (λ w eq iw.
@@ -296,7 +296,7 @@ module _ {M : Type 1} {𝓤 : Ura M} (𝓛 : Logic 𝓤) (at_mem : Memory → SP
     -- ---- between the loops: the verdict
     judged : (s : Seen) (v : Val) (i : ℕ) → Is S.the_row s (v ∷ []) → s ≡ run_of p start_of ys → Sq 𝓛 (Open ys (R byte l₆ (Base i v))) (runs C Λ En t-5 (at_ret En Post))
     judged s v i is at-end =
-        nothing ! $ use1 𝓛 (raw ((Settled 𝓛 at_mem run).pre (to-settled 𝓛 at_mem run p s v))) (goes-settled 𝓛 at_mem run p isp s v is) $
+        nothing ! $ use1 𝓛 (raw ((Settled 𝓛 at_mem run).requires (to-settled 𝓛 at_mem run p s v))) (goes-settled 𝓛 at_mem run p isp s v is) $
         calls_at ! fm (Settled 𝓛 at_mem run) known-settled (to-settled 𝓛 at_mem run p s v) (and_then ! (load ! (from ! (stop !)) (look ! 37 refl)) (and_then ! (load ! (from ! (stop !)) (look ! 33 refl)) (no_more !))) (λ u.
         use1 𝓛 (later (some (λ (r : ℕ). (‵ ftrue ⊛ ‵ (u8.own_val r (u ∷ []))) ⊛ raw (Said-settled 𝓛 at_mem run p s r)))) (id⊢ 𝓤 _) $
         answered ! tt u8 (Said-settled 𝓛 at_mem run p s) (λ r. r ≡ settled_of p s) (said_settled 𝓛 at_mem run p s) u (λ r eq ir.
@@ -343,7 +343,7 @@ module _ {M : Type 1} {𝓤 : Ura M} (𝓛 : Logic 𝓤) (at_mem : Memory → SP
         elem_out ! B.the_row (Is B.the_row) (shows 𝓛 B.the_row) (LL.vals B.the_type B'.the_laws) (LL.tells B.the_type B'.the_laws) full_share ys i none b o less (λ ie.
         assigns ! (of_opd ! (load ! (from ! (hop ! (look ! 24 refl) (stop !))) (look_raw ! 0 refl))) (from ! (stop !)) (init ! 22 refl ((LL.lawful B.the_type B'.the_laws 𝓛).typed e _ ie).0) $
         elem_back ! B.the_row full_share ys i none (binV e ∷ []) b o less $
-        nothing ! $ use1 𝓛 (raw ((Looked 𝓛 at_mem run).pre (to-looked 𝓛 at_mem run p s v e))) (goes-looked 𝓛 at_mem run p isp s v e t.4 ie) $
+        nothing ! $ use1 𝓛 (raw ((Looked 𝓛 at_mem run).requires (to-looked 𝓛 at_mem run p s v e))) (goes-looked 𝓛 at_mem run p isp s v e t.4 ie) $
         calls_at ! fm (Looked 𝓛 at_mem run) known-looked (to-looked 𝓛 at_mem run p s v e) (and_then ! (load ! (from ! (stop !)) (look ! 37 refl)) (and_then ! (load ! (from ! (stop !)) (look ! 33 refl)) (and_then ! (load ! (from ! (stop !)) (look ! 21 refl)) (no_more !)))) (λ u.
         use1 𝓛 (later (some (λ (w : Seen). (‵ ftrue ⊛ ‵ ((S.the_row).own_val w (u ∷ []))) ⊛ raw (Said-looked 𝓛 at_mem run p s e w)))) (id⊢ 𝓤 _) $
         answered ! tt S.the_row (Said-looked 𝓛 at_mem run p s e) (λ w. w ≡ looked_of p s e) (said-looked 𝓛 at_mem run p s e) u (λ w eq iw.

@@ -10,39 +10,39 @@ use Rattle.read_sheet.proofs.read_into.Statement.{statement}
 use Rattle.read_sheet.proofs.read_into.Tie as tie
 
 -- The length is right.
-right-length : (c : tie.Else1) → wrong_length c.before.before.before.args.bytes.now ≡ false
-right-length c = sym c.before.wrong-length.ensures ∙ c.if1.false
+right-length : (c : tie.Else-wrong_length) → wrong_length c.args.bytes.now ≡ false
+right-length c = sym c.wrong_length.ensures ∙ c.if-wrong_length.false
 
-returns : tie.Need-returns
-returns c = into-wrong-length _ (sym c.before.wrong-length.ensures ∙ c.if1.true)
+returns : tie.Need-returns-then-wrong_length
+returns c = into-wrong-length _ (sym c.wrong_length.ensures ∙ c.if-wrong_length.true)
 
-shared-slice-read-version : tie.Need-shared-slice-read-version
+shared-slice-read-version : tie.Need-bounds-bytes-0
 shared-slice-read-version c = some_byte _ (right-length c.before)
 
-returns-2 : tie.Need-returns-2
+returns-2 : tie.Need-returns-then-version-eq1
 unfolding version1
 returns-2 c =
-    let version = c.before.before.before.before in
-    into-body _ (right-length version.before.before) version1 (version1-found _ version.if2.true) c.read-body.ensures
+    let version = c in
+    into-body _ (right-length c.before.before.before.before.before.before) version1 (version1-found _ version.if-version-eq1.true) c.read_body.ensures
 
-returns-3 : tie.Need-returns-3
+returns-3 : tie.Need-returns-then-version-eq2
 unfolding version2
 returns-3 c =
-    let version = c.before.before.before.before in
-    into-body _ (right-length version.before.before.before) version2 (version2-found _ version.if3.true) c.read-body2.ensures
+    let version = c in
+    into-body _ (right-length c.before.before.before.before.before.before.before) version2 (version2-found _ version.if-version-eq2.true) c.read_body-then-version-eq2.ensures
 
-returns-4 : tie.Need-returns-4
+returns-4 : tie.Need-returns-then-version-eq3
 unfolding version3
 returns-4 c =
-    let version = c.before.before.before.before in
-    into-body _ (right-length version.before.before.before.before) version3 (version3-found _ version.if4.true) c.read-body3.ensures
+    let version = c in
+    into-body _ (right-length c.before.before.before.before.before.before.before.before) version3 (version3-found _ version.if-version-eq3.true) c.read_body-then-version-eq3.ensures
 
-returns-5 : tie.Need-returns-5
+returns-5 : tie.Need-returns
 returns-5 c =
-    into-wrong-version _ (right-length c.before.before.before.before) c.before.before.if2.false c.before.if3.false c.if4.false
+    into-wrong-version _ (right-length c.before.before.before.before) c.if-version-eq1.false c.if-version-eq2.false c.if-version-eq3.false
 
-pub read-into-spec : {M : Type 1} → statement M
-read-into-spec =
+pub read_into_spec : {M : Type 1} → statement M
+read_into_spec =
     tie.close
     (tie.spec
     (λ c κs. search rules)

@@ -3,11 +3,11 @@ use Rattle.solutions.proofs.Choices.{domain-led, domain-live}
 use Rattle.solutions_head.proofs.domain_open.Statement.{statement}
 use Rattle.solutions_head.proofs.domain_open.Tie as tie
 
-returns : tie.Need-returns
-returns c = domain-led _ _ c.if1.true
+returns : tie.Need-returns-then-leader-ne0
+returns c = domain-led _ _ c.if-leader-ne0.true
 
-returns-2 : tie.Need-returns-2
-returns-2 c = domain-live _ _ c.if1.false
+returns-2 : tie.Need-returns
+returns-2 c = domain-live _ _ c.if-leader-ne0.false
 
-pub domain-open-spec : {M : Type 1} → statement M
-domain-open-spec = tie.close (tie.spec returns returns-2)
+pub domain_open_spec : {M : Type 1} → statement M
+domain_open_spec = tie.close (tie.spec returns returns-2)

@@ -10,25 +10,25 @@ use Rattle.solutions.specs.Choices.{domain_open, domains_open}
 use Rattle.solutions_head.proofs.domains_open.Statement.{statement}
 use Rattle.solutions_head.proofs.domains_open.Tie as tie
 
-abbrev invariant-loop : tie.invariant-loop
+abbrev invariant-loop : tie.invariant-loop-i
 invariant-loop n leaders domains all₀ i₀ all i = (i ≤ n) × (all ≡ every i (λ (k : ℕ). domain_open (get_or leaders k 0) (get_or domains k 0)))
 
-abbrev decreases-loop : tie.decreases-loop
+abbrev decreases-loop : tie.decreases-loop-i
 decreases-loop n leaders domains all₀ i₀ all i = n - i
 
-loop-holds : tie.Need-loop-init invariant-loop decreases-loop
+loop-holds : tie.Need-loop-i-init invariant-loop decreases-loop
 unfolding every
 loop-holds c = (omega arith, refl)
 
-loop-again : tie.Need-loop-preserved invariant-loop decreases-loop
-loop-again c = (omega arith, test-joins _ _ c.before.before.before.before.loop.invariant.1 c.domain-open.ensures)
+loop-again : tie.Need-loop-i-preserved invariant-loop decreases-loop
+loop-again c = (omega arith, test-joins _ _ c.loop-i.invariant.1 c.domain_open-all.ensures)
 
 returns : tie.Need-returns invariant-loop decreases-loop
 unfolding domains_open
-returns c = rw (let e : c.before.loop.i ≡ c.before.before.args.n = omega arith in e) at c.before.loop.invariant.1
+returns c = rw (let e : c.loop-i.i ≡ c.args.n = omega arith in e) at c.loop-i.invariant.1
 
-pub domains-open-spec : {M : Type 1} → statement M
-domains-open-spec =
+pub domains_open_spec : {M : Type 1} → statement M
+domains_open_spec =
     tie.close
     (tie.spec
     invariant-loop

@@ -10,28 +10,28 @@ use Rattle.solutions.specs.Choices.{fresh_value, fresh_parts}
 use Rattle.solutions_head.proofs.fresh_parts.Statement.{statement}
 use Rattle.solutions_head.proofs.fresh_parts.Tie as tie
 
-abbrev invariant-loop : tie.invariant-loop
+abbrev invariant-loop : tie.invariant-loop-i
 invariant-loop n sizes domains leaders all₀ i₀ all i = (i ≤ n) × (all ≡ every i (λ (k : ℕ). fresh_value 32 (get_or leaders k 0) (get_or domains k 0) (get_or sizes k 0)))
 
-abbrev decreases-loop : tie.decreases-loop
+abbrev decreases-loop : tie.decreases-loop-i
 decreases-loop n sizes domains leaders all₀ i₀ all i = n - i
 
-loop-holds : tie.Need-loop-init invariant-loop decreases-loop
+loop-holds : tie.Need-loop-i-init invariant-loop decreases-loop
 unfolding every
 loop-holds c = (omega arith, refl)
 
-fresh-value-requires : tie.Need-fresh-value-requires invariant-loop decreases-loop
-fresh-value-requires c κs = c.before.before.before.before.before.requires.1 _
+fresh-value-requires : tie.Need-fresh_value-all-requires invariant-loop decreases-loop
+fresh-value-requires c κs = c.requires.1 _
 
-loop-again : tie.Need-loop-preserved invariant-loop decreases-loop
-loop-again c = (omega arith, test-joins _ _ c.before.before.loop.invariant.1 c.fresh-value.ensures)
+loop-again : tie.Need-loop-i-preserved invariant-loop decreases-loop
+loop-again c = (omega arith, test-joins _ _ c.loop-i.invariant.1 c.fresh_value-all.ensures)
 
 returns : tie.Need-returns invariant-loop decreases-loop
 unfolding fresh_parts
-returns c = rw (let e : c.before.loop.i ≡ c.before.before.before.before.before.args.head.n = omega arith in e) at c.before.loop.invariant.1
+returns c = rw (let e : c.loop-i.i ≡ c.args.head.n = omega arith in e) at c.loop-i.invariant.1
 
-pub fresh-parts-spec : {M : Type 1} → statement M
-fresh-parts-spec =
+pub fresh_parts_spec : {M : Type 1} → statement M
+fresh_parts_spec =
     tie.close
     (tie.spec
     invariant-loop

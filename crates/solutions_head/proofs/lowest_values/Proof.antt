@@ -10,23 +10,23 @@ use Rattle.solutions.proofs.Choices.{lowest-none, lowest-more}
 use Rattle.solutions_head.proofs.lowest_values.Statement.{statement}
 use Rattle.solutions_head.proofs.lowest_values.Tie as tie
 
-abbrev invariant-loop : tie.invariant-loop
+abbrev invariant-loop : tie.invariant-loop-i
 invariant-loop n domains values₀ i₀ values i = (i ≤ n) × (values ≡ tabulate variables (lowest_of 32 i domains))
 
-abbrev decreases-loop : tie.decreases-loop
+abbrev decreases-loop : tie.decreases-loop-i
 decreases-loop n domains values₀ i₀ values i = n - i
 
-loop-holds : tie.Need-loop-init invariant-loop decreases-loop
+loop-holds : tie.Need-loop-i-init invariant-loop decreases-loop
 loop-holds c = (omega arith, lowest-none 32 _)
 
-loop-again : tie.Need-loop-preserved invariant-loop decreases-loop
-loop-again c = (omega arith, lowest-more 32 _ (omega arith) c.before.before.before.loop.invariant.1 c.lowest-value.ensures)
+loop-again : tie.Need-loop-i-preserved invariant-loop decreases-loop
+loop-again c = (omega arith, lowest-more 32 _ (omega arith) c.loop-i.invariant.1 c.lowest_value.ensures)
 
 returns : tie.Need-returns invariant-loop decreases-loop
-returns c = rw (let e : c.before.loop.i ≡ c.before.before.args.n = omega arith in e) at c.before.loop.invariant.1
+returns c = rw (let e : c.loop-i.i ≡ c.args.n = omega arith in e) at c.loop-i.invariant.1
 
-pub lowest-values-spec : {M : Type 1} → statement M
-lowest-values-spec =
+pub lowest_values_spec : {M : Type 1} → statement M
+lowest_values_spec =
     tie.close
     (tie.spec
     invariant-loop

@@ -9,45 +9,46 @@ use Rattle.step_choice.proofs.Judging.{Named, leader-zero, leader-above, followe
 use Rattle.step_choice.proofs.judge.Statement.{statement}
 use Rattle.step_choice.proofs.judge.Tie as tie
 
-returns : tie.Need-returns
+returns : tie.Need-returns-then-leader-eq0
 unfolding held outcome_number
-returns c = sym (leader-zero _ _ _ c.if1.true)
+returns c = sym (leader-zero _ _ _ c.if-leader-eq0.true)
 
-returns-2 : tie.Need-returns-2
+returns-2 : tie.Need-returns-then-n-leader
 unfolding held outcome_number
-returns-2 c = sym (leader-above _ _ _ c.if2.true)
+returns-2 c = sym (leader-above _ _ _ c.if-n-leader.true)
 
-returns-3 : tie.Need-returns-3
+returns-3 : tie.Need-returns-then-follower-eq0
 unfolding held outcome_number
-returns-3 c = sym (follower-zero _ _ _ c.if3.true)
+returns-3 c = sym (follower-zero _ _ _ c.if-follower-eq0.true)
 
-returns-4 : tie.Need-returns-4
+returns-4 : tie.Need-returns-then-n-follower
 unfolding held outcome_number
-returns-4 c = sym (follower-above _ _ _ c.if4.true)
+returns-4 c = sym (follower-above _ _ _ c.if-n-follower.true)
 
-named : (c : tie.Else4) → Named c.before.before.before.before.args.head.n
-    c.before.before.before.before.args.leader c.before.before.before.before.args.follower
+named : (c : tie.Else-n-follower) → Named c.args.head.n
+    c.args.leader c.args.follower
 named c = search rules
 
-returns-5 : tie.Need-returns-5
+returns-5 : tie.Need-returns-then-leader-follower
 unfolding held outcome_number
-returns-5 c = sym (same-variable _ _ _ (named c.before) c.if5.true)
+returns-5 c = sym (same-variable _ _ _ (named c.before) c.if-leader-follower.true)
 
-judge-pair-requires : tie.Need-judge-pair-requires
+judge-pair-requires : tie.Need-judge_pair-requires
 judge-pair-requires c κs =
-    let s = c.before.before.before.before.before.before.before.before in
+    let s = c in
     let h : HeadShaped s.args.head = search shape in
     (omega (arith, held-n), omega (arith, held-n), stated_apart _ h s.requires)
 
-returns-6 : tie.Need-returns-6
-returns-6 c =
-    let e = c.before.before.before.before in
-    let s = e.before.before.before.before.before in
-    let h : HeadShaped s.args.head = search shape in
-    c.judge-pair.ensures ∙ refusal-counted _ h s.requires (named e.before) e.if5.false
+-- The head's arrays are arrays.
+shaped : (c : tie.Start) → HeadShaped c.args.head
+shaped c = search shape
 
-pub judge-spec : {M : Type 1} → statement M
-judge-spec =
+returns-6 : tie.Need-returns
+returns-6 c = c.judge_pair.ensures
+    ∙ refusal-counted _ (shaped c.before.before.before.before.before.before.before.before.before) c.requires (named c.before.before.before.before.before) c.if-leader-follower.false
+
+pub judge_spec : {M : Type 1} → statement M
+judge_spec =
     tie.close
     (tie.spec
     returns

@@ -12,46 +12,46 @@ use Rattle.step_choice.proofs.Searching.{judged-legal, judged-refused, none-outs
 use Rattle.step_choice.proofs.next_follower.Statement.{statement}
 use Rattle.step_choice.proofs.next_follower.Tie as tie
 
-abbrev invariant-loop : tie.invariant-loop
+abbrev invariant-loop : tie.invariant-loop-j
 invariant-loop rows i n leaders domains stated j₀ j = (j ≤ n) × ((y : ℕ) → y < j → legal_at leaders domains stated rows i y ≡ false)
 
-abbrev decreases-loop : tie.decreases-loop
+abbrev decreases-loop : tie.decreases-loop-j
 decreases-loop rows i n leaders domains stated j₀ j = n - j
 
-returns : tie.Need-returns invariant-loop decreases-loop
-returns c = none-outside _ _ _ c.if1.true
+returns : tie.Need-returns-then-n-i invariant-loop decreases-loop
+returns c = none-outside _ _ _ c.if-n-i.true
 
-loop-holds : tie.Need-loop-init invariant-loop decreases-loop
+loop-holds : tie.Need-loop-j-init invariant-loop decreases-loop
 loop-holds c = (omega arith, λ y l. absurd (let b : ⊥ = omega arith in b))
 
-judge-pair-requires : tie.Need-judge-pair-requires invariant-loop decreases-loop
+judge-pair-requires : tie.Need-judge_pair-judgement-requires invariant-loop decreases-loop
 judge-pair-requires c κs =
-    let s = c.before.before.before.before.before.before in
+    let s = c in
     let h : HeadShaped s.args.head = search shape in
     (omega (arith, held-n), omega (arith, held-n), stated_apart _ h s.requires)
 
-returns-2 : tie.Need-returns-2 invariant-loop decreases-loop
+returns-2 : tie.Need-returns-in-Done invariant-loop decreases-loop
 returns-2 c =
-    let l = c.before.before.before.before.loop in
-    let s = c.before.before.before.before.before.before.before.before.before in
+    let l = c.loop-j in
+    let s = c in
     let h : HeadShaped s.args.head = search shape in
     follower-found _ h s.requires (omega arith) (omega arith)
-    (judged-legal _ (ap outcome_number (sym c.enum_told.given.1) ∙ c.before.before.judge-pair.ensures)) l.invariant.1
+    (judged-legal _ (ap outcome_number (sym c.in-Done.is) ∙ c.judge_pair-judgement.ensures)) l.invariant.1
 
-loop-again : tie.Need-loop-preserved invariant-loop decreases-loop
+loop-again : tie.Need-loop-j-preserved invariant-loop decreases-loop
 loop-again c =
-    let l = c.before.before.before.before.loop in
-    (omega arith, below_more _ _ l.invariant.1 (judged-refused _ _ (ap outcome_number (sym c.enum-told2.given.1) ∙ c.before.before.judge-pair.ensures)))
+    let l = c.loop-j in
+    (omega arith, below_more _ _ l.invariant.1 (judged-refused _ _ (ap outcome_number (sym c.in_default.is) ∙ c.judge_pair-judgement.ensures)))
 
-returns-3 : tie.Need-returns-3 invariant-loop decreases-loop
+returns-3 : tie.Need-returns invariant-loop decreases-loop
 returns-3 c =
-    let l = c.before.loop in
-    let s = c.before.before.before.before.before.before in
+    let l = c.loop-j in
+    let s = c in
     let h : HeadShaped s.args.head = search shape in
     none-follows _ h s.requires _ (omega arith) (λ y m. l.invariant.1 y (omega arith))
 
-pub next-follower-spec : {M : Type 1} → statement M
-next-follower-spec =
+pub next_follower_spec : {M : Type 1} → statement M
+next_follower_spec =
     tie.close
     (tie.spec
     invariant-loop

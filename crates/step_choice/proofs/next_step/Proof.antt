@@ -5,12 +5,12 @@ use Rattle.step_choice.proofs.Searching.{leads-lowest, leads-named}
 use Rattle.step_choice.proofs.next_step.Statement.{statement}
 use Rattle.step_choice.proofs.next_step.Tie as tie
 
-returns : tie.Need-returns
-returns c = c.next-pair.ensures ∙ leads-lowest _ (sym c.before.enum_told.given.1)
+returns : tie.Need-returns-in-Lowest
+returns c = c.next_pair.ensures ∙ leads-lowest _ (sym c.in-Lowest.is)
 
-returns-2 : tie.Need-returns-2
-returns-2 c = c.next-follower.ensures ∙ leads-named _ (sym c.before.before.leader.given.1)
+returns-2 : tie.Need-returns-in-Named
+returns-2 c = c.next_follower.ensures ∙ leads-named _ (sym c.in-Named.is)
 
-pub next-step-spec : {M : Type 1} → statement M
-next-step-spec =
+pub next_step_spec : {M : Type 1} → statement M
+next_step_spec =
     tie.close (tie.spec (λ c. search rules) (λ c κs. search rules) (λ c. search rules) (λ c κs. search rules) returns returns-2)

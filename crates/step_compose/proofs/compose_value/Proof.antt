@@ -6,8 +6,8 @@ use Rattle.step_compose.proofs.compose_value.Tie as tie
 
 returns : tie.Need-returns
 returns c =
-    let r = c.before.before in
-    ((λ given before s u. composing-more r.before.before.requires.0 u s r.composed-row.ensures c.put.ensures), c.put.ensures.size)
+    let r = c in
+    ((λ given before s u. composing-more r.requires.0 u s r.composed_row-members.ensures c.put.ensures), c.put.ensures.size)
 
-pub compose-value-spec : {M : Type 1} → statement M
-compose-value-spec = tie.close (tie.spec (λ c κs. search rules) (λ c κs. search rules) returns)
+pub compose_value_spec : {M : Type 1} → statement M
+compose_value_spec = tie.close (tie.spec (λ c κs. search rules) (λ c κs. search rules) returns)

@@ -6,30 +6,30 @@ use Rattle.step_compose.proofs.Composition.{made_none, made-free, made-stated}
 use Rattle.step_compose.proofs.composed_row.Statement.{statement}
 use Rattle.step_compose.proofs.composed_row.Tie as tie
 
-returns : tie.Need-returns
-returns c = made_none 32 _ c.before.before.args.t _ (sym c.before.member.ensures ∙ not-true _ c.if1.true)
+returns : tie.Need-returns-then-not-member
+returns c = made_none 32 _ c.args.t _ (sym c.member.ensures ∙ c.if-not-member.true)
 
-returns-2 : tie.Need-returns-2
+returns-2 : tie.Need-returns-then-not-t
 returns-2 c =
-    let d = c.before.before in
-    let r = d.before.before.before in
-    let e = r.before in
-    made-free 32 _ e.before.before.args.t _
-    (sym e.before.member.ensures ∙ not-false _ e.if1.false) r.row.ensures d.before.before.both.ensures
-    d.before.partners.ensures d.both2.ensures (not-true _ c.if2.true)
+    let d = c in
+    let r = d in
+    let e = r in
+    made-free 32 _ e.args.t _
+    (sym e.member.ensures ∙ e.if-not-member.false) r.row.ensures d.both-joining.ensures
+    d.partners.ensures d.both-joined.ensures (not-true _ c.if-not-t.true)
 
-returns-3 : tie.Need-returns-3
+returns-3 : tie.Need-returns
 returns-3 c =
-    let o = c.before in
-    let d = o.before.before.before in
-    let r = d.before.before.before in
-    let e = r.before in
-    made-stated 32 _ e.before.before.args.t _
-    (sym e.before.member.ensures ∙ not-false _ e.if1.false) r.row.ensures d.before.before.both.ensures
-    d.before.partners.ensures d.both2.ensures (not-false _ o.before.if2.false) o.row2.ensures c.both3.ensures
+    let o = c in
+    let d = o in
+    let r = d in
+    let e = r in
+    made-stated 32 _ e.args.t _
+    (sym e.member.ensures ∙ e.if-not-member.false) r.row.ensures d.both-joining.ensures
+    d.partners.ensures d.both-joined.ensures (not-false _ o.if-not-t.false) o.row-2.ensures c.both.ensures
 
-pub composed-row-spec : {M : Type 1} → statement M
-composed-row-spec =
+pub composed_row_spec : {M : Type 1} → statement M
+composed_row_spec =
     tie.close
     (tie.spec
     (λ c κs. search rules)

@@ -9,45 +9,45 @@ use Rattle.step_judge.proofs.Judging.{leader_led, follower-led, not-stated, not-
 use Rattle.step_judge.proofs.judge_pair.Statement.{statement}
 use Rattle.step_judge.proofs.judge_pair.Tie as tie
 
-returns : tie.Need-returns
+returns : tie.Need-returns-then-leader-ne0
 unfolding outcome_number
-returns c = sym (leader_led _ _ _ (ne_eqb _ _ c.if1.true))
+returns c = sym (leader_led _ _ _ (ne_eqb _ _ c.if-leader-ne0.true))
 
-returns-2 : tie.Need-returns-2
+returns-2 : tie.Need-returns-then-other-ne0
 unfolding outcome_number
-returns-2 c = sym (follower-led _ _ _ (ne_eqb _ _ c.if2.true))
+returns-2 c = sym (follower-led _ _ _ (ne_eqb _ _ c.if-other-ne0.true))
 
-returns-3 : tie.Need-returns-3
+returns-3 : tie.Need-returns-then-not-member
 unfolding outcome_number
 returns-3 c =
-    let e = c.before.before in
-    sym (not-stated (eq-eqb _ _ e.before.if1.false) (eq-eqb _ _ e.if2.false) _ (sym c.before.member.ensures ∙ not-true _ c.if3.true))
+    let e = c in
+    sym (not-stated (eq-eqb _ _ e.if-leader-ne0.false) (eq-eqb _ _ e.if-other-ne0.false) _ (sym c.member.ensures ∙ c.if-not-member.true))
 
 -- Past the third test the pair is stated,
-is-stated : (c : tie.Else3) → has c.before.before.before.before.args.stated c.before.before.before.before.args.j ≡ true
-is-stated c = sym c.before.member.ensures ∙ not-false _ c.if3.false
+is-stated : (c : tie.Else-not-member) → has c.args.stated c.args.j ≡ true
+is-stated c = sym c.member.ensures ∙ c.if-not-member.false
 
 -- so that its variables differ.
-partners-within-requires : tie.Need-partners-within-requires
+partners-within-requires : tie.Need-partners_within-requires
 partners-within-requires c κs =
-    let p = c.before.before.before.before.requires in
+    let p = c.requires in
     (p.0, p.1, p.2 (is-stated c))
 
-returns-4 : tie.Need-returns-4
+returns-4 : tie.Need-returns-then-not-partners_within
 unfolding outcome_number
 returns-4 c =
-    let d = c.before.before in
-    let e = d.before.before in
-    sym (not-functional (eq-eqb _ _ e.before.if1.false) (eq-eqb _ _ e.if2.false) (is-stated d)
-    (sym c.before.partners-within.ensures ∙ not-true _ c.if4.true))
+    let d = c in
+    let e = d in
+    sym (not-functional (eq-eqb _ _ e.if-leader-ne0.false) (eq-eqb _ _ e.if-other-ne0.false) (is-stated c.before.before)
+    (sym c.partners_within.ensures ∙ c.if-not-partners_within.true))
 
-returns-5 : tie.Need-returns-5
+returns-5 : tie.Need-returns
 unfolding outcome_number
 returns-5 c =
-    let d = c.before.before in
-    let e = d.before.before in
-    sym (step_legal (eq-eqb _ _ e.before.if1.false) (eq-eqb _ _ e.if2.false) (is-stated d)
-    (sym c.before.partners-within.ensures ∙ not-false _ c.if4.false))
+    let d = c in
+    let e = d in
+    sym (step_legal (eq-eqb _ _ e.if-leader-ne0.false) (eq-eqb _ _ e.if-other-ne0.false) (is-stated c.before.before)
+    (sym c.partners_within.ensures ∙ c.if-not-partners_within.false))
 
-pub judge-pair-spec : {M : Type 1} → statement M
-judge-pair-spec = tie.close (tie.spec returns returns-2 (λ c κs. search rules) returns-3 partners-within-requires returns-4 returns-5)
+pub judge_pair_spec : {M : Type 1} → statement M
+judge_pair_spec = tie.close (tie.spec returns returns-2 (λ c κs. search rules) returns-3 partners-within-requires returns-4 returns-5)

@@ -8,6 +8,6 @@ use Rattle.write_tables.proofs.byte_of.Tie as tie
 returns : tie.Need-returns
 returns c = rw (← shift-digits 8 c.args.k c.args.number) refl
 
-pub byte-of-spec : {M : Type 1} → statement M
-byte-of-spec =
+pub byte_of_spec : {M : Type 1} → statement M
+byte_of_spec =
     tie.close (tie.spec (λ c. search rules) (λ c. search rules) (λ c. search rules) (λ c. search rules) returns)

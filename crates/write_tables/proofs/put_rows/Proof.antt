@@ -11,36 +11,36 @@ use Rattle.write_tables.proofs.Texts.{wrote-start, wrote-room, wrote-next}
 use Rattle.write_tables.proofs.put_rows.Statement.{statement}
 use Rattle.write_tables.proofs.put_rows.Tie as tie
 
-abbrev invariant-loop : tie.invariant-loop
+abbrev invariant-loop : tie.invariant-loop-a
 invariant-loop bytes size i j rows buffer₀ at next₀ a₀ buffer next a =
     (a ≤ size) × Wrote buffer₀ buffer (joined 0 a (λ (k : ℕ). bytes_of bytes (row_of 32 rows i j k))) at next
 
-abbrev decreases-loop : tie.decreases-loop
+abbrev decreases-loop : tie.decreases-loop-a
 decreases-loop bytes size i j rows buffer₀ at next₀ a₀ buffer next a = size - a
 
-loop-holds : tie.Need-loop-init invariant-loop decreases-loop
+loop-holds : tie.Need-loop-a-init invariant-loop decreases-loop
 unfolding rows_text
 loop-holds c = (omega arith, wrote-start 0 _ (omega arith))
 
-put-number-requires : tie.Need-put-number-requires invariant-loop decreases-loop
+put-number-requires : tie.Need-put_number-next-requires invariant-loop decreases-loop
 unfolding rows_text
 put-number-requires c κs =
-    let l = c.before.before.before in
-    let s = l.before.before in
-    (search rules, simp length-bytes_of at (wrote-room _ s.args.size (omega arith) (omega arith) s.requires.1 l.loop.invariant.1))
+    let l = c in
+    let s = l in
+    (search rules, simp length-bytes_of at (wrote-room _ s.args.size (omega arith) (omega arith) s.requires.1 l.loop-a.invariant.1))
 
-loop-again : tie.Need-loop-preserved invariant-loop decreases-loop
+loop-again : tie.Need-loop-a-preserved invariant-loop decreases-loop
 unfolding row_of
 loop-again c =
-    let p = c.before.before in
-    (omega arith, wrote-next _ (omega arith) p.before.before.before.before.loop.invariant.1 (rw p.before.Stored-row.ensures at p.put-number.ensures))
+    let p = c in
+    (omega arith, wrote-next _ (omega arith) p.loop-a.invariant.1 (rw p.stored_row.ensures at p.put_number-next.ensures))
 
 returns : tie.Need-returns invariant-loop decreases-loop
 unfolding rows_text
-returns c = rw (let e : c.before.loop.a ≡ c.before.before.before.args.size = omega arith in e) at c.before.loop.invariant.1
+returns c = rw (let e : c.loop-a.a ≡ c.args.size = omega arith in e) at c.loop-a.invariant.1
 
-pub put-rows-spec : {M : Type 1} → statement M
-put-rows-spec =
+pub put_rows_spec : {M : Type 1} → statement M
+put_rows_spec =
     tie.close
     (tie.spec
     invariant-loop

@@ -5,7 +5,7 @@ use Rattle.write_tables.proofs.OtherOrder.{turn, turned-bytes, turned-fits}
 use Rattle.write_tables.proofs.turned.Statement.{statement}
 use Rattle.write_tables.proofs.turned.Tie as tie
 
-cast-result : tie.Need-overflow-cast-result-2
+cast-result : tie.Need-overflow_cast-result-2
 unfolding turn
 cast-result c = omega (arith, turned-fits c.args.number (omega (arith, c.ranges.number)) c.args.bytes)
 
@@ -13,8 +13,8 @@ returns : tie.Need-returns
 unfolding turn
 returns c i = turned-bytes c.args.number (omega (arith, c.ranges.number)) c.args.bytes i (omega (arith, c.requires))
 
-pub turned-spec : {M : Type 1} → statement M
-turned-spec =
+pub turned_spec : {M : Type 1} → statement M
+turned_spec =
     tie.close
     (tie.spec
     (λ c. search rules)

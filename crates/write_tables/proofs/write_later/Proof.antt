@@ -12,49 +12,49 @@ use Rattle.write_tables.proofs.Later.{LaterSoFar, later-none, later-next, later_
 use Rattle.write_tables.proofs.write_later.Statement.{statement}
 use Rattle.write_tables.proofs.write_later.Tie as tie
 
-abbrev invariant-loop : tie.invariant-loop
+abbrev invariant-loop : tie.invariant-loop-rest
 invariant-loop bytes n size stated i rows buffer₀ at next₀ rest₀ buffer next rest =
     LaterSoFar 32 (table_text bytes (row_of 32 rows) size stated i) stated i n buffer₀ buffer at next rest
 
-abbrev decreases-loop : tie.decreases-loop
+abbrev decreases-loop : tie.decreases-loop-rest
 decreases-loop bytes n size stated i rows buffer₀ at next₀ rest₀ buffer next rest = count width (has rest)
 
-loop-holds : tie.Need-loop-init invariant-loop decreases-loop
+loop-holds : tie.Need-loop-rest-init invariant-loop decreases-loop
 unfolding later_text
-loop-holds c = let s = c.before.before.before in later-none 32 _ s.requires.0.2 (omega arith) c.before.full.ensures c.without.ensures
+loop-holds c = let s = c in later-none 32 _ s.requires.0.2 (omega arith) c.full.ensures c.without-rest.ensures
 
-write-table-requires : tie.Need-write-table-requires invariant-loop decreases-loop
+write-table-requires : tie.Need-write_table-next-requires invariant-loop decreases-loop
 unfolding later_text
 write-table-requires c κs =
-    let l = c.before.before in
-    let s = l.before.before.before.before.before in
-    let m = later-next 32 _ (omega arith) (table-unstated _ _ _ s.args.stated s.args.i) l.before.loop.invariant s.requires.0.4 l.loop-test.true c.before.lowest.ensures in
+    let l = c in
+    let s = l in
+    let m = later-next 32 _ (omega arith) (table-unstated _ _ _ s.args.stated s.args.i) l.loop-rest.invariant s.requires.0.4 l.loop-rest-test.true c.lowest-j.ensures in
     let r = wrote-room _ s.args.n (omega arith) m.1 s.requires.1 m.2 in
     search rules
 
-loop-less : tie.Need-loop-smaller invariant-loop decreases-loop
+loop-less : tie.Need-loop-rest-smaller invariant-loop decreases-loop
 loop-less c =
-    let t = c.before.before.before.before.before in
-    let l = t.before in
-    rest-less width l.before.loop.invariant.rest_fits l.loop-test.true t.lowest.ensures c.dropped.ensures
+    let t = c in
+    let l = t in
+    rest-less width l.loop-rest.invariant.rest_fits l.loop-rest-test.true t.lowest-j.ensures c.dropped-rest.ensures
 
-loop-again : tie.Need-loop-preserved invariant-loop decreases-loop
+loop-again : tie.Need-loop-rest-preserved invariant-loop decreases-loop
 loop-again c =
-    let w = c.before.before.before in
-    let t = w.before.before in
-    let l = t.before in
-    let s = l.before.before.before.before.before in
-    later_more 32 _ (omega arith) (table-unstated _ _ _ s.args.stated s.args.i) l.before.loop.invariant s.requires.0.4 l.loop-test.true t.lowest.ensures
-    w.write-table.ensures c.dropped.ensures
+    let w = c in
+    let t = w in
+    let l = t in
+    let s = l in
+    later_more 32 _ (omega arith) (table-unstated _ _ _ s.args.stated s.args.i) l.loop-rest.invariant s.requires.0.4 l.loop-rest-test.true t.lowest-j.ensures
+    w.write_table-next.ensures c.dropped-rest.ensures
 
 returns : tie.Need-returns invariant-loop decreases-loop
 unfolding later_text
 returns c =
-    let s = c.before.before.before.before.before in
-    later-end 32 _ (omega arith) (table-unstated _ _ _ s.args.stated s.args.i) c.before.loop.invariant (omega arith)
+    let s = c in
+    later-end 32 _ (omega arith) (table-unstated _ _ _ s.args.stated s.args.i) c.loop-rest.invariant (omega arith)
 
-pub write-later-spec : {M : Type 1} → statement M
-write-later-spec =
+pub write_later_spec : {M : Type 1} → statement M
+write_later_spec =
     tie.close
     (tie.spec
     invariant-loop

@@ -11,37 +11,37 @@ use Rattle.order.proofs.Placing.{Placing, placing-none, placing-more, placing-en
 use Rattle.order.proofs.find.place_all.Statement.{statement}
 use Rattle.order.proofs.find.place_all.Tie as tie
 
-abbrev invariant-loop : tie.invariant-loop
+abbrev invariant-loop : tie.invariant-loop-p
 invariant-loop n over order₀ left₀ p₀ order left p = (p ≤ n) × (length order ≡ n) × ((R : ℕ → ℕ → Bool) → Governed n R over → Placing n R p left order)
 
-abbrev decreases-loop : tie.decreases-loop
+abbrev decreases-loop : tie.decreases-loop-p
 decreases-loop n over order₀ left₀ p₀ order left p = n - p
 
-loop-holds : tie.Need-loop-init invariant-loop decreases-loop
-loop-holds c = let l = c.before.before.requires.1 in (omega arith, l, λ R G. placing-none _ l c.full.ensures)
+loop-holds : tie.Need-loop-p-init invariant-loop decreases-loop
+loop-holds c = let l = c.requires.1 in (omega arith, l, λ R G. placing-none _ l c.full-left.ensures)
 
-within : (c : tie.After-next invariant-loop decreases-loop) → c.next.result ≤ c.before.before.before.before.before.args.n
-within c = rw c.next.ensures (first-le _ _)
+within : (c : tie.After-next-i invariant-loop decreases-loop) → c.next-i.result ≤ c.args.n
+within c = rw c.next-i.ensures (first-le _ _)
 
-loop-again : tie.Need-loop-preserved invariant-loop decreases-loop
+loop-again : tie.Need-loop-p-preserved invariant-loop decreases-loop
 loop-again c =
-    let o = c.before in
-    let x = o.before in
-    let t = x.before in
-    let i = t.before.loop.invariant in (
+    let o = c in
+    let x = o in
+    let t = x in
+    let i = t.loop-p.invariant in (
       omega arith,
       simp length-set i.1,
-      λ R G. placing-more _ (omega arith) G t.loop-test.true (i.2 R G) x.next.ensures o.single.ensures c.without.ensures,
+      λ R G. placing-more _ (omega arith) G t.loop-p-test.true (i.2 R G) x.next-i.ensures o.single.ensures c.without-left.ensures,
     )
 
-same_length : tie.Need-same-length invariant-loop decreases-loop
-same_length c = c.before.loop.invariant.1 ∙ sym c.before.before.before.before.requires.1
+same_length : tie.Need-shape_of-order invariant-loop decreases-loop
+same_length c = c.loop-p.invariant.1 ∙ sym c.requires.1
 
 returns : tie.Need-returns invariant-loop decreases-loop
-returns c = λ R G. placing-end _ c.loop-test.false (c.before.loop.invariant.2 R G)
+returns c = λ R G. placing-end _ c.loop-p-test.false (c.loop-p.invariant.2 R G)
 
-pub place-all-spec : {M : Type 1} → statement M
-place-all-spec =
+pub place_all_spec : {M : Type 1} → statement M
+place_all_spec =
     tie.close
     (tie.spec
     invariant-loop

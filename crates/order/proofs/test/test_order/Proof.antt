@@ -13,19 +13,19 @@ use Rattle.order.proofs.test.test_order.Tie as tie
 sound : (c : tie.Start) → Sound (held c.args.head c.args.rows.now)
 sound c = let h : HeadShaped c.args.head = search shape in held-sound _ _ h c.requires
 
-returns : tie.Need-returns
+returns : tie.Need-returns-then-order-n
 unfolding held
 returns c = length-refused _ (sound c.before.before) _ (λ e. omega arith)
 
 pass-requires : tie.Need-pass-requires
-pass-requires c κs = (held-n _ _ c.before.before.before.before.requires, omega arith)
+pass-requires c κs = (held-n _ _ c.requires, omega arith)
 
-returns-2 : tie.Need-returns-2
+returns-2 : tie.Need-returns
 unfolding held
 returns-2 c =
-    let g = c.before.before in
-    let s = g.before.before.before in
-    c.pass.ensures _ (governed _ (sound s) (held-n _ _ s.requires) g.governors.ensures) ∙ tested-network _ (sound s) _
+    let g = c in
+    let s = g in
+    c.pass.ensures _ (governed _ (sound c.before.before.before.before.before) (held-n _ _ s.requires) g.governors-over.ensures) ∙ tested-network _ (sound c.before.before.before.before.before) _
 
-pub test-order-spec : {M : Type 1} → statement M
-test-order-spec = tie.close (tie.spec returns (λ c κs. search rules) pass-requires returns-2)
+pub test_order_spec : {M : Type 1} → statement M
+test_order_spec = tie.close (tie.spec returns (λ c κs. search rules) pass-requires returns-2)

@@ -13,29 +13,29 @@ use Rattle.order_paths.proofs.Crowded.{row-crowded, crowded-all}
 use Rattle.order_paths.proofs.partners.crowded_up.Statement.{statement}
 use Rattle.order_paths.proofs.partners.crowded_up.Tie as tie
 
-abbrev invariant-loop : tie.invariant-loop
+abbrev invariant-loop : tie.invariant-loop-a
 invariant-loop rows i j dj members₀ a₀ members a = (a ≤ 32) × (members ≡ word a (λ (v : ℕ). leb 2 (partners_at 32 rows i j dj v)))
 
-abbrev decreases-loop : tie.decreases-loop
+abbrev decreases-loop : tie.decreases-loop-a
 decreases-loop rows i j dj members₀ a₀ members a = 32 - a
 
-loop-holds : tie.Need-loop-init invariant-loop decreases-loop
+loop-holds : tie.Need-loop-a-init invariant-loop decreases-loop
 loop-holds c = (omega arith, sym (word-zero _))
 
-loop-again : tie.Need-loop-preserved invariant-loop decreases-loop
+loop-again : tie.Need-loop-a-preserved invariant-loop decreases-loop
 loop-again c =
-    let b = c.before in
-    let r = b.before in (
+    let b = c in
+    let r = b in (
       omega arith,
-      bit-joins (2 ^ 32) _ _ (pow_mono {j = 32} (omega arith)) r.before.before.loop.invariant.1
-          (row-crowded 32 _ _ _ _ _ r.Stored-row.ensures b.both.ensures c.crowded.ensures),
+      bit-joins (2 ^ 32) _ _ (pow_mono {j = 32} (omega arith)) r.loop-a.invariant.1
+          (row-crowded 32 _ _ _ _ _ r.stored_row.ensures b.both-partners.ensures c.crowded.ensures),
     )
 
 returns : tie.Need-returns invariant-loop decreases-loop
-returns c = crowded-all 32 _ _ _ _ (omega arith) c.before.loop.invariant.1
+returns c = crowded-all 32 _ _ _ _ (omega arith) c.loop-a.invariant.1
 
-pub crowded-up-spec : {M : Type 1} → statement M
-crowded-up-spec =
+pub crowded_up_spec : {M : Type 1} → statement M
+crowded_up_spec =
     tie.close
     (tie.spec
     invariant-loop

@@ -5,14 +5,14 @@ use Rattle.order_paths.proofs.Crowded.{none-crowded}
 use Rattle.order_paths.proofs.partners.functional.Statement.{statement}
 use Rattle.order_paths.proofs.partners.functional.Tie as tie
 
-returns : tie.Need-returns
-returns c = sym (c.before.lowest-crowded.ensures c.if2.true)
+returns : tie.Need-returns-then-lowest_crowded
+returns c = sym (c.lowest_crowded.ensures c.if-lowest_crowded.true)
 
-returns-2 : tie.Need-returns-2
-returns-2 c = none-crowded 32 _ _ _ _ _ c.before.crowded-up.ensures c.both.ensures
+returns-2 : tie.Need-returns-then-i-j
+returns-2 c = none-crowded 32 _ _ _ _ _ c.crowded_up.ensures c.both.ensures
 
-pub functional-spec : {M : Type 1} → statement M
-functional-spec =
+pub functional_spec : {M : Type 1} → statement M
+functional_spec =
     tie.close
     (tie.spec
     (λ c κs. search rules)

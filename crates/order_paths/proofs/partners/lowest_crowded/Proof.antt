@@ -7,24 +7,24 @@ use Rattle.order_paths.proofs.Crowded.{row-crowded, lowest-decides}
 use Rattle.order_paths.proofs.partners.lowest_crowded.Statement.{statement}
 use Rattle.order_paths.proofs.partners.lowest_crowded.Tie as tie
 
-returns : tie.Need-returns
+returns : tie.Need-returns-then-di-eq0
 returns c = λ t. clash t refl
 
-stored-row-requires : tie.Need-stored-row-requires
+stored-row-requires : tie.Need-stored_row-requires
 stored-row-requires c κs =
-    let s = c.before.before in
-    (s.requires.0, s.requires.1, (lowest-in 32 _ _ s.ranges.di.fits c.before.if1.false c.lowest.ensures).0)
+    let s = c in
+    (s.requires.0, s.requires.1, (lowest-in 32 _ _ s.ranges.di.fits c.if-di-eq0.false c.lowest.ensures).0)
 
-returns-2 : tie.Need-returns-2
+returns-2 : tie.Need-returns
 returns-2 c =
-    let b = c.before in
-    let r = b.before in
-    let l = r.before in
-    λ t. lowest-decides 32 _ _ _ _ _ l.before.before.ranges.di.fits l.before.if1.false l.lowest.ensures
-    (sym (row-crowded 32 _ _ _ _ _ r.Stored-row.ensures b.both.ensures c.crowded.ensures) ∙ t)
+    let b = c in
+    let r = b in
+    let l = r in
+    λ t. lowest-decides 32 _ _ _ _ _ l.ranges.di.fits l.if-di-eq0.false l.lowest.ensures
+    (sym (row-crowded 32 _ _ _ _ _ r.stored_row.ensures b.both.ensures c.crowded.ensures) ∙ t)
 
-pub lowest-crowded-spec : {M : Type 1} → statement M
-lowest-crowded-spec =
+pub lowest_crowded_spec : {M : Type 1} → statement M
+lowest_crowded_spec =
     tie.close
     (tie.spec
     returns

@@ -13,29 +13,29 @@ use Rattle.order_paths.proofs.Reached.{over-are}
 use Rattle.order_paths.proofs.reach.governors.Statement.{statement}
 use Rattle.order_paths.proofs.reach.governors.Tie as tie
 
-abbrev invariant-loop : tie.invariant-loop
+abbrev invariant-loop : tie.invariant-loop-i
 invariant-loop rows reached governors₀ i₀ governors i = (i ≤ 16)
     × Filled 16 (λ (x : ℕ). word 32 (λ (j : ℕ). and (and (ltb j 16) (has (get_or reached j 0) x)) (not (has (get_or reached x 0) j)))) governors i
 
-abbrev decreases-loop : tie.decreases-loop
+abbrev decreases-loop : tie.decreases-loop-i
 decreases-loop rows reached governors₀ i₀ governors i = 16 - i
 
-loop-holds : tie.Need-loop-init invariant-loop decreases-loop
+loop-holds : tie.Need-loop-i-init invariant-loop decreases-loop
 loop-holds c = (omega arith, filled_none 16 (search rules))
 
-loop-again : tie.Need-loop-preserved invariant-loop decreases-loop
-loop-again c = let t = c.before.before in (omega arith, filled_more 16 t.before.loop.invariant.1 t.loop-test.true c.over.ensures)
+loop-again : tie.Need-loop-i-preserved invariant-loop decreases-loop
+loop-again c = let t = c in (omega arith, filled_more 16 t.loop-i.invariant.1 t.loop-i-test.true c.over.ensures)
 
 returns : tie.Need-returns invariant-loop decreases-loop
 unfolding held
 returns c =
-    let p = c.before.before in
-    let s = p.before in
+    let p = c in
+    let s = p in
     let h : HeadShaped s.args.head = search shape in
-    over-are _ (held-sound _ _ h s.requires) (held-n _ _ s.requires) p.paths.ensures (filled-end 16 c.before.loop.invariant.1 c.loop-test.false)
+    over-are _ (held-sound _ _ h s.requires) (held-n _ _ s.requires) p.paths-reached.ensures (filled-end 16 c.loop-i.invariant.1 c.loop-i-test.false)
 
-pub governors-spec : {M : Type 1} → statement M
-governors-spec =
+pub governors_spec : {M : Type 1} → statement M
+governors_spec =
     tie.close
     (tie.spec
     invariant-loop

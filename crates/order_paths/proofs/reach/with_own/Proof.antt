@@ -10,25 +10,25 @@ use Rattle.order_paths.proofs.Reached.{edge_in, own_row}
 use Rattle.order_paths.proofs.reach.with_own.Statement.{statement}
 use Rattle.order_paths.proofs.reach.with_own.Tie as tie
 
-abbrev invariant-loop : tie.invariant-loop
+abbrev invariant-loop : tie.invariant-loop-i
 invariant-loop edges paths₀ i₀ paths i = (i ≤ 16) × Filled 16 (λ (x : ℕ). word 32 (via (edge_in edges) 0 x)) paths i
 
-abbrev decreases-loop : tie.decreases-loop
+abbrev decreases-loop : tie.decreases-loop-i
 decreases-loop edges paths₀ i₀ paths i = 16 - i
 
-loop-holds : tie.Need-loop-init invariant-loop decreases-loop
+loop-holds : tie.Need-loop-i-init invariant-loop decreases-loop
 loop-holds c = (omega arith, filled_none 16 (search rules))
 
-loop-again : tie.Need-loop-preserved invariant-loop decreases-loop
+loop-again : tie.Need-loop-i-preserved invariant-loop decreases-loop
 loop-again c =
-    let s = c.before in
-    (omega arith, filled_more 16 s.before.before.loop.invariant.1 s.before.loop-test.true (own_row _ _ _ (λ j. refl) s.single.ensures c.either.ensures))
+    let s = c in
+    (omega arith, filled_more 16 s.loop-i.invariant.1 s.loop-i-test.true (own_row _ _ _ (λ j. refl) s.single.ensures c.either.ensures))
 
 returns : tie.Need-returns invariant-loop decreases-loop
-returns c = filled-end 16 c.before.loop.invariant.1 c.loop-test.false
+returns c = filled-end 16 c.loop-i.invariant.1 c.loop-i-test.false
 
-pub with-own-spec : {M : Type 1} → statement M
-with-own-spec =
+pub with_own_spec : {M : Type 1} → statement M
+with_own_spec =
     tie.close
     (tie.spec
     invariant-loop

@@ -23,18 +23,18 @@ read-sizes-requires c κs =
 returns-2 : tie.Need-returns-in_default-listed
 returns-2 c =
     rw c.in_default-listed.is
-    (no-sizes _ (at_n c.before.before.before.before) c.read_sizes-listed.ensures c.in_default-listed.is)
+    (no-sizes _ (at_n c.before.before.before) c.read_sizes-listed.ensures c.in_default-listed.is)
 
 -- The sizes are read.
 at-sizes : (c : tie.In-Value-listed)
     → (let sizes = c in
     let n = sizes in
     let args = n.args in
-    Listed args.bytes.now args.most n.in-Value.n sizes.read_sizes-listed.new.1.1.1.0
+    Listed args.bytes.now args.most n.in-Value.n sizes.read_sizes-listed.new.sizes
     c.in-Value-listed.after)
 at-sizes c =
-    let sizes = c.before.before.before in
-    listed _ (at_n c.before.before.before.before.before) sizes.read_sizes-listed.ensures c.in-Value-listed.is
+    let sizes = c in
+    listed _ (at_n c.before.before.before) sizes.read_sizes-listed.ensures c.in-Value-listed.is
 
 sub-byte-field : tie.Need-overflow_sub-n
 sub-byte-field c = (at-sizes c).some
@@ -45,17 +45,17 @@ mul-byte-field c = pairs-fit _ (at-sizes c).few
 returns-3 : tie.Need-returns-in_default-constraints
 returns-3 c =
     rw c.in_default-constraints.is
-    (no-constraints _ (at-sizes c.before.before.before) (read-bad c.byte_field-constraints.ensures c.in_default-constraints.is))
+    (no-constraints _ (at-sizes c.before.before) (read-bad c.byte_field-constraints.ensures c.in_default-constraints.is))
 
 -- p is read.
 at_p : (c : tie.In-Value-constraints)
     → (let sizes = c in
     let n = sizes in
     let args = n.args in
-    Constrained args.bytes.now args.most n.in-Value.n sizes.read_sizes-listed.new.1.1.1.0
+    Constrained args.bytes.now args.most n.in-Value.n sizes.read_sizes-listed.new.sizes
     c.in-Value-constraints.p c.in-Value-constraints.first)
 at_p c =
-    constrained _ (at-sizes c.before.before.before.before)
+    constrained _ (at-sizes c.before.before)
     (read-got c.byte_field-constraints.ensures c.in-Value-constraints.is)
 
 read-tables-requires : tie.Need-read_tables-all-requires
@@ -66,9 +66,9 @@ read-tables-requires c κs =
 
 returns-4 : tie.Need-returns-in_default-all
 returns-4 c =
-    let tables = c.before.before in
+    let tables = c in
     rw c.in_default-all.is
-    (no-tables _ (at_p c.before.before.before.before.before) tables.read_tables-all.ensures c.in_default-all.is)
+    (no-tables _ (at_p c.before.before.before.before) tables.read_tables-all.ensures c.in_default-all.is)
 
 -- The tables are read.
 at-end : (c : tie.In-Value-all)
@@ -76,11 +76,11 @@ at-end : (c : tie.In-Value-all)
     let sizes = tables in
     let n = sizes in
     let args = n.args in
-    Tabled args.bytes.now args.k args.filled args.most n.in-Value.n sizes.read_sizes-listed.new.1.1.1.0
-    tables.read_tables-all.new.1.1.1.1.1.1.1.0 tables.read_tables-all.new.1.1.1.1.1.1.1.1.0 c.in-Value-all.end)
+    Tabled args.bytes.now args.k args.filled args.most n.in-Value.n sizes.read_sizes-listed.new.sizes
+    tables.read_tables-all.new.stated tables.read_tables-all.new.rows c.in-Value-all.end)
 at-end c =
-    let tables = c.before.before.before in
-    tabled-all _ (at_p c.before.before.before.before.before.before) tables.read_tables-all.ensures c.in-Value-all.is
+    let tables = c in
+    tabled-all _ (at_p c.before.before.before.before) tables.read_tables-all.ensures c.in-Value-all.is
 
 returns-5 : tie.Need-returns-then-end-bytes
 returns-5 c = left_over _ (at-end c.before) c.if-end-bytes.true

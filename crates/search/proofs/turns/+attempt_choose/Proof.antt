@@ -108,10 +108,10 @@ module _ (t : ℕ) where
       let s = l in
       Left 32 N s.args.stated.now s.args.rows.now (s.args.k + 1) s.args.left → free N s.args.k ≡ true
       → Taken 32 N s.args.stated.now s.args.rows.now s.args.k s.args.left s.args.domains.now s.args.rest
-      l.next_value-v.result n.narrow-changed.result n.narrow-changed.new.0 c.choose.result s.args.values.now c.choose.new.1.1.1.1.0
+      l.next_value-v.result n.narrow-changed.result n.narrow-changed.new.domains c.choose.result s.args.values.now c.choose.new.values
   taken c N L f =
-      let n = c.before.before.before in
-      let l = n.before.before.before.before.before in
+      let n = c in
+      let l = n in
       let s = l in
       record {
         left_after = L;
@@ -126,11 +126,11 @@ module _ (t : ℕ) where
 
   returns-2 : attempt-lts.Need-returns (attempt-calls t) (attempt-at t) attempt.Post
   returns-2 c =
-      let a = c.before in
+      let a = c in
       let long = a.choose.ensures.whole in
       let k_in = a.requires.1.0 in
       record {
-        whole = length-set a.choose.new.1.1.1.1.0 _ _ ∙ long;
+        whole = length-set a.choose.new.values _ _ ∙ long;
         chooses = λ N L f. taken-hit (taken a N L f) c.if-choose.true (omega (arith, long, k_in));
       }
 
@@ -189,7 +189,7 @@ module _ (t : ℕ) where
   choose-returns-2 : choose-lts.Need-returns (choose-calls t) (choose-at t) choose.Post
   choose-returns-2 c =
       let l = c.before.before.before.before in
-      let s = l.before.before in
+      let s = l in
       record {
         whole = c.attempt.ensures.whole;
         chooses = λ N k L.

@@ -5,10 +5,10 @@ use Rattle.step_sides.proofs.sides.reach.Statement.{statement}
 use Rattle.step_sides.proofs.sides.reach.Tie as tie
 
 returns : tie.Need-returns
-returns c = let a = c.before.before.before.before.args in reach-is 32 _ _ a.first a.second _ c.before.before.partner.ensures c.told.ensures
+returns c = let a = c.args in reach-is 32 _ _ a.first a.second _ c.partner-c.ensures c.told.ensures
 
-pub reach-spec : {M : Type 1} → statement M
-reach-spec =
+pub reach_spec : {M : Type 1} → statement M
+reach_spec =
     tie.close
     (tie.spec
     (λ c κs. search rules)

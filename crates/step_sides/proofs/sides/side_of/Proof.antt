@@ -7,16 +7,16 @@ use Rattle.step_sides.specs.Sides.{leader_of, side_of}
 use Rattle.step_sides.proofs.sides.side_of.Statement.{statement}
 use Rattle.step_sides.proofs.sides.side_of.Tie as tie
 
-leader_in : (c : tie.After-traced) → c.traced.result < variables
+leader_in : (c : tie.After-traced-p) → c.traced-p.result < variables
 unfolding leader_of
-leader_in c = rw c.traced.ensures c.before.before.before.requires.1
+leader_in c = rw c.traced-p.ensures c.requires.1
 
 returns : tie.Need-returns
 unfolding side_of leader_of
-returns c = (rw c.traced.ensures, record { named_in = c.before.before.before.requires.0; leader_in = leader_in c })
+returns c = (rw c.traced-p.ensures, record { named_in = c.requires.0; leader_in = leader_in c })
 
-pub side-of-spec : {M : Type 1} → statement M
-side-of-spec =
+pub side_of_spec : {M : Type 1} → statement M
+side_of_spec =
     tie.close
     (tie.spec
     (λ c. search rules)

@@ -15,33 +15,33 @@ use Rattle.step_sides.proofs.Turning.{column-none}
 use Rattle.step_sides.proofs.turn.column.Statement.{statement}
 use Rattle.step_sides.proofs.turn.column.Tie as tie
 
-abbrev invariant-loop : tie.invariant-loop
+abbrev invariant-loop : tie.invariant-loop-c
 invariant-loop rows domain d members₀ c₀ members c = (c ≤ 32) × (members ≡ word c (column_at domain rows d))
 
-abbrev decreases-loop : tie.decreases-loop
+abbrev decreases-loop : tie.decreases-loop-c
 decreases-loop rows domain d members₀ c₀ members c = 32 - c
 
-returns : tie.Need-returns invariant-loop decreases-loop
-returns c = column-none 32 _ _ _ (sym c.before.member.ensures ∙ not-true _ c.if1.true)
+returns : tie.Need-returns-then-not-member invariant-loop decreases-loop
+returns c = column-none 32 _ _ _ (sym c.member.ensures ∙ c.if-not-member.true)
 
-loop-holds : tie.Need-loop-init invariant-loop decreases-loop
+loop-holds : tie.Need-loop-c-init invariant-loop decreases-loop
 loop-holds c = (omega arith, sym (word-zero _))
 
-loop-again : tie.Need-loop-preserved invariant-loop decreases-loop
+loop-again : tie.Need-loop-c-preserved invariant-loop decreases-loop
 unfolding column_at table_allows
 loop-again c =
-    let at = c.before.before.before in
-    let e = at.before in (
+    let at = c in
+    let e = at in (
       omega arith,
-      bit-joins (2 ^ 32) _ _ (pow_mono {j = 32} (omega arith)) at.loop.invariant.1
-          (c.holds.ensures ∙ sym (and-holds _ _ (sym e.before.member.ensures ∙ not-false _ e.if1.false))),
+      bit-joins (2 ^ 32) _ _ (pow_mono {j = 32} (omega arith)) at.loop-c.invariant.1
+          (c.holds.ensures ∙ sym (and-holds _ _ (sym e.member.ensures ∙ e.if-not-member.false))),
     )
 
-returns-2 : tie.Need-returns-2 invariant-loop decreases-loop
-returns-2 c = rw (let e : c.before.loop.c ≡ 32 = omega arith in e) at c.before.loop.invariant.1
+returns-2 : tie.Need-returns invariant-loop decreases-loop
+returns-2 c = rw (let e : c.loop-c.c ≡ 32 = omega arith in e) at c.loop-c.invariant.1
 
-pub column-spec : {M : Type 1} → statement M
-column-spec =
+pub column_spec : {M : Type 1} → statement M
+column_spec =
     tie.close
     (tie.spec
     invariant-loop

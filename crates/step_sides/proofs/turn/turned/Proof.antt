@@ -9,27 +9,27 @@ use Rattle.step_sides.proofs.Turning.{column-of}
 use Rattle.step_sides.proofs.turn.turned.Statement.{statement}
 use Rattle.step_sides.proofs.turn.turned.Tie as tie
 
-abbrev invariant-loop : tie.invariant-loop
+abbrev invariant-loop : tie.invariant-loop-d
 invariant-loop table domain rows columns₀ d₀ columns d = (d ≤ 32) × Filled 32 (λ (k : ℕ). word 32 (column_at domain table k)) columns d
 
-abbrev decreases-loop : tie.decreases-loop
+abbrev decreases-loop : tie.decreases-loop-d
 decreases-loop table domain rows columns₀ d₀ columns d = 32 - d
 
-loop-holds : tie.Need-loop-init invariant-loop decreases-loop
+loop-holds : tie.Need-loop-d-init invariant-loop decreases-loop
 loop-holds c = (omega arith, filled_none 32 (search rules))
 
-loop-again : tie.Need-loop-preserved invariant-loop decreases-loop
+loop-again : tie.Need-loop-d-preserved invariant-loop decreases-loop
 loop-again c =
-    let t = c.before.before in
-    let at = t.before in
-    (omega arith, filled_more 32 at.loop.invariant.1 t.loop-test.true (column-of 32 _ _ _ at.before.whole.ensures c.column.ensures))
+    let t = c in
+    let at = t in
+    (omega arith, filled_more 32 at.loop-d.invariant.1 t.loop-d-test.true (column-of 32 _ _ _ at.whole-rows.ensures c.column.ensures))
 
 returns : tie.Need-returns invariant-loop decreases-loop
 unfolding turned_of
-returns c = filled-end 32 c.before.loop.invariant.1 c.loop-test.false
+returns c = filled-end 32 c.loop-d.invariant.1 c.loop-d-test.false
 
-pub turned-spec : {M : Type 1} → statement M
-turned-spec =
+pub turned_spec : {M : Type 1} → statement M
+turned_spec =
     tie.close
     (tie.spec
     invariant-loop

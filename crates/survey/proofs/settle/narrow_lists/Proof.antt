@@ -12,55 +12,55 @@ use Rattle.survey.proofs.Settling.{SettlingTo, settling-none, settling-more, set
 use Rattle.survey.proofs.settle.narrow_lists.Statement.{statement}
 use Rattle.survey.proofs.settle.narrow_lists.Tie as tie
 
-abbrev invariant-loop : tie.invariant-loop
+abbrev invariant-loop : tie.invariant-loop-rest
 invariant-loop lists₀ rows singles domains stated rest₀ lists rest = SettlingTo rows singles domains stated lists₀ lists rest
 
-abbrev decreases-loop : tie.decreases-loop
+abbrev decreases-loop : tie.decreases-loop-rest
 decreases-loop lists₀ rows singles domains stated rest₀ lists rest = count width (has rest)
 
-loop-holds : tie.Need-loop-init invariant-loop decreases-loop
+loop-holds : tie.Need-loop-rest-init invariant-loop decreases-loop
 loop-holds c = settling-none c.ranges.singles.fits
 
 -- The next one has a value.
-next : (c : tie.After-lowest invariant-loop decreases-loop)
-    → (c.lowest.result < variables) × (value_of c.before.before.before.args.domains.now c.lowest.result < width)
+next : (c : tie.After-lowest-i invariant-loop decreases-loop)
+    → (c.lowest-i.result < variables) × (value_of c.args.domains.now c.lowest-i.result < width)
 next c =
-    let l = c.before.before.loop.invariant in
-    c.before.before.before.requires.0.single_in _
-    (l.rest_in _ (lowest-in width _ _ l.rest_fits c.before.loop-test.true c.lowest.ensures).1)
+    let l = c.loop-rest.invariant in
+    c.requires.0.single_in _
+    (l.rest_in _ (lowest-in width _ _ l.rest_fits c.loop-rest-test.true c.lowest-i.ensures).1)
 
-mul-lowest : tie.Need-overflow-mul-lowest invariant-loop decreases-loop
+mul-lowest : tie.Need-offset_bounds-domains-i invariant-loop decreases-loop
 mul-lowest c = let l = (next c).0 in search rules
 
-mul-narrow-either : tie.Need-overflow-mul-narrow-either invariant-loop decreases-loop
-mul-narrow-either c = let l = (next c.before.before.before).0 in search rules
+mul-narrow-either : tie.Need-offset_bounds-stated-i invariant-loop decreases-loop
+mul-narrow-either c = let l = (next c.before.before.before.before).0 in search rules
 
-narrow-either-requires : tie.Need-narrow-either-requires invariant-loop decreases-loop
+narrow-either-requires : tie.Need-narrow_either-requires invariant-loop decreases-loop
 unfolding value_of
 narrow-either-requires c κs =
-    let v = c.before.before in
-    let l = v.before.before in
-    let s = l.before.before.before in
-    ((next l).0, rw v.lowest2.ensures (next l).1, s.requires.0.other_in l.lowest.result, l.before.before.loop.invariant.so_far.whole ∙ s.requires.1)
+    let v = c in
+    let l = v in
+    let s = l in
+    ((next c.before.before.before.before.before.before).0, rw v.lowest-v.ensures (next c.before.before.before.before.before.before).1, s.requires.0.other_in l.lowest-i.result, l.loop-rest.invariant.so_far.whole ∙ s.requires.1)
 
-loop-less : tie.Need-loop-smaller invariant-loop decreases-loop
+loop-less : tie.Need-loop-rest-smaller invariant-loop decreases-loop
 loop-less c =
-    let l = c.before.before.before.before.before.before in
-    rest-less width l.before.before.loop.invariant.rest_fits l.before.loop-test.true l.lowest.ensures c.dropped.ensures
+    let l = c in
+    rest-less width l.loop-rest.invariant.rest_fits l.loop-rest-test.true l.lowest-i.ensures c.dropped-rest.ensures
 
-loop-again : tie.Need-loop-preserved invariant-loop decreases-loop
+loop-again : tie.Need-loop-rest-preserved invariant-loop decreases-loop
 loop-again c =
-    let n = c.before in
-    let v = n.before.before.before in
-    let l = v.before.before in
-    settling-more l.before.before.loop.invariant l.before.loop-test.true l.lowest.ensures v.lowest2.ensures n.narrow-either.ensures
-    c.dropped.ensures
+    let n = c in
+    let v = n in
+    let l = v in
+    settling-more l.loop-rest.invariant l.loop-rest-test.true l.lowest-i.ensures v.lowest-v.ensures n.narrow_either.ensures
+    c.dropped-rest.ensures
 
 returns : tie.Need-returns invariant-loop decreases-loop
-returns c = settling-end c.before.loop.invariant c.loop-test.false
+returns c = settling-end c.loop-rest.invariant c.loop-rest-test.false
 
-pub narrow-lists-spec : {M : Type 1} → statement M
-narrow-lists-spec =
+pub narrow_lists_spec : {M : Type 1} → statement M
+narrow_lists_spec =
     tie.close
     (tie.spec
     invariant-loop
@@ -68,10 +68,10 @@ narrow-lists-spec =
     loop-holds
     (λ c κs. search rules)
     mul-lowest
-    (λ c. (next c).0)
+    (λ c. (next c.before).0)
     (λ c κs. search rules)
     mul-narrow-either
-    (λ c. (next c.before.before.before).0)
+    (λ c. (next c.before.before.before.before.before).0)
     narrow-either-requires
     (λ c κs. search rules)
     loop-less

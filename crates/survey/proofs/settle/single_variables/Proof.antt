@@ -10,25 +10,25 @@ use Rattle.survey.specs.Settle.{single_word}
 use Rattle.survey.proofs.settle.single_variables.Statement.{statement}
 use Rattle.survey.proofs.settle.single_variables.Tie as tie
 
-abbrev invariant-loop : tie.invariant-loop
+abbrev invariant-loop : tie.invariant-loop-i
 invariant-loop n tied domains singles₀ i₀ singles i = (i ≤ n) × (singles ≡ single_word i tied domains)
 
-abbrev decreases-loop : tie.decreases-loop
+abbrev decreases-loop : tie.decreases-loop-i
 decreases-loop n tied domains singles₀ i₀ singles i = n - i
 
-loop-holds : tie.Need-loop-init invariant-loop decreases-loop
+loop-holds : tie.Need-loop-i-init invariant-loop decreases-loop
 unfolding single_word
 loop-holds c = (omega arith, sym (word-zero _))
 
-loop-again : tie.Need-loop-preserved invariant-loop decreases-loop
+loop-again : tie.Need-loop-i-preserved invariant-loop decreases-loop
 unfolding single_word
-loop-again c = (omega arith, bit-joins 4294967296 _ _ (pow_mono {j = 32} (omega arith)) c.before.before.before.loop.invariant.1 c.is-single.ensures)
+loop-again c = (omega arith, bit-joins 4294967296 _ _ (pow_mono {j = 32} (omega arith)) c.loop-i.invariant.1 c.is_single.ensures)
 
 returns : tie.Need-returns invariant-loop decreases-loop
-returns c = rw (let e : c.before.loop.i ≡ c.before.before.args.n = omega arith in e) at c.before.loop.invariant.1
+returns c = rw (let e : c.loop-i.i ≡ c.args.n = omega arith in e) at c.loop-i.invariant.1
 
-pub single-variables-spec : {M : Type 1} → statement M
-single-variables-spec =
+pub single_variables_spec : {M : Type 1} → statement M
+single_variables_spec =
     tie.close
     (tie.spec
     invariant-loop

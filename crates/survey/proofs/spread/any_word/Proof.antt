@@ -10,41 +10,41 @@ use Rattle.survey.proofs.Spreading.{word-free, word-led}
 use Rattle.survey.proofs.spread.any_word.Statement.{statement}
 use Rattle.survey.proofs.spread.any_word.Tie as tie
 
-returns : tie.Need-returns
+returns : tie.Need-returns-then-leader-eq0
 returns c =
-    let s = c.before.before.before.before.before in
-    (c.used-word.ensures.0 ∙ word-free _ _ _ _ _ s.args.used.now _ c.before.before.before.if1.true, c.used-word.ensures.1)
+    let s = c in
+    (c.used_word.ensures.0 ∙ word-free _ _ _ _ _ s.args.used.now _ c.if-leader-eq0.true, c.used_word.ensures.1)
 
 -- The leader, counted from 0, is another variable.
-led : (c : tie.After-wide) → (c.wide.result - 1 < variables) × (c.wide.result - 1 ≡ c.before.before.before.args.i → ⊥)
-led c = c.before.before.before.requires.1 (c.wide.result - 1) (omega (arith, c.wide.ensures, c.before.if1.false))
+led : (c : tie.After-wide-l) → (c.wide-l.result - 1 < variables) × (c.wide-l.result - 1 ≡ c.args.i → ⊥)
+led c = c.requires.1 (c.wide-l.result - 1) (omega (arith, c.wide-l.ensures, c.if-leader-eq0.false))
 
-mul-used-word-3 : tie.Need-overflow-mul-used-word-3
+mul-used-word-3 : tie.Need-offset_bounds-used-l
 mul-used-word-3 c = let l = (led c).0 in search rules
 
-mul-used-word-4 : tie.Need-overflow-mul-used-word-4
-mul-used-word-4 c = let l = (led c.before).0 in search rules
+mul-used-word-4 : tie.Need-offset_bounds-lists-l
+mul-used-word-4 c = let l = (led c.before.before).0 in search rules
 
-used-word-requires-2 : tie.Need-used-word-requires-2
-used-word-requires-2 c κs = let l = (led c.before.before).0 in omega arith
+used-word-requires-2 : tie.Need-used_word-whole-requires
+used-word-requires-2 c κs = let l = (led c.before.before.before.before).0 in omega arith
 
 partners-requires : tie.Need-partners-requires
 partners-requires c κs =
-    let w = c.before.before.before.before in
-    ((led w).0, w.before.before.before.requires.0, (led w).1)
+    let w = c in
+    ((led c.before.before.before.before.before.before.before).0, w.requires.0, (led c.before.before.before.before.before.before.before).1)
 
-returns-2 : tie.Need-returns-2
+returns-2 : tie.Need-returns
 returns-2 c =
-    let u = c.before.before.before in
-    let w = u.before.before.before in
-    let s = w.before.before.before in (
+    let u = c in
+    let w = u in
+    let s = w in (
       word-led s.args.leaders.now s.args.domains.now s.args.lists.now s.args.rows.now s.args.left s.args.used.now s.args.i _
-          (omega (arith, w.wide.ensures, w.before.if1.false)) u.used-word2.ensures.0 c.before.partners.ensures c.both.ensures,
+          (omega (arith, w.wide-l.ensures, w.if-leader-eq0.false)) u.used_word-whole.ensures.0 c.partners.ensures c.both.ensures,
       rw c.both.ensures (word_lt width _),
     )
 
-pub any-word-spec : {M : Type 1} → statement M
-any-word-spec =
+pub any_word_spec : {M : Type 1} → statement M
+any_word_spec =
     tie.close
     (tie.spec
     (λ c. search rules)
@@ -57,9 +57,9 @@ any-word-spec =
     (λ c κs. search rules)
     (λ c. search rules)
     mul-used-word-3
-    (λ c. (led c).0)
-    mul-used-word-4
     (λ c. (led c.before).0)
+    mul-used-word-4
+    (λ c. (led c.before.before.before).0)
     used-word-requires-2
     (λ c. search rules)
     (λ c. search rules)

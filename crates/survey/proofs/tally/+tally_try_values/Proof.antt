@@ -90,67 +90,67 @@ try-values-calls t = (
 module _ (t : ℕ) where
   -- ---- tally
 
-  tally-returns : tally-lts.Need-returns (tally-calls t) (tally-at t) tally.Post
-  tally-returns c = record { whole = c.before.requires.1.2; tallies = λ N T k L B. tallied-end L c.if1.true }
+  tally-returns : tally-lts.Need-returns-then-rest-eq0 (tally-calls t) (tally-at t) tally.Post
+  tally-returns c = record { whole = c.requires.1.2; tallies = λ N T k L B. tallied-end L c.if-rest-eq0.true }
 
   -- The variable that is chosen is one of those that are left.
-  chosen : (c : tally-lts.After-lowest (tally-calls t) (tally-at t) tally.Post) → c.lowest.result < variables
+  chosen : (c : tally-lts.After-lowest (tally-calls t) (tally-at t) tally.Post) → c.lowest-v.result < variables
   chosen c =
-      c.before.before.requires.1.0 _
-      (lowest-in width _ _ c.before.before.ranges.left.fits c.before.if1.false c.lowest.ensures).1
+      c.requires.1.0 _
+      (lowest-in width _ _ c.ranges.left.fits c.if-rest-eq0.false c.lowest-v.ensures).1
 
-  mul-domain : tally-lts.Need-overflow-mul-domain (tally-calls t) (tally-at t) tally.Post
+  mul-domain : tally-lts.Need-offset_bounds-domains-k (tally-calls t) (tally-at t) tally.Post
   mul-domain c = let l = chosen c in search rules
 
-  mul-joined : tally-lts.Need-overflow-mul-joined (tally-calls t) (tally-at t) tally.Post
+  mul-joined : tally-lts.Need-offset_bounds-used-k (tally-calls t) (tally-at t) tally.Post
   mul-joined c = let l = chosen c.before.before.before in search rules
 
-  element-joined : tally-lts.Need-element-copy-out-joined (tally-calls t) (tally-at t) tally.Post
+  element-joined : tally-lts.Need-bounds-used-k (tally-calls t) (tally-at t) tally.Post
   element-joined c = chosen c.before.before.before
 
-  mul-used-last : tally-lts.Need-overflow-mul-used (tally-calls t) (tally-at t) tally.Post
+  mul-used-last : tally-lts.Need-offset_bounds-used-k-2 (tally-calls t) (tally-at t) tally.Post
   mul-used-last c = let l = chosen c.before.before.before.before.before in search rules
 
-  element-used-last : tally-lts.Need-element-write-used (tally-calls t) (tally-at t) tally.Post
+  element-used-last : tally-lts.Need-bounds-used-k-2 (tally-calls t) (tally-at t) tally.Post
   element-used-last c = chosen c.before.before.before.before.before
 
-  tally-returns-2 : tally-lts.Need-returns-2 (tally-calls t) (tally-at t) tally.Post
+  tally-returns-2 : tally-lts.Need-returns (tally-calls t) (tally-at t) tally.Post
   tally-returns-2 c =
-      let a = c.before.before.before in
-      let d = a.before in
+      let a = c in
+      let d = a in
       let l = a.before.before.before in
-      let s = l.before.before in
+      let s = l in
       let long = s.requires.1.2 in
       let inside = chosen l in
       record {
         whole = length-set s.args.used.now _ _ ∙ long;
         tallies = λ N T k L B.
-            tallied-last L s.ranges.left.fits l.before.if1.false l.lowest.ensures d.dropped.ensures
-            _ _ _ B a.if2.true (omega arith) c.before.joined.ensures c.members.ensures.0 c.members.ensures.1;
+            tallied-last L s.ranges.left.fits l.if-rest-eq0.false l.lowest-v.ensures d.dropped.ensures
+            _ _ _ B a.if-after-eq0.true (omega arith) c.joined-word.ensures c.members.ensures.0 c.members.ensures.1;
       }
 
-  tally-try-values-requires : tally-lts.Need-try-values-requires (tally-calls t) (tally-at t) tally.Post
+  tally-try-values-requires : tally-lts.Need-try_values-requires (tally-calls t) (tally-at t) tally.Post
   tally-try-values-requires c κs =
-      let l = c.before.before.before.before in
-      let s = l.before.before in
+      let l = c in
+      let s = l in
       let fits = s.ranges.left.fits in
-      let some = l.before.if1.false in
-      let e = c.before.before.dropped.ensures in
-      let less = rest-less width fits some l.lowest.ensures e in
-      let most = count-le width (has (get_or s.args.domains.now l.lowest.result 0)) in (
+      let some = l.if-rest-eq0.false in
+      let e = c.dropped.ensures in
+      let less = rest-less width fits some l.lowest-v.ensures e in
+      let most = count-le width (has (get_or s.args.domains.now l.lowest-v.result 0)) in (
         omega (arith, less, most, s.requires.0),
-        (chosen l, λ j h. let q = above-lowest width _ _ _ fits some l.lowest.ensures e j h in (q.1, s.requires.1.0 j q.0), s.requires.1.1, s.requires.1.2),
+        (chosen l, λ j h. let q = above-lowest width _ _ _ fits some l.lowest-v.ensures e j h in (q.1, s.requires.1.0 j q.0), s.requires.1.1, s.requires.1.2),
       )
 
-  tally-returns-3 : tally-lts.Need-returns-3 (tally-calls t) (tally-at t) tally.Post
+  tally-returns-3 : tally-lts.Need-returns (tally-calls t) (tally-at t) tally.Post
   tally-returns-3 c =
-      let l = c.before.before.before.before.before in
-      let s = l.before.before in
+      let l = c in
+      let s = l in
       record {
-        whole = c.try-values.ensures.whole;
+        whole = c.try_values.ensures.whole;
         tallies = λ N T k L B.
-            tallied-next L s.ranges.left.fits l.before.if1.false l.lowest.ensures c.before.before.before.dropped.ensures
-            _ B (c.try-values.ensures.tallies N T);
+            tallied-next L s.ranges.left.fits l.if-rest-eq0.false l.lowest-v.ensures c.dropped.ensures
+            _ B (c.try_values.ensures.tallies N T);
       }
 
   -- ---- try_values
@@ -158,94 +158,94 @@ module _ (t : ℕ) where
   most : (c : try-values-lts.Start (try-values-calls t) (try-values-at t) try-values.Post) → c.args.counted ≤ 18446744073709551615
   most c = let l = c.ranges.counted.fits in omega arith
 
-  returns : try-values-lts.Need-returns (try-values-calls t) (try-values-at t) try-values.Post
-  returns c = record { whole = c.before.requires.1.3; tallies = λ N T L f B. tried-none _ L f c.if1.true (most c.before) }
+  returns : try-values-lts.Need-returns-then-rest-eq0 (try-values-calls t) (try-values-at t) try-values.Post
+  returns c = record { whole = c.requires.1.3; tallies = λ N T L f B. tried-none _ L f c.if-rest-eq0.true (most c.before) }
 
   -- The value that is tried is one of the rest.
   tried : (c : try-values-lts.After-lowest (try-values-calls t) (try-values-at t) try-values.Post)
-      → (c.lowest.result < width) × (has c.before.before.args.rest c.lowest.result ≡ true)
-  tried c = lowest-in width _ _ c.before.before.ranges.rest.fits c.before.if1.false c.lowest.ensures
+      → (c.lowest-v.result < width) × (has c.args.rest c.lowest-v.result ≡ true)
+  tried c = lowest-in width _ _ c.ranges.rest.fits c.if-rest-eq0.false c.lowest-v.ensures
 
   narrow-requires : try-values-lts.Need-narrow-requires (try-values-calls t) (try-values-at t) try-values.Post
   narrow-requires c κs =
       let l = c.before.before.before.before in
-      let s = l.before.before in
+      let s = l in
       ((tried l).0, λ j h. s.requires.1.1 j (in-second width _ _ _ j c.both.ensures h), s.requires.1.2)
 
-  tally-requires : try-values-lts.Need-tally-requires (try-values-calls t) (try-values-at t) try-values.Post
+  tally-requires : try-values-lts.Need-tally-here-requires (try-values-calls t) (try-values-at t) try-values.Post
   tally-requires c κs =
-      let n = c.before.before in
-      let s = n.before.before.before.before.before.before.before in
+      let n = c in
+      let s = n in
       (omega (arith, s.requires.0), (λ j h. (s.requires.1.1 j h).1, n.narrow.ensures.whole ∙ s.requires.1.2, s.requires.1.3))
 
   -- k is a variable.
   k_in : (c : try-values-lts.After-tally (try-values-calls t) (try-values-at t) try-values.Post)
-      → c.before.before.before.before.before.before.before.before.before.before.args.k < variables
-  k_in c = c.before.before.before.before.before.before.before.before.before.before.requires.1.0
+      → c.args.k < variables
+  k_in c = c.requires.1.0
 
-  mul-marked : try-values-lts.Need-overflow-mul-marked (try-values-calls t) (try-values-at t) try-values.Post
+  mul-marked : try-values-lts.Need-offset_bounds-used-k (try-values-calls t) (try-values-at t) try-values.Post
   mul-marked c = let l = k_in c in search rules
 
-  marked-requires : try-values-lts.Need-marked-requires (try-values-calls t) (try-values-at t) try-values.Post
+  marked-requires : try-values-lts.Need-marked-word-requires (try-values-calls t) (try-values-at t) try-values.Post
   marked-requires c κs = (tried c.before.before.before.before.before.before.before.before.before).0
 
-  mul-used : try-values-lts.Need-overflow-mul-used (try-values-calls t) (try-values-at t) try-values.Post
+  mul-used : try-values-lts.Need-offset_bounds-used-k-2 (try-values-calls t) (try-values-at t) try-values.Post
   mul-used c = let l = k_in c.before.before in search rules
 
   dropped-requires : try-values-lts.Need-dropped-requires (try-values-calls t) (try-values-at t) try-values.Post
   dropped-requires c κs =
-      let d = c.before.before.before.before.before.before.before.before.before.before.before.if1.false in
+      let d = c.if-rest-eq0.false in
       search rules
 
   -- What is known once the other variables are tallied.
   taken : (c : try-values-lts.After-tally (try-values-calls t) (try-values-at t) try-values.Post) (N : Network) (T : ℕ → Bool)
-      → let n = c.before.before.before in
-      let l = n.before.before.before.before.before in
-      let s = l.before.before in
+      → let n = c in
+      let l = n in
+      let s = l in
       LeftOf N T s.args.stated.now s.args.rows.now (suc s.args.k) s.args.left → T s.args.k ≡ true
       → InSizes N T (untried s.args.domains.now s.args.k s.args.rest) s.args.k
       → TakenOf N T s.args.stated.now s.args.rows.now s.args.k s.args.left s.args.domains.now s.args.rest
-      l.lowest.result n.narrow.result n.narrow.new.0 c.tally.result s.args.used.now c.tally.new.1.1.1.1.0
+      l.lowest-v.result n.narrow.result n.narrow.new.domains c.tally-here.result s.args.used.now c.tally-here.new.used
   taken c N T L f B =
-      let n = c.before.before.before in
-      let l = n.before.before.before.before.before in
-      let s = l.before.before in
+      let n = c in
+      let l = n in
+      let s = l in
       record {
         left_after = L;
         of_t = f;
         in_sizes = B;
         rest_fits = s.ranges.rest.fits;
         left_fits = s.ranges.left.fits;
-        some = l.before.if1.false;
-        lowest = l.lowest.ensures;
-        narrowed = rw n.before.both.ensures at n.narrow.ensures;
-        tallied_here = c.tally.ensures.tallies N T _ L;
+        some = l.if-rest-eq0.false;
+        lowest = l.lowest-v.ensures;
+        narrowed = rw n.both.ensures at n.narrow.ensures;
+        tallied_here = c.tally-here.ensures.tallies N T _ L;
       }
 
-  try-values-requires : try-values-lts.Need-try-values-requires (try-values-calls t) (try-values-at t) try-values.Post
+  try-values-requires : try-values-lts.Need-try_values-requires (try-values-calls t) (try-values-at t) try-values.Post
   try-values-requires c κs =
-      let a = c.before.before.before.before.before in
-      let l = a.before.before.before.before.before.before.before.before in
-      let s = l.before.before in
-      let less = rest-less width s.ranges.rest.fits l.before.if1.false l.lowest.ensures c.before.before.dropped.ensures in
-      (omega (arith, less, s.requires.0), (s.requires.1.0, s.requires.1.1, s.requires.1.2, length-set a.tally.new.1.1.1.1.0 _ _ ∙ a.tally.ensures.whole))
+      let a = c in
+      let l = a in
+      let s = l in
+      let less = rest-less width s.ranges.rest.fits l.if-rest-eq0.false l.lowest-v.ensures c.dropped.ensures in
+      (omega (arith, less, s.requires.0), (s.requires.1.0, s.requires.1.1, s.requires.1.2, length-set a.tally-here.new.used _ _ ∙ a.tally-here.ensures.whole))
 
-  returns-2 : try-values-lts.Need-returns-2 (try-values-calls t) (try-values-at t) try-values.Post
+  returns-2 : try-values-lts.Need-returns (try-values-calls t) (try-values-at t) try-values.Post
   returns-2 c =
-      let a = c.before.before.before.before.before.before in
-      let long = a.tally.ensures.whole in
+      let a = c in
+      let long = a.tally-here.ensures.whole in
       let inside = k_in a in
-      let re = c.before.before.before.dropped.ensures in
+      let re = c.dropped.ensures in
       record {
-        whole = c.try-values.ensures.whole;
+        whole = c.try_values.ensures.whole;
         tallies = λ N T L f B.
             let W = taken a N T L f B in
-            tried-more W _ re _ _ _ _ _ (omega arith) c.before.before.before.before.marked.ensures c.before.before.capped.ensures
-            (c.try-values.ensures.tallies N T L f (rest-sizes W _ re));
+            tried-more W _ re _ _ _ _ _ (omega arith) c.marked-word.ensures c.capped.ensures
+            (c.try_values.ensures.tallies N T L f (rest-sizes W _ re));
       }
 
-pub +tally-try-values-spec : {M : Type 1} → statement M
-+tally-try-values-spec =
+pub +tally_try_values_spec : {M : Type 1} → statement M
++tally_try_values_spec =
     close μ-tally μ-try-values
     (λ t. tally-lts.spec (tally-calls t) (tally-at t) tally.Post
     (tally-returns t)

@@ -10,9 +10,9 @@ use Rattle.survey.proofs.tally.joined.Tie as tie
 
 returns : tie.Need-returns
 returns c u =
-    let s = c.before in
+    let s = c in
     ap (λ (n : ℕ). has n u) c.either.ensures
     ∙ has_all width _ u (λ b. or-false-i _ _ (has-past width _ u s.ranges.x.fits b) (has-past width _ u s.ranges.y.fits b))
 
-pub joined-spec : {M : Type 1} → statement M
-joined-spec = tie.close (tie.spec (λ c κs. search rules) returns)
+pub joined_spec : {M : Type 1} → statement M
+joined_spec = tie.close (tie.spec (λ c κs. search rules) returns)

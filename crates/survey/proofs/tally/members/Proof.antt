@@ -10,8 +10,8 @@ use Rattle.survey.proofs.tally.members.Tie as tie
 
 returns : tie.Need-returns
 returns c =
-    let s = c.before in
+    let s = c in
     (omega (arith, c.count.ensures, count-le width (has s.args.x)), λ size within. c.count.ensures ∙ sym (count-sizes _ size s.ranges.x.fits within))
 
-pub members-spec : {M : Type 1} → statement M
-members-spec = tie.close (tie.spec (λ c κs. search rules) returns)
+pub members_spec : {M : Type 1} → statement M
+members_spec = tie.close (tie.spec (λ c κs. search rules) returns)

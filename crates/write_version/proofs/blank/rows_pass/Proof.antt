@@ -15,7 +15,7 @@ returns : tie.Need-returns-then-not-fixed_by
 returns c =
     let f = c in
     let s = f in
-    allowed-pass _ (shaped c.before.before.before) s.requires _ (sym f.fixed_by.ensures.filled_is ∙ c.if-not-fixed_by.true)
+    allowed-pass _ (shaped c.before.before.before) s.requires _ (sym f.fixed_by.ensures.filled_is ∙ not-true _ c.if-not-fixed_by.true)
 
 all-filled-requires : tie.Need-all_filled-requires
 all-filled-requires c κs =
@@ -27,7 +27,7 @@ returns-2 c =
     let e = c in
     let f = e in
     let s = f in
-    banned-pass _ (shaped c.before.before.before.before.before.before) s.requires _ (sym f.fixed_by.ensures.filled_is ∙ e.if-not-fixed_by.false) c.all_filled.ensures
+    banned-pass _ (shaped c.before.before.before.before.before.before) s.requires _ (sym f.fixed_by.ensures.filled_is ∙ not-false _ e.if-not-fixed_by.false) c.all_filled.ensures
 
 pub rows_pass_spec : {M : Type 1} → statement M
 rows_pass_spec =
