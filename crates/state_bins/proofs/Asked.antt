@@ -1,6 +1,6 @@
 -- An entry as plain data comes to what the definitions over states and lists of bins say.
 use mathlib.Core.Bool.{Bool, true, false}
-use mathlib.Core.List.{List, [], ◌∷◌}
+use mathlib.Core.List.{List}
 use mathlib.Core.Path.{◌≡◌, refl, sym, ap, fun_ext, ◌∙◌}
 use Prim.Native.Nat.{ℕ, ◌-◌, ◌≤◌, ◌<◌}
 use native.Mathlib.Omega.{arith}
@@ -10,7 +10,7 @@ use borrow.Author.Tests.{eqb-true}
 use Rattle.bounded.specs.Bool.{and, or, not, if}
 use Rattle.bounded.specs.Table.{tabulate}
 use Rattle.bounded.proofs.Array.{get_d-table}
-use Rattle.bounded.proofs.Bool.{by_cases, clash, and-false, if-true, if-false}
+use Rattle.bounded.proofs.Bool.{by_cases, and-false, if-true, if-false}
 use Rattle.network.specs.Network.{test_refusal}
 use Rattle.head.specs.Held.{HeadShaped, held}
 use Rattle.head.proofs.Held.{held-n, held-sound}
@@ -20,7 +20,7 @@ use Rattle.bins.specs.Bins.{stand_at, any, is_of, of_solution, added, drawn}
 use Rattle.bins.specs.Plans.{named, exact, too_high, too_low, number_found, plan_number}
 use Rattle.bins.proofs.Lists.{any_none}
 use Rattle.bins.proofs.Places.{exact-is}
-use Rattle.answers.specs.Answers.{TestTold, says, refuses, test_number, test_agrees}
+use Rattle.answers.specs.Answers.{says, refuses, test_number, test_agrees}
 use Rattle.state.specs.declared.state.State.{State}
 use Rattle.state.specs.View.{head_in, view, sound_state}
 use Rattle.state.specs.Solutions.{values_of, solution_refusal, tested}

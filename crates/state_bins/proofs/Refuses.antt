@@ -1,22 +1,19 @@
 -- Each number exactly when its own cause holds and none before it: a test of the ladder is its cause, and the ladder does the rest.
 use mathlib.Core.Bool.{Bool, true, false}
-use mathlib.Core.List.{List, map}
+use mathlib.Core.List.{List}
 use mathlib.Core.Logic.Iff
 use mathlib.Core.Logic.{◌↔◌}
-use mathlib.Core.Path.{◌≡◌, refl, sym, ap, subst, ◌∙◌}
-use Prim.Native.Nat.{ℕ, ◌+◌, ◌-◌, ◌^◌, ◌≤◌, ◌<◌}
+use mathlib.Core.Path.{◌≡◌, refl, ap, subst}
+use Prim.Native.Nat.{ℕ, ◌^◌}
 use native.Mathlib.Omega.{arith}
-use lib.Dec.{eqb, leb, ltb}
-use lib.ListN.{length, get_or}
 use borrow.Author.Tests.{ltb-true, lt-ltb, leb-true, le-leb, eqb-true, eq-eqb}
-use Rattle.bounded.specs.Bool.{and, or, not}
+use Rattle.bounded.specs.Bool.{or, not}
 use Rattle.bounded.proofs.Bool.{by_cases, clash, not-true→false, and_i, and_l, and_r, or_l, or_r, or_elim, or-false-l, or-false-r, or-false-i, not-i, not-e, not-false-i, not-false-e}
-use Rattle.network.specs.Added.{Numbered}
 use Rattle.network.proofs.Step.{here, past, never}
 use Rattle.network.proofs.Added.{denied}
 use Rattle.head.specs.Held.{held}
 use Rattle.bins.specs.declared.Bin.{Bin}
-use Rattle.bins.specs.Bins.{Place, place, no_bin, stand_at, any, is_of, of_solution}
+use Rattle.bins.specs.Bins.{Place, stand_at, any, is_of, of_solution}
 use Rattle.bins.proofs.Lists.{any-e, any-i}
 use Rattle.bins.proofs.Places.{stand-e, stand-i}
 use Rattle.answers.specs.Answers.{TestTold, says, refuses, test_agrees}

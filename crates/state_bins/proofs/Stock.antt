@@ -1,12 +1,12 @@
 -- How many bins an entry changes: each value has one record, counted over the list of places.
 use mathlib.Core.Bool.{Bool, true, false}
 use mathlib.Core.List.{List, [], ◌∷◌, map, ◌++◌}
-use mathlib.Core.Path.{◌≡◌, refl, sym, ap, subst, ◌∙◌}
+use mathlib.Core.Path.{◌≡◌, refl, sym, ap, ◌∙◌}
 use Prim.Native.Nat.{ℕ, zero, suc, ◌+◌, ◌-◌, ◌<◌, ◌≤◌, ◌^◌}
 use native.Mathlib.Omega.{arith}
-use lib.Dec.{eqb, ltb, leb}
+use lib.Dec.{eqb, ltb}
 use lib.ListN.{length, get_or}
-use borrow.Author.Tests.{lt-ltb, le-leb, eqb-true, eqb-false, eq-eqb, ne_eqb, ltb-true, ltb-false, leb-true}
+use borrow.Author.Tests.{lt-ltb, eqb-true, eqb-false, eq-eqb, ne_eqb, ltb-true, ltb-false}
 use Rattle.bounded.specs.Bool.{and, bit, if}
 use Rattle.bounded.specs.Fold.{every}
 use Rattle.bounded.proofs.Bool.{by_cases, clash, bool-ext, not-true→false, and_l, and_r, and_i, and-fails, and-false, and-holds, bit-true, bit-false, if-true, if-false}
@@ -15,7 +15,7 @@ use Rattle.network.specs.Added.{Numbered}
 use Rattle.network.specs.Network.{test_refusal}
 use Rattle.head.specs.Held.{held}
 use Rattle.bins.specs.declared.Bin.{Bin}
-use Rattle.bins.specs.Bins.{Place, place, no_bin, values_from, places_from, places, any, is_of, of_solution, with_count}
+use Rattle.bins.specs.Bins.{Place, place, no_bin, values_from, places_from, places, is_of, of_solution, with_count}
 use Rattle.bins.proofs.Lists.{get_d_map}
 use Rattle.answers.specs.Answers.{says, refuses, test_agrees}
 use Rattle.state.specs.declared.state.State.{State}
@@ -23,7 +23,7 @@ use Rattle.state.specs.View.{view}
 use Rattle.state.specs.Solutions.{values_of, tested}
 use Rattle.state.proofs.Solutions.{build-taken}
 use Rattle.state_bins.specs.Bins.{bin_places, delivery_number, delivered_bins, call_off_number, called_off_bins}
-use Rattle.state_bins.specs.Refuses.{InPlace, ValueOf, WouldExceed, TooLow}
+use Rattle.state_bins.specs.Refuses.{ValueOf, WouldExceed, TooLow}
 use Rattle.state_bins.specs.Stock.{tally, StockLaw, DeliveryLaw, CallOffLaw}
 use Rattle.state_bins.proofs.Refuses.{says-yes, delivery-refuses, call-off-refuses}
 

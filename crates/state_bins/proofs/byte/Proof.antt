@@ -6,13 +6,13 @@ use Rattle.state.specs.Solutions.{values_of}
 use Rattle.state_bins.proofs.byte.Statement.{statement}
 use Rattle.state_bins.proofs.byte.Tie as tie
 
-returns : tie.Need-returns
+returns : tie.Need-returns-then-i-solution
 unfolding values_of
 returns c = search rules
 
-returns-2 : tie.Need-returns-2
+returns-2 : tie.Need-returns
 unfolding values_of
-returns-2 c = sym (get_or-eq_default c.before.args.solution.now 0 c.if1.false)
+returns-2 c = sym (get_or-eq_default c.args.solution.now 0 c.if-i-solution.false)
 
-pub byte-spec : {M : Type 1} → statement M
-byte-spec = tie.close (tie.spec (λ c. search rules) returns returns-2)
+pub byte_spec : {M : Type 1} → statement M
+byte_spec = tie.close (tie.spec (λ c. search rules) returns returns-2)

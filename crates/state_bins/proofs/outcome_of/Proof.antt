@@ -6,25 +6,25 @@ use Rattle.state_bins.specs.Numbers.{one_of}
 use Rattle.state_bins.proofs.outcome_of.Statement.{statement}
 use Rattle.state_bins.proofs.outcome_of.Tie as tie
 
-returns : tie.Need-returns
+returns : tie.Need-returns-in-0
 unfolding outcome_number one_of if
-returns c = simp c.match.keys1
+returns c = simp c.in-0.is
 
-returns-2 : tie.Need-returns-2
+returns-2 : tie.Need-returns-in-9
 unfolding outcome_number one_of if
-returns-2 c = simp c.match.keys2
+returns-2 c = simp c.in-9.is
 
-returns-3 : tie.Need-returns-3
+returns-3 : tie.Need-returns-in-27
 unfolding outcome_number one_of if
-returns-3 c = simp c.match.keys3
+returns-3 c = simp c.in-27.is
 
-returns-4 : tie.Need-returns-4
+returns-4 : tie.Need-returns-in-28
 unfolding outcome_number one_of if
-returns-4 c = simp c.match.keys4
+returns-4 c = simp c.in-28.is
 
-returns-5 : tie.Need-returns-5
+returns-5 : tie.Need-returns-in_default
 unfolding outcome_number one_of if
-returns-5 c = simp (ne_eqb _ _ c.match.rest.0.0.0.1, ne_eqb _ _ c.match.rest.0.0.1, ne_eqb _ _ c.match.rest.0.1, ne_eqb _ _ c.match.rest.1)
+returns-5 c = simp (ne_eqb _ _ c.in_default.in_default-own.rest.0.0.0.1, ne_eqb _ _ c.in_default.in_default-own.rest.0.0.1, ne_eqb _ _ c.in_default.in_default-own.rest.0.1, ne_eqb _ _ c.in_default.in_default-own.rest.1)
 
-pub outcome-of-spec : {M : Type 1} → statement M
-outcome-of-spec = tie.close (tie.spec returns returns-2 returns-3 returns-4 returns-5)
+pub outcome_of_spec : {M : Type 1} → statement M
+outcome_of_spec = tie.close (tie.spec returns returns-2 returns-3 returns-4 returns-5)

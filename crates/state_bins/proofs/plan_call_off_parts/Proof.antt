@@ -9,7 +9,7 @@ shaped : (c : tie.Start) → HeadShaped c.args.head
 shaped c = search shape
 
 returns : tie.Need-returns
-returns c = calls-off _ (shaped c.before.before.before.before) _ _ _ _ c.before.before.refuse-call-off.ensures c.sixteen.ensures
+returns c = calls-off _ (shaped c.before.before.before.before) _ _ _ _ c.refuse_call_off-refusal.ensures c.sixteen-values.ensures
 
-pub plan-call-off-parts-spec : {M : Type 1} → statement M
-plan-call-off-parts-spec = tie.close (tie.spec (λ c κs. search rules) (λ c κs. search rules) returns)
+pub plan_call_off_parts_spec : {M : Type 1} → statement M
+plan_call_off_parts_spec = tie.close (tie.spec (λ c κs. search rules) (λ c κs. search rules) returns)

@@ -4,7 +4,7 @@ use Rattle.state_bins.proofs.plan_delivery.Statement.{statement}
 use Rattle.state_bins.proofs.plan_delivery.Tie as tie
 
 returns : tie.Need-returns
-returns c = rw c.before.before.before.head_in.ensures at c.plan-delivery-parts.ensures
+returns c = rw c.head_in-head.ensures at c.plan_delivery_parts.ensures
 
-pub plan-delivery-spec : {M : Type 1} → statement M
-plan-delivery-spec = tie.close (tie.spec (λ c κs. search rules) (λ c κs. search rules) returns)
+pub plan_delivery_spec : {M : Type 1} → statement M
+plan_delivery_spec = tie.close (tie.spec (λ c κs. search rules) (λ c κs. search rules) returns)

@@ -9,7 +9,7 @@ shaped : (c : tie.Start) → HeadShaped c.args.head
 shaped c = search shape
 
 returns : tie.Need-returns
-returns c = delivers _ (shaped c.before.before) _ _ _ _ _ c.before.refuse-delivery.ensures
+returns c = delivers _ (shaped c.before.before) _ _ _ _ _ c.refuse_delivery-refusal.ensures
 
-pub plan-delivery-parts-spec : {M : Type 1} → statement M
-plan-delivery-parts-spec = tie.close (tie.spec (λ c κs. search rules) returns)
+pub plan_delivery_parts_spec : {M : Type 1} → statement M
+plan_delivery_parts_spec = tie.close (tie.spec (λ c κs. search rules) returns)

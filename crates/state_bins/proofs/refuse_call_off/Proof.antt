@@ -12,31 +12,31 @@ use borrow.Author.Rules.{rules}
 use Rattle.state_bins.proofs.refuse_call_off.Statement.{statement}
 use Rattle.state_bins.proofs.refuse_call_off.Tie as tie
 
-returns : tie.Need-returns
+returns : tie.Need-returns-then-test_number-eq9
 unfolding call_off_refusal
-returns c = sym (if-true _ _ _ (eq-eqb _ _ (ap test_number (sym c.before.before.test_parts.ensures) ∙ sym c.before.test-number.ensures ∙ c.if1.true)))
+returns c = sym (if-true _ _ _ (eq-eqb _ _ (ap test_number (sym c.test_parts-answer.ensures) ∙ sym c.test_number.ensures ∙ c.if-test_number-eq9.true)))
 
 -- Past the first test the tester did not say 9.
-not-nine : (c : tie.Else1) → let s = c.before.before.before.before.args in
+not-nine : (c : tie.Else-test_number-eq9) → let s = c.args in
     eqb (test_number (tested (state_of s.head s.rows.now) s.solution.now)) 9 ≡ false
-not-nine c = ne_eqb _ _ (λ n. c.if1.false (c.before.test-number.ensures ∙ ap test_number c.before.before.test_parts.ensures ∙ n))
+not-nine c = ne_eqb _ _ (λ n. c.if-test_number-eq9.false (c.test_number.ensures ∙ ap test_number c.test_parts-answer.ensures ∙ n))
 
-returns-2 : tie.Need-returns-2
+returns-2 : tie.Need-returns-then-test_agrees
 unfolding call_off_refusal
 returns-2 c =
-    let t = c.before.before in
-    sym (if-false _ _ _ (not-nine t)
-    ∙ if-true _ _ _ (ap test_agrees (sym t.before.before.test_parts.ensures) ∙ sym c.before.test-agrees.ensures ∙ c.if2.true))
+    let t = c in
+    sym (if-false _ _ _ (not-nine c.before.before)
+    ∙ if-true _ _ _ (ap test_agrees (sym t.test_parts-answer.ensures) ∙ sym c.test_agrees.ensures ∙ c.if-test_agrees.true))
 
-returns-3 : tie.Need-returns-3
+returns-3 : tie.Need-returns
 unfolding call_off_refusal
 returns-3 c =
-    let t = c.before.before in
-    sym (if-false _ _ _ (not-nine t)
-    ∙ if-false _ _ _ (ap test_agrees (sym t.before.before.test_parts.ensures) ∙ sym c.before.test-agrees.ensures ∙ c.if2.false))
+    let t = c in
+    sym (if-false _ _ _ (not-nine c.before.before)
+    ∙ if-false _ _ _ (ap test_agrees (sym t.test_parts-answer.ensures) ∙ sym c.test_agrees.ensures ∙ c.if-test_agrees.false))
 
-pub refuse-call-off-spec : {M : Type 1} → statement M
-refuse-call-off-spec =
+pub refuse_call_off_spec : {M : Type 1} → statement M
+refuse_call_off_spec =
     tie.close
     (tie.spec
     (λ c κs. search rules)

@@ -2,7 +2,7 @@
 use mathlib.Core.Path.{◌≡◌, sym, ap, ◌∙◌}
 use Prim.Native.Nat.{◌<◌, ◌≤◌}
 use native.Mathlib.Omega.{arith}
-use borrow.Author.Tests.{le-ltb, lt-ltb, le-leb, lt-leb, not-true, not-false}
+use borrow.Author.Tests.{le-ltb, lt-ltb, le-leb, lt-leb}
 use Rattle.bounded.proofs.Bool.{if-true, if-false, and-fails, and_i, and-false, not-i, not-false-i}
 use Rattle.bounded.specs.Bool.{and}
 use mathlib.Core.Bool.{true}
@@ -14,41 +14,41 @@ use borrow.Author.Rules.{rules}
 use Rattle.state_bins.proofs.refuse_delivery.Statement.{statement}
 use Rattle.state_bins.proofs.refuse_delivery.Tie as tie
 
-is_sound : (c : tie.Else1) → sound_state (state_of c.before.before.args.head c.before.before.args.rows.now) ≡ true
-is_sound c = sym c.before.sound-parts.ensures ∙ not-false _ c.if1.false
+is_sound : (c : tie.Else-not-sound_parts) → sound_state (state_of c.args.head c.args.rows.now) ≡ true
+is_sound c = sym c.sound_parts.ensures ∙ c.if-not-sound_parts.false
 
-returns : tie.Need-returns
+returns : tie.Need-returns-then-not-sound_parts
 unfolding delivery_refusal
-returns c = sym (if-true _ _ _ (not-i _ (sym c.before.sound-parts.ensures ∙ not-true _ c.if1.true)))
+returns c = sym (if-true _ _ _ (not-i _ (sym c.sound_parts.ensures ∙ c.if-not-sound_parts.true)))
 
-returns-2 : tie.Need-returns-2
+returns-2 : tie.Need-returns-then-variable-lt1
 unfolding delivery_refusal has_value
 returns-2 c =
-    let z : c.before.before.before.args.variable ≤ 0 = omega (arith, c.if2.true) in
+    let z : c.args.variable ≤ 0 = omega (arith, c.if-variable-lt1.true) in
     sym (if-false _ _ _ (not-false-i _ (is_sound c.before)) ∙ if-false _ _ _ (and-fails _ _ (and-fails _ _ (le-ltb _ _ z))))
 
-returns-3 : tie.Need-returns-3
+returns-3 : tie.Need-returns-then-n-variable
 unfolding delivery_refusal has_value
-returns-3 c = sym (if-false _ _ _ (not-false-i _ (is_sound c.before.before)) ∙ if-false _ _ _ (and-fails _ _ (ap (and _) (lt-leb _ _ c.if3.true) ∙ and-false _)))
+returns-3 c = sym (if-false _ _ _ (not-false-i _ (is_sound c.before.before)) ∙ if-false _ _ _ (and-fails _ _ (ap (and _) (lt-leb _ _ c.if-n-variable.true) ∙ and-false _)))
 
-array-read-size : tie.Need-array-read-size
-array-read-size c = let b = held-n _ _ (is_sound c.before.before.before) in omega (arith, b, c.before.if3.false, c.before.before.if2.false)
+array-read-size : tie.Need-bounds-sizes-variable
+array-read-size c = let b = held-n _ _ (is_sound c.before.before.before) in omega (arith, b, c.if-n-variable.false, c.if-variable-lt1.false)
 
-returns-4 : tie.Need-returns-4
+returns-4 : tie.Need-returns-then-value-size
 unfolding delivery_refusal has_value
 returns-4 c =
-    let n = c.before.before in
-    let t = n.before.before in
-    let l : 0 < t.before.before.args.variable = omega (arith, n.before.if2.false) in
-    sym (if-false _ _ _ (not-false-i _ (is_sound t))
-    ∙ if-true _ _ _ (and_i _ _ (and_i _ _ (lt-ltb _ _ l) (le-leb _ _ n.if3.false)) (lt-ltb _ _ c.if4.true)))
+    let n = c in
+    let t = n in
+    let l : 0 < t.args.variable = omega (arith, n.if-variable-lt1.false) in
+    sym (if-false _ _ _ (not-false-i _ (is_sound c.before.before.before.before))
+    ∙ if-true _ _ _ (and_i _ _ (and_i _ _ (lt-ltb _ _ l) (le-leb _ _ n.if-n-variable.false)) (lt-ltb _ _ c.if-value-size.true)))
 
-returns-5 : tie.Need-returns-5
+returns-5 : tie.Need-returns
 unfolding delivery_refusal has_value
-returns-5 c = sym (if-false _ _ _ (not-false-i _ (is_sound c.before.before.before.before)) ∙ if-false _ _ _ (ap (and _) (le-ltb _ _ c.if4.false) ∙ and-false _))
+returns-5 c = sym (if-false _ _ _ (not-false-i _ (is_sound c.before.before.before.before)) ∙ if-false _ _ _ (ap (and _) (le-ltb _ _ c.if-value-size.false) ∙ and-false _))
 
-pub refuse-delivery-spec : {M : Type 1} → statement M
-refuse-delivery-spec =
+pub refuse_delivery_spec : {M : Type 1} → statement M
+refuse_delivery_spec =
     tie.close
     (tie.spec
     (λ c κs. search rules)
