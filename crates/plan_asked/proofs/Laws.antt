@@ -103,17 +103,17 @@ module _ (a : Asked) where
   file-once k h = if-true _ _ _ (eq-eqb _ 0 h)
 
   module _ (k : ℕ) (word : List ℕ) where
-    pub word-page : same word (ascii "--page9") ≡ true → withWord a k word ≡ withPage a
+    pub word-page : same word (ascii "--page9") ≡ true → with_word a k word ≡ with_page a
     unfolding with_word
     word-page h = if-true _ _ _ h
 
     module _ (p : same word (ascii "--page9") ≡ false) where
-      pub word-lead : same word (ascii "--lead") ≡ true → withWord a k word ≡ withLead a
+      pub word-lead : same word (ascii "--lead") ≡ true → with_word a k word ≡ with_lead a
       unfolding with_word
       word-lead h = if-false _ _ _ p ∙ if-true _ _ _ h
 
       module _ (l : same word (ascii "--lead") ≡ false) where
-        pub word-help : same word (ascii "--help") ≡ true → withWord a k word ≡ helped a
+        pub word-help : same word (ascii "--help") ≡ true → with_word a k word ≡ helped a
         unfolding with_word
         word-help h = if-false _ _ _ p ∙ if-false _ _ _ l ∙ if-true _ _ _ h
 

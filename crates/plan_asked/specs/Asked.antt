@@ -63,8 +63,8 @@ with_file a k =
 -- A word where none is awaited: one that begins with a dash (45) and is not known is no FILE.
 unfoldable pub with_word : Asked → ℕ → List ℕ → Asked
 with_word a k word =
-    if (same word (ascii "--page9")) (withPage a)
-    (if (same word (ascii "--lead")) (withLead a)
+    if (same word (ascii "--page9")) (with_page a)
+    (if (same word (ascii "--lead")) (with_lead a)
     (if (same word (ascii "--help")) (helped a)
     (if (eqb (get_or word 0 0) 45) (faulty a) (with_file a k))))
 
