@@ -8,25 +8,25 @@ use Rattle.bins_text.proofs.Laws.{in-order-room}
 use Rattle.bins_text.proofs.act.Statement.{statement}
 use Rattle.bins_text.proofs.act.Tie as tie
 
-returns : tie.Need-returns
+returns : tie.Need-returns-then-r-ne0
 unfolding read_case
-returns c = sym (if-false _ _ _ (ne_eqb _ _ c.if1.true))
+returns c = sym (if-false _ _ _ (ne_eqb _ _ c.if-r-ne0.true))
 
-returns-2 : tie.Need-returns-2
+returns-2 : tie.Need-returns-then-line-ne0
 unfolding read_case read_on
-returns-2 c = let t = c.before in let e = t.before.before in rw c.refused-at.ensures (sym (if-true _ _ _ (eq-eqb _ _ e.if1.false) ∙ if-false _ _ _ (ne_eqb _ _ t.if2.true)))
+returns-2 c = let t = c in let e = t in rw c.refused_at.ensures (sym (if-true _ _ _ (eq-eqb _ _ e.if-r-ne0.false) ∙ if-false _ _ _ (ne_eqb _ _ t.if-line-ne0.true)))
 
-returns-3 : tie.Need-returns-3
+returns-3 : tie.Need-returns-then-line-eq0
 unfolding read_case read_on
-returns-3 c = let t = c.before in let f = t.before.before in let e = f.before.before in rw c.passed.ensures (sym (if-true _ _ _ (eq-eqb _ _ e.if1.false) ∙ if-true _ _ _ (eq-eqb _ _ f.if2.false) ∙ if-true _ _ _ (eq-eqb _ _ t.if3.true)))
+returns-3 c = let t = c in let f = t in let e = f in rw c.passed.ensures (sym (if-true _ _ _ (eq-eqb _ _ e.if-r-ne0.false) ∙ if-true _ _ _ (eq-eqb _ _ f.if-line-ne0.false) ∙ if-true _ _ _ (eq-eqb _ _ t.if-line-eq0.true)))
 
-returns-4 : tie.Need-returns-4
+returns-4 : tie.Need-returns-then-in_order
 unfolding read_case read_on
-returns-4 c = let t = c.before.before in let o = t.before in let g = o.before.before in let f = g.before.before in let e = f.before.before in c.take.ensures ∙ sym (if-true _ _ _ (eq-eqb _ _ e.if1.false) ∙ if-true _ _ _ (eq-eqb _ _ f.if2.false) ∙ if-false _ _ _ (ne_eqb _ _ g.if3.false) ∙ if-true _ _ _ (sym o.in_order.ensures ∙ t.if4.true))
+returns-4 c = let t = c in let o = t in let g = o in let f = g in let e = f in c.take.ensures ∙ sym (if-true _ _ _ (eq-eqb _ _ e.if-r-ne0.false) ∙ if-true _ _ _ (eq-eqb _ _ f.if-line-ne0.false) ∙ if-false _ _ _ (ne_eqb _ _ g.if-line-eq0.false) ∙ if-true _ _ _ (sym o.in_order.ensures ∙ t.if-in_order.true))
 
-returns-5 : tie.Need-returns-5
+returns-5 : tie.Need-returns
 unfolding read_case read_on
-returns-5 c = let t = c.before in let o = t.before in let g = o.before.before in let f = g.before.before in let e = f.before.before in rw c.refused-at2.ensures (sym (if-true _ _ _ (eq-eqb _ _ e.if1.false) ∙ if-true _ _ _ (eq-eqb _ _ f.if2.false) ∙ if-false _ _ _ (ne_eqb _ _ g.if3.false) ∙ if-false _ _ _ (sym o.in_order.ensures ∙ t.if4.false)))
+returns-5 c = let t = c in let o = t in let g = o in let f = g in let e = f in rw c.refused_at-2.ensures (sym (if-true _ _ _ (eq-eqb _ _ e.if-r-ne0.false) ∙ if-true _ _ _ (eq-eqb _ _ f.if-line-ne0.false) ∙ if-false _ _ _ (ne_eqb _ _ g.if-line-eq0.false) ∙ if-false _ _ _ (sym o.in_order.ensures ∙ t.if-in_order.false)))
 
-pub act-spec : {M : Type 1} → statement M
-act-spec = tie.close (tie.spec returns (λ c κs. search rules) returns-2 (λ c κs. search rules) returns-3 (λ c. search rules) (λ c. search rules) (λ c κs. search rules) (λ c. search rules) (λ c κs. let t = c.before in let o = t.before in in-order-room _ _ _ _ _ (sym o.in_order.ensures ∙ t.if4.true)) returns-4 (λ c κs. search rules) returns-5)
+pub act_spec : {M : Type 1} → statement M
+act_spec = tie.close (tie.spec returns (λ c κs. search rules) returns-2 (λ c κs. search rules) returns-3 (λ c. search rules) (λ c. search rules) (λ c κs. search rules) (λ c. search rules) (λ c κs. let t = c in let o = t in in-order-room _ _ _ _ _ (sym o.in_order.ensures ∙ t.if-in_order.true)) returns-4 (λ c κs. search rules) returns-5)

@@ -7,17 +7,17 @@ use Rattle.bins_text.specs.Machine.{judged_end}
 use Rattle.bins_text.proofs.judged_end.Statement.{statement}
 use Rattle.bins_text.proofs.judged_end.Tie as tie
 
-returns : tie.Need-returns
+returns : tie.Need-returns-then-r-ne0
 unfolding judged_end
-returns c = sym (if-false _ _ _ (ne_eqb _ _ c.if1.true))
+returns c = sym (if-false _ _ _ (ne_eqb _ _ c.if-r-ne0.true))
 
-returns-2 : tie.Need-returns-2
+returns-2 : tie.Need-returns-then-r-bins_count
 unfolding judged_end
-returns-2 c = let t = c.before in let b = t.before.before in c.refused-at.ensures ∙ sym (if-true _ _ _ (eq-eqb _ _ b.before.if1.false) ∙ if-true _ _ _ (lt-ltb _ _ (rw b.bins-count.ensures at t.if2.true)))
+returns-2 c = let t = c in let b = t in c.refused_at.ensures ∙ sym (if-true _ _ _ (eq-eqb _ _ b.if-r-ne0.false) ∙ if-true _ _ _ (lt-ltb _ _ (rw b.bins_count.ensures at t.if-r-bins_count.true)))
 
-returns-3 : tie.Need-returns-3
+returns-3 : tie.Need-returns
 unfolding judged_end
-returns-3 c = let b = c.before.before in sym (if-true _ _ _ (eq-eqb _ _ b.before.if1.false) ∙ if-false _ _ _ (le-ltb _ _ (rw b.bins-count.ensures at c.if2.false)))
+returns-3 c = let b = c in sym (if-true _ _ _ (eq-eqb _ _ b.if-r-ne0.false) ∙ if-false _ _ _ (le-ltb _ _ (rw b.bins_count.ensures at c.if-r-bins_count.false)))
 
-pub judged-end-spec : {M : Type 1} → statement M
-judged-end-spec = tie.close (tie.spec returns (λ c κs. search rules) (λ c κs. search rules) returns-2 returns-3)
+pub judged_end_spec : {M : Type 1} → statement M
+judged_end_spec = tie.close (tie.spec returns (λ c κs. search rules) (λ c κs. search rules) returns-2 returns-3)

@@ -8,5 +8,5 @@ returns : tie.Need-returns
 unfolding passed
 returns c = rw c.up.ensures
 
-pub passed-spec : {M : Type 1} → statement M
-passed-spec = tie.close (tie.spec (λ c κs. search rules) returns)
+pub passed_spec : {M : Type 1} → statement M
+passed_spec = tie.close (tie.spec (λ c κs. search rules) returns)

@@ -11,25 +11,25 @@ use Rattle.bins_text.proofs.Laws.{no_size}
 use Rattle.bins_text.proofs.place_index.Statement.{statement}
 use Rattle.bins_text.proofs.place_index.Tie as tie
 
-returns : tie.Need-returns
+returns : tie.Need-returns-then-variable-eq0
 unfolding place_index
-returns c = sym (if-true _ _ _ (eq-eqb _ _ c.if1.true))
+returns c = sym (if-true _ _ _ (eq-eqb _ _ c.if-variable-eq0.true))
 
-returns-2 : tie.Need-returns-2
+returns-2 : tie.Need-returns-then-n-o
 unfolding place_index
-returns-2 c = sym (if-false _ _ _ (ne_eqb _ _ c.before.if1.false) ∙ if-true _ _ _ (le-leb _ _ c.if2.true))
+returns-2 c = sym (if-false _ _ _ (ne_eqb _ _ c.if-variable-eq0.false) ∙ if-true _ _ _ (le-leb _ _ c.if-n-o.true))
 
-returns-3 : tie.Need-returns-3
+returns-3 : tie.Need-returns-then-o-ge16
 unfolding place_index
-returns-3 c = let e = c.before in let a = e.before.before.args in let A : Array 16 (2 ^ 8) a.t2 = search shape in sym (if-false _ _ _ (ne_eqb _ _ e.before.if1.false) ∙ if-false _ _ _ (lt-leb _ _ e.if2.false) ∙ if-true _ _ _ (no_size a.t2 (a.variable - 1) a.value A c.if3.true))
+returns-3 c = let e = c in let a = e.args in let A : Array 16 (2 ^ 8) a.sizes = search shape in sym (if-false _ _ _ (ne_eqb _ _ e.if-variable-eq0.false) ∙ if-false _ _ _ (lt-leb _ _ e.if-n-o.false) ∙ if-true _ _ _ (no_size a.sizes (a.variable - 1) a.value A c.if-o-ge16.true))
 
-returns-4 : tie.Need-returns-4
+returns-4 : tie.Need-returns-then-wide-value
 unfolding place_index
-returns-4 c = let e = c.before.before.before in sym (if-false _ _ _ (ne_eqb _ _ e.before.if1.false) ∙ if-false _ _ _ (lt-leb _ _ e.if2.false) ∙ if-true _ _ _ (le-leb _ _ (rw c.before.wide.ensures at c.if4.true)))
+returns-4 c = let e = c in sym (if-false _ _ _ (ne_eqb _ _ e.if-variable-eq0.false) ∙ if-false _ _ _ (lt-leb _ _ e.if-n-o.false) ∙ if-true _ _ _ (le-leb _ _ (rw c.wide.ensures at c.if-wide-value.true)))
 
-returns-5 : tie.Need-returns-5
+returns-5 : tie.Need-returns
 unfolding place_index
-returns-5 c = let f = c.before in let e = f.before.before.before in c.spot.ensures ∙ sym (if-false _ _ _ (ne_eqb _ _ e.before.if1.false) ∙ if-false _ _ _ (lt-leb _ _ e.if2.false) ∙ if-false _ _ _ (lt-leb _ _ (rw f.before.wide.ensures at f.if4.false)))
+returns-5 c = let f = c in let e = f in c.spot.ensures ∙ sym (if-false _ _ _ (ne_eqb _ _ e.if-variable-eq0.false) ∙ if-false _ _ _ (lt-leb _ _ e.if-n-o.false) ∙ if-false _ _ _ (lt-leb _ _ (rw f.wide.ensures at f.if-wide-value.false)))
 
-pub place-index-spec : {M : Type 1} → statement M
-place-index-spec = tie.close (tie.spec returns (λ c. search rules) returns-2 returns-3 (λ c. search rules) (λ c κs. search rules) returns-4 (λ c κs. search rules) returns-5)
+pub place_index_spec : {M : Type 1} → statement M
+place_index_spec = tie.close (tie.spec returns (λ c. search rules) returns-2 returns-3 (λ c. search rules) (λ c κs. search rules) returns-4 (λ c κs. search rules) returns-5)

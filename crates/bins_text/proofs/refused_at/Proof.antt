@@ -8,5 +8,5 @@ returns : tie.Need-returns
 unfolding refused_at
 returns c = refl
 
-pub refused-at-spec : {M : Type 1} → statement M
-refused-at-spec = tie.close (tie.spec returns)
+pub refused_at_spec : {M : Type 1} → statement M
+refused_at_spec = tie.close (tie.spec returns)

@@ -8,7 +8,7 @@ use Rattle.bins_text.proofs.start.Tie as tie
 
 returns : tie.Need-returns
 unfolding start start_reading program
-returns c = λ n sizes counts. rw c.opening.ensures
+returns c = λ n sizes counts. rw c.opening-scan.ensures
 
 pub start_spec : {M : Type 1} → statement M
 start_spec = tie.close (tie.spec (λ c κs. search rules) returns)

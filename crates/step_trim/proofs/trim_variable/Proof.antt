@@ -6,19 +6,19 @@ use Rattle.step_trim.proofs.Trimmed.{own-list, led-list, led-in}
 use Rattle.step_trim.proofs.trim_variable.Statement.{statement}
 use Rattle.step_trim.proofs.trim_variable.Tie as tie
 
-led : (c : tie.Else1) → (c.before.wide.result - 1 < 16) × (c.before.before.args.x ≡ c.before.wide.result - 1 → ⊥)
-led c = led-in _ c.before.before.args.x c.before.wide.ensures c.before.before.requires.1 c.if1.false
+led : (c : tie.Else-leader-eq0) → (c.wide-leader.result - 1 < 16) × (c.args.x ≡ c.wide-leader.result - 1 → ⊥)
+led c = led-in _ c.args.x c.wide-leader.ensures c.requires.1 c.if-leader-eq0.false
 
-returns : tie.Need-returns
-returns c = own-list _ c.before.before.args.x c.before.wide.ensures 32 _ _ c.if1.true
+returns : tie.Need-returns-then-leader-eq0
+returns c = own-list _ c.args.x c.wide-leader.ensures 32 _ _ c.if-leader-eq0.true
 
-returns-2 : tie.Need-returns-2
+returns-2 : tie.Need-returns
 returns-2 c =
-    let e = c.before in
-    led-list _ e.before.before.args.x e.before.wide.ensures 32 _ _ e.if1.false c.supported.ensures
+    let e = c in
+    led-list _ e.args.x e.wide-leader.ensures 32 _ _ e.if-leader-eq0.false c.supported.ensures
 
-pub trim-variable-spec : {M : Type 1} → statement M
-trim-variable-spec =
+pub trim_variable_spec : {M : Type 1} → statement M
+trim_variable_spec =
     tie.close
     (tie.spec
     (λ c. search rules)

@@ -78,19 +78,19 @@ choose-calls t = (
 module _ (t : ℕ) where
   -- ---- attempt
 
-  returns : attempt-lts.Need-returns-then-left-eq0 (attempt-calls t) (attempt-at t) attempt.Post
-  returns c = record { whole = c.requires.1.3; chooses = λ N L f. tried-none _ L f c.if-left-eq0.true }
+  returns : attempt-lts.Need-returns-then-rest-eq0 (attempt-calls t) (attempt-at t) attempt.Post
+  returns c = record { whole = c.requires.1.3; chooses = λ N L f. tried-none _ L f c.if-rest-eq0.true }
 
   -- The value that is tried is one of the rest.
-  tried : (c : attempt-lts.After-next-value (attempt-calls t) (attempt-at t) attempt.Post)
+  tried : (c : attempt-lts.After-next_value-v (attempt-calls t) (attempt-at t) attempt.Post)
       → (c.next_value-v.result < width) × (has c.args.rest c.next_value-v.result ≡ true)
-  tried c = lowest-in width _ _ c.ranges.rest.fits c.if-left-eq0.false c.next_value-v.ensures
+  tried c = lowest-in width _ _ c.ranges.rest.fits c.if-rest-eq0.false c.next_value-v.ensures
 
   narrow-requires : attempt-lts.Need-narrow-changed-requires (attempt-calls t) (attempt-at t) attempt.Post
   narrow-requires c κs =
       let l = c in
       let s = l in
-      ((tried l).0, λ j h. s.requires.1.1 j (in-second width _ _ _ j c.both.ensures h), s.requires.1.2)
+      ((tried c.before.before.before.before.before).0, λ j h. s.requires.1.1 j (in-second width _ _ _ j c.both.ensures h), s.requires.1.2)
 
   choose-requires : attempt-lts.Need-choose-requires (attempt-calls t) (attempt-at t) attempt.Post
   choose-requires c κs =
@@ -99,7 +99,7 @@ module _ (t : ℕ) where
       (omega (arith, s.requires.0), (λ j h. (s.requires.1.1 j h).1, n.narrow-changed.ensures.whole ∙ s.requires.1.2, s.requires.1.3))
 
   cast-values : attempt-lts.Need-overflow_cast-values (attempt-calls t) (attempt-at t) attempt.Post
-  cast-values c = let l = (tried c.before.before.before.before.before.before.before.before.before).0 in search rules
+  cast-values c = let l = (tried c.before.before.before.before.before.before.before.before.before.before).0 in search rules
 
   -- What is known once the other variables are chosen, or cannot be.
   taken : (c : attempt-lts.After-choose (attempt-calls t) (attempt-at t) attempt.Post) (N : Network)
@@ -118,20 +118,20 @@ module _ (t : ℕ) where
         k_free = f;
         rest_fits = s.ranges.rest.fits;
         left_fits = s.ranges.left.fits;
-        some = l.if-left-eq0.false;
+        some = l.if-rest-eq0.false;
         lowest = l.next_value-v.ensures;
         narrowed = rw n.both.ensures at n.narrow-changed.ensures;
         chosen = c.choose.ensures.chooses N _ L;
       }
 
-  returns-2 : attempt-lts.Need-returns (attempt-calls t) (attempt-at t) attempt.Post
+  returns-2 : attempt-lts.Need-returns-then-choose (attempt-calls t) (attempt-at t) attempt.Post
   returns-2 c =
       let a = c in
       let long = a.choose.ensures.whole in
       let k_in = a.requires.1.0 in
       record {
         whole = length-set a.choose.new.values _ _ ∙ long;
-        chooses = λ N L f. taken-hit (taken a N L f) c.if-choose.true (omega (arith, long, k_in));
+        chooses = λ N L f. taken-hit (taken c.before.before N L f) c.if-choose.true (omega (arith, long, k_in));
       }
 
   returns-3 : attempt-lts.Need-returns-then-not-changed (attempt-calls t) (attempt-at t) attempt.Post
@@ -139,7 +139,7 @@ module _ (t : ℕ) where
       let a = c in
       record {
         whole = a.choose.ensures.whole;
-        chooses = λ N L f. taken-stuck (taken a N L f) c.if-choose.false (c.if-not-changed.true);
+        chooses = λ N L f. taken-stuck (taken c.before.before N L f) c.if-choose.false (c.if-not-changed.true);
       }
 
   attempt-requires : attempt-lts.Need-attempt-requires (attempt-calls t) (attempt-at t) attempt.Post
@@ -147,7 +147,7 @@ module _ (t : ℕ) where
       let a = c in
       let l = a in
       let s = l in
-      let less = rest-less width s.ranges.rest.fits l.if-left-eq0.false l.next_value-v.ensures c.dropped.ensures in
+      let less = rest-less width s.ranges.rest.fits l.if-rest-eq0.false l.next_value-v.ensures c.dropped.ensures in
       (omega (arith, less, s.requires.0), (s.requires.1.0, s.requires.1.1, s.requires.1.2, a.choose.ensures.whole))
 
   returns-4 : attempt-lts.Need-returns (attempt-calls t) (attempt-at t) attempt.Post
@@ -156,7 +156,7 @@ module _ (t : ℕ) where
       record {
         whole = c.attempt.ensures.whole;
         chooses = λ N L f.
-            taken-miss (taken e.before N L f) _ c.dropped.ensures _ _ e.if-choose.false (c.attempt.ensures.chooses N L f);
+            taken-miss (taken c.before.before.before.before.before N L f) _ c.dropped.ensures _ _ e.if-choose.false (c.attempt.ensures.chooses N L f);
       }
 
   -- ---- choose
@@ -165,7 +165,7 @@ module _ (t : ℕ) where
   choose-returns c = record { whole = c.requires.1.2; chooses = λ N k L. chosen-end L c.if-left-eq0.true }
 
   -- The variable that is chosen is one of those that are left.
-  chosen : (c : choose-lts.After-lowest (choose-calls t) (choose-at t) choose.Post) → c.lowest-k.result < variables
+  chosen : (c : choose-lts.After-lowest-k (choose-calls t) (choose-at t) choose.Post) → c.lowest-k.result < variables
   chosen c =
       c.requires.1.0 _
       (lowest-in width _ _ c.ranges.left.fits c.if-left-eq0.false c.lowest-k.ensures).1
@@ -175,7 +175,7 @@ module _ (t : ℕ) where
 
   choose-attempt-requires : choose-lts.Need-attempt-requires (choose-calls t) (choose-at t) choose.Post
   choose-attempt-requires c κs =
-      let l = c.before.before.before in
+      let l = c in
       let s = l in
       let fits = s.ranges.left.fits in
       let some = l.if-left-eq0.false in
@@ -183,7 +183,7 @@ module _ (t : ℕ) where
       let less = rest-less width fits some l.lowest-k.ensures e in
       let most = count-le width (has (get_or s.args.domains.now l.lowest-k.result 0)) in (
         omega (arith, less, most, s.requires.0),
-        (chosen l, λ j h. let q = above-lowest width _ _ _ fits some l.lowest-k.ensures e j h in (q.1, s.requires.1.0 j q.0), s.requires.1.1, s.requires.1.2),
+        (chosen c.before.before.before.before, λ j h. let q = above-lowest width _ _ _ fits some l.lowest-k.ensures e j h in (q.1, s.requires.1.0 j q.0), s.requires.1.1, s.requires.1.2),
       )
 
   choose-returns-2 : choose-lts.Need-returns (choose-calls t) (choose-at t) choose.Post
@@ -219,7 +219,7 @@ pub +attempt_choose_spec : {M : Type 1} → statement M
     (choose-returns t)
     (λ c κs. search rules)
     (mul-attempt t)
-    (chosen t)
+    (λ c. chosen t c.before)
     (λ c κs. search rules)
     (choose-attempt-requires t)
     (choose-returns-2 t))

@@ -9,23 +9,23 @@ use Rattle.step_parts.proofs.StepArrays.{leaders-led}
 use Rattle.step_parts.proofs.head_after.leaders_after.Statement.{statement}
 use Rattle.step_parts.proofs.head_after.leaders_after.Tie as tie
 
-abbrev invariant-loop : tie.invariant-loop
+abbrev invariant-loop : tie.invariant-loop-x
 invariant-loop i j leaders after₀ x₀ after x = (x ≤ 16) × Filled 16 (λ (v : ℕ). led_after i j (get_or leaders v 0)) after x
 
-abbrev decreases-loop : tie.decreases-loop
+abbrev decreases-loop : tie.decreases-loop-x
 decreases-loop i j leaders after₀ x₀ after x = 16 - x
 
-loop-holds : tie.Need-loop-init invariant-loop decreases-loop
+loop-holds : tie.Need-loop-x-init invariant-loop decreases-loop
 loop-holds c = (omega arith, filled_none 16 (search rules))
 
-loop-again : tie.Need-loop-preserved invariant-loop decreases-loop
-loop-again c = (omega arith, filled_more 16 c.before.before.loop.invariant.1 c.before.loop-test.true c.leader-after.ensures)
+loop-again : tie.Need-loop-x-preserved invariant-loop decreases-loop
+loop-again c = (omega arith, filled_more 16 c.loop-x.invariant.1 c.loop-x-test.true c.leader_after.ensures)
 
 returns : tie.Need-returns invariant-loop decreases-loop
-returns c = leaders-led _ _ c.before.before.args.t1 _ (omega arith) (filled-end 16 c.before.loop.invariant.1 c.loop-test.false)
+returns c = leaders-led _ _ c.args.leaders _ (omega arith) (filled-end 16 c.loop-x.invariant.1 c.loop-x-test.false)
 
-pub leaders-after-spec : {M : Type 1} → statement M
-leaders-after-spec =
+pub leaders_after_spec : {M : Type 1} → statement M
+leaders_after_spec =
     tie.close
     (tie.spec
     invariant-loop

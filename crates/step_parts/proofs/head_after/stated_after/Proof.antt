@@ -13,48 +13,48 @@ use Rattle.step_parts.proofs.StepArrays.{Linked, ends-linked, third-linked, all-
 use Rattle.step_parts.proofs.head_after.stated_after.Statement.{statement}
 use Rattle.step_parts.proofs.head_after.stated_after.Tie as tie
 
-abbrev invariant-loop : tie.invariant-loop
+abbrev invariant-loop : tie.invariant-loop-rest
 invariant-loop thirds i j stated after₀ rest₀ after rest = Left 32 thirds rest × Linked 32 stated thirds i j after rest
 
-abbrev decreases-loop : tie.decreases-loop
+abbrev decreases-loop : tie.decreases-loop-rest
 decreases-loop thirds i j stated after₀ rest₀ after rest = count 32 (has rest)
 
-loop-holds : tie.Need-loop-init invariant-loop decreases-loop
+loop-holds : tie.Need-loop-rest-init invariant-loop decreases-loop
 loop-holds c =
-    let s = c.before.before in
+    let s = c in
     let p = s.requires in
-    let a : Array 16 (2 ^ 32) s.args.t1 = search shape in
-    (all_left 32 s.ranges.thirds.fits, ends-linked 32 p.2 p.3 p.4 p.0 p.1 a c.before.either.ensures c.without.ensures)
+    let a : Array 16 (2 ^ 32) s.args.stated = search shape in
+    (all_left 32 s.ranges.thirds.fits, ends-linked 32 p.2 p.3 p.4 p.0 p.1 a c.either.ensures c.without.ensures)
 
 -- The variable taken is a third one.
-found : (c : tie.After-lowest invariant-loop decreases-loop) → (c.lowest.result < 16) × (has c.before.before.before.before.before.args.thirds c.lowest.result ≡ true)
+found : (c : tie.After-lowest-k invariant-loop decreases-loop) → (c.lowest-k.result < 16) × (has c.args.thirds c.lowest-k.result ≡ true)
 found c =
-    let at = c.before.before in
-    third-found 32 16 at.before.before.before.requires.5 at.loop.invariant.0 c.before.loop-test.true c.lowest.ensures
+    let at = c in
+    third-found 32 16 at.requires.5 at.loop-rest.invariant.0 c.loop-rest-test.true c.lowest-k.ensures
 
-loop-less : tie.Need-loop-smaller invariant-loop decreases-loop
+loop-less : tie.Need-loop-rest-smaller invariant-loop decreases-loop
 loop-less c =
-    let l = c.before.before.before.before.before in
-    rest-less 32 l.before.before.loop.invariant.0.fits l.before.loop-test.true l.lowest.ensures c.dropped.ensures
+    let l = c in
+    rest-less 32 l.loop-rest.invariant.0.fits l.loop-rest-test.true l.lowest-k.ensures c.dropped-rest.ensures
 
-loop-again : tie.Need-loop-preserved invariant-loop decreases-loop
+loop-again : tie.Need-loop-rest-preserved invariant-loop decreases-loop
 loop-again c =
-    let r = c.before in
-    let e = r.before.before in
-    let l = e.before.before in
-    let at = l.before.before in
-    let p = at.before.before.before.requires in
-    let t = taken 32 at.loop.invariant.0 l.before.loop-test.true l.lowest.ensures c.dropped.ensures in (
+    let r = c in
+    let e = r in
+    let l = e in
+    let at = l in
+    let p = at.requires in
+    let t = taken 32 at.loop-rest.invariant.0 l.loop-rest-test.true l.lowest-k.ensures c.dropped-rest.ensures in (
       t.still,
-      third-linked 32 p.2 p.3 p.4 at.loop.invariant.1 t (found l).0
-          e.before.single.ensures r.before.single2.ensures e.either2.ensures r.without2.ensures,
+      third-linked 32 p.2 p.3 p.4 at.loop-rest.invariant.1 t (found c.before.before.before.before.before).0
+          e.single.ensures r.single-in-loop-rest.ensures e.either-in-loop-rest.ensures r.without-in-loop-rest.ensures,
     )
 
 returns : tie.Need-returns invariant-loop decreases-loop
-returns c = all-linked 32 c.loop-test.false c.before.loop.invariant.1
+returns c = all-linked 32 c.loop-rest-test.false c.loop-rest.invariant.1
 
-pub stated-after-spec : {M : Type 1} → statement M
-stated-after-spec =
+pub stated_after_spec : {M : Type 1} → statement M
+stated_after_spec =
     tie.close
     (tie.spec
     invariant-loop

@@ -90,42 +90,42 @@ try-values-calls t = (
 module _ (t : ℕ) where
   -- ---- tally
 
-  tally-returns : tally-lts.Need-returns-then-rest-eq0 (tally-calls t) (tally-at t) tally.Post
-  tally-returns c = record { whole = c.requires.1.2; tallies = λ N T k L B. tallied-end L c.if-rest-eq0.true }
+  tally-returns : tally-lts.Need-returns-then-left-eq0 (tally-calls t) (tally-at t) tally.Post
+  tally-returns c = record { whole = c.requires.1.2; tallies = λ N T k L B. tallied-end L c.if-left-eq0.true }
 
   -- The variable that is chosen is one of those that are left.
-  chosen : (c : tally-lts.After-lowest (tally-calls t) (tally-at t) tally.Post) → c.lowest-v.result < variables
+  chosen : (c : tally-lts.After-lowest-k (tally-calls t) (tally-at t) tally.Post) → c.lowest-k.result < variables
   chosen c =
       c.requires.1.0 _
-      (lowest-in width _ _ c.ranges.left.fits c.if-rest-eq0.false c.lowest-v.ensures).1
+      (lowest-in width _ _ c.ranges.left.fits c.if-left-eq0.false c.lowest-k.ensures).1
 
   mul-domain : tally-lts.Need-offset_bounds-domains-k (tally-calls t) (tally-at t) tally.Post
   mul-domain c = let l = chosen c in search rules
 
   mul-joined : tally-lts.Need-offset_bounds-used-k (tally-calls t) (tally-at t) tally.Post
-  mul-joined c = let l = chosen c.before.before.before in search rules
+  mul-joined c = let l = chosen c.before.before.before.before in search rules
 
   element-joined : tally-lts.Need-bounds-used-k (tally-calls t) (tally-at t) tally.Post
-  element-joined c = chosen c.before.before.before
+  element-joined c = chosen c.before.before.before.before.before
 
-  mul-used-last : tally-lts.Need-offset_bounds-used-k-2 (tally-calls t) (tally-at t) tally.Post
-  mul-used-last c = let l = chosen c.before.before.before.before.before in search rules
+  mul-used-last : tally-lts.Need-offset_bounds-used-k-then-after-eq0 (tally-calls t) (tally-at t) tally.Post
+  mul-used-last c = let l = chosen c.before.before.before.before.before.before.before in search rules
 
-  element-used-last : tally-lts.Need-bounds-used-k-2 (tally-calls t) (tally-at t) tally.Post
-  element-used-last c = chosen c.before.before.before.before.before
+  element-used-last : tally-lts.Need-bounds-used-k-then-after-eq0 (tally-calls t) (tally-at t) tally.Post
+  element-used-last c = chosen c.before.before.before.before.before.before.before
 
-  tally-returns-2 : tally-lts.Need-returns (tally-calls t) (tally-at t) tally.Post
+  tally-returns-2 : tally-lts.Need-returns-then-after-eq0 (tally-calls t) (tally-at t) tally.Post
   tally-returns-2 c =
       let a = c in
       let d = a in
-      let l = a.before.before.before in
+      let l = a in
       let s = l in
       let long = s.requires.1.2 in
-      let inside = chosen l in
+      let inside = chosen c.before.before.before.before.before.before.before.before in
       record {
         whole = length-set s.args.used.now _ _ ∙ long;
         tallies = λ N T k L B.
-            tallied-last L s.ranges.left.fits l.if-rest-eq0.false l.lowest-v.ensures d.dropped.ensures
+            tallied-last L s.ranges.left.fits l.if-left-eq0.false l.lowest-k.ensures d.dropped-after.ensures
             _ _ _ B a.if-after-eq0.true (omega arith) c.joined-word.ensures c.members.ensures.0 c.members.ensures.1;
       }
 
@@ -134,12 +134,12 @@ module _ (t : ℕ) where
       let l = c in
       let s = l in
       let fits = s.ranges.left.fits in
-      let some = l.if-rest-eq0.false in
-      let e = c.dropped.ensures in
-      let less = rest-less width fits some l.lowest-v.ensures e in
-      let most = count-le width (has (get_or s.args.domains.now l.lowest-v.result 0)) in (
+      let some = l.if-left-eq0.false in
+      let e = c.dropped-after.ensures in
+      let less = rest-less width fits some l.lowest-k.ensures e in
+      let most = count-le width (has (get_or s.args.domains.now l.lowest-k.result 0)) in (
         omega (arith, less, most, s.requires.0),
-        (chosen l, λ j h. let q = above-lowest width _ _ _ fits some l.lowest-v.ensures e j h in (q.1, s.requires.1.0 j q.0), s.requires.1.1, s.requires.1.2),
+        (chosen c.before.before.before.before.before, λ j h. let q = above-lowest width _ _ _ fits some l.lowest-k.ensures e j h in (q.1, s.requires.1.0 j q.0), s.requires.1.1, s.requires.1.2),
       )
 
   tally-returns-3 : tally-lts.Need-returns (tally-calls t) (tally-at t) tally.Post
@@ -149,7 +149,7 @@ module _ (t : ℕ) where
       record {
         whole = c.try_values.ensures.whole;
         tallies = λ N T k L B.
-            tallied-next L s.ranges.left.fits l.if-rest-eq0.false l.lowest-v.ensures c.dropped.ensures
+            tallied-next L s.ranges.left.fits l.if-left-eq0.false l.lowest-k.ensures c.dropped-after.ensures
             _ B (c.try_values.ensures.tallies N T);
       }
 
@@ -162,15 +162,15 @@ module _ (t : ℕ) where
   returns c = record { whole = c.requires.1.3; tallies = λ N T L f B. tried-none _ L f c.if-rest-eq0.true (most c.before) }
 
   -- The value that is tried is one of the rest.
-  tried : (c : try-values-lts.After-lowest (try-values-calls t) (try-values-at t) try-values.Post)
+  tried : (c : try-values-lts.After-lowest-v (try-values-calls t) (try-values-at t) try-values.Post)
       → (c.lowest-v.result < width) × (has c.args.rest c.lowest-v.result ≡ true)
   tried c = lowest-in width _ _ c.ranges.rest.fits c.if-rest-eq0.false c.lowest-v.ensures
 
   narrow-requires : try-values-lts.Need-narrow-requires (try-values-calls t) (try-values-at t) try-values.Post
   narrow-requires c κs =
-      let l = c.before.before.before.before in
+      let l = c in
       let s = l in
-      ((tried l).0, λ j h. s.requires.1.1 j (in-second width _ _ _ j c.both.ensures h), s.requires.1.2)
+      ((tried c.before.before.before.before.before).0, λ j h. s.requires.1.1 j (in-second width _ _ _ j c.both.ensures h), s.requires.1.2)
 
   tally-requires : try-values-lts.Need-tally-here-requires (try-values-calls t) (try-values-at t) try-values.Post
   tally-requires c κs =
@@ -179,7 +179,7 @@ module _ (t : ℕ) where
       (omega (arith, s.requires.0), (λ j h. (s.requires.1.1 j h).1, n.narrow.ensures.whole ∙ s.requires.1.2, s.requires.1.3))
 
   -- k is a variable.
-  k_in : (c : try-values-lts.After-tally (try-values-calls t) (try-values-at t) try-values.Post)
+  k_in : (c : try-values-lts.After-tally-here (try-values-calls t) (try-values-at t) try-values.Post)
       → c.args.k < variables
   k_in c = c.requires.1.0
 
@@ -187,10 +187,10 @@ module _ (t : ℕ) where
   mul-marked c = let l = k_in c in search rules
 
   marked-requires : try-values-lts.Need-marked-word-requires (try-values-calls t) (try-values-at t) try-values.Post
-  marked-requires c κs = (tried c.before.before.before.before.before.before.before.before.before).0
+  marked-requires c κs = (tried c.before.before.before.before.before.before.before.before.before.before.before).0
 
   mul-used : try-values-lts.Need-offset_bounds-used-k-2 (try-values-calls t) (try-values-at t) try-values.Post
-  mul-used c = let l = k_in c.before.before in search rules
+  mul-used c = let l = k_in c.before.before.before in search rules
 
   dropped-requires : try-values-lts.Need-dropped-requires (try-values-calls t) (try-values-at t) try-values.Post
   dropped-requires c κs =
@@ -198,7 +198,7 @@ module _ (t : ℕ) where
       search rules
 
   -- What is known once the other variables are tallied.
-  taken : (c : try-values-lts.After-tally (try-values-calls t) (try-values-at t) try-values.Post) (N : Network) (T : ℕ → Bool)
+  taken : (c : try-values-lts.After-tally-here (try-values-calls t) (try-values-at t) try-values.Post) (N : Network) (T : ℕ → Bool)
       → let n = c in
       let l = n in
       let s = l in
@@ -234,12 +234,12 @@ module _ (t : ℕ) where
   returns-2 c =
       let a = c in
       let long = a.tally-here.ensures.whole in
-      let inside = k_in a in
+      let inside = k_in c.before.before.before.before.before.before.before in
       let re = c.dropped.ensures in
       record {
         whole = c.try_values.ensures.whole;
         tallies = λ N T L f B.
-            let W = taken a N T L f B in
+            let W = taken c.before.before.before.before.before.before.before N T L f B in
             tried-more W _ re _ _ _ _ _ (omega arith) c.marked-word.ensures c.capped.ensures
             (c.try_values.ensures.tallies N T L f (rest-sizes W _ re));
       }
@@ -251,7 +251,7 @@ pub +tally_try_values_spec : {M : Type 1} → statement M
     (tally-returns t)
     (λ c κs. search rules)
     (mul-domain t)
-    (chosen t)
+    (λ c. chosen t c.before)
     (λ c κs. search rules)
     (mul-joined t)
     (element-joined t)
@@ -271,10 +271,10 @@ pub +tally_try_values_spec : {M : Type 1} → statement M
     (narrow-requires t)
     (tally-requires t)
     (mul-marked t)
-    (k_in t)
+    (λ c. k_in t c.before)
     (marked-requires t)
     (mul-used t)
-    (λ c. k_in t c.before.before)
+    (λ c. k_in t c.before.before.before)
     (dropped-requires t)
     (λ c κs. search rules)
     (try-values-requires t)

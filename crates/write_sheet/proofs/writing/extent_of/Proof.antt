@@ -9,45 +9,45 @@ use Rattle.write_sheet.proofs.Held.{count_none, count-more, bytes-none, bytes-mo
 use Rattle.write_sheet.proofs.writing.extent_of.Statement.{statement}
 use Rattle.write_sheet.proofs.writing.extent_of.Tie as tie
 
-abbrev invariant-loop : tie.invariant-loop
+abbrev invariant-loop : tie.invariant-loop-i
 invariant-loop bytes n sizes stated length₀ tables₀ i₀ length tables i =
     (i ≤ n) × (length ≡ 5 + n + tables_length 32 bytes i sizes stated) × (length ≤ 21 + 32768 * i) × (tables ≡ count_of_tables 32 i stated) × (tables ≤ 32 * i)
 
-abbrev decreases-loop : tie.decreases-loop
+abbrev decreases-loop : tie.decreases-loop-i
 decreases-loop bytes n sizes stated length₀ tables₀ i₀ length tables i = n - i
 
-loop-holds : tie.Need-loop-init invariant-loop decreases-loop
+loop-holds : tie.Need-loop-i-init invariant-loop decreases-loop
 loop-holds c =
     let bytes = bytes-none c.args.bytes c.args.sizes.now c.args.stated.now in
     let count = count_none c.args.stated.now in
     (omega arith, omega arith, omega arith, omega arith, omega arith)
 
-loop-again : tie.Need-loop-preserved invariant-loop decreases-loop
+loop-again : tie.Need-loop-i-preserved invariant-loop decreases-loop
 loop-again c =
-    let later = c.before.before in
-    let at-loop = later.before.before.before in
-    let args = at-loop.before.args in
-    let i = at-loop.loop.i in
+    let later = c in
+    let at-loop = later in
+    let args = at-loop.args in
+    let i = at-loop.loop-i.i in
     let bytes = bytes-more args.bytes args.sizes.now args.stated.now i in
     let count = count-more i args.stated.now in
-    let own = c.tables-length.ensures.0 ∙ ap (λ (k : ℕ). (2 + args.bytes * get_or args.sizes.now i 0) * k) later.later.ensures.0 in
+    let own = c.tables_length-length.ensures.0 ∙ ap (λ (k : ℕ). (2 + args.bytes * get_or args.sizes.now i 0) * k) later.later-more.ensures.0 in
     (omega arith, omega arith, omega arith, omega arith, omega arith)
 
 returns : tie.Need-returns invariant-loop decreases-loop
 unfolding sheet_length
 returns c =
-    let s = c.before.before in
-    let inv = c.before.loop.invariant in (
+    let s = c in
+    let inv = c.loop-i.invariant in (
       λ L h rows k n sizes stated.
-          let e : c.before.loop.i ≡ h.n = omega arith in
+          let e : c.loop-i.i ≡ h.n = omega arith in
           let counted = rw (e, ← sizes, ← stated, ← k) at inv.1 in
           let held = length-held L h rows (omega (arith, s.requires.1)) (rw (stated, n) s.requires.2) in
           omega arith,
-      rw (let e : c.before.loop.i ≡ s.args.n = omega arith in e) at inv.3,
+      rw (let e : c.loop-i.i ≡ s.args.n = omega arith in e) at inv.3,
     )
 
-pub extent-of-spec : {M : Type 1} → statement M
-extent-of-spec =
+pub extent_of_spec : {M : Type 1} → statement M
+extent_of_spec =
     tie.close
     (tie.spec
     invariant-loop

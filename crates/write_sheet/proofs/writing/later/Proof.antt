@@ -8,10 +8,10 @@ use Rattle.write_sheet.proofs.writing.later.Tie as tie
 
 returns : tie.Need-returns
 returns c =
-    let e = c.count.ensures ∙ later-shifted _ _ in (e, omega (arith, later-most c.before.args.x c.before.args.i))
+    let e = c.count.ensures ∙ later-shifted _ _ in (e, omega (arith, later-most c.args.x c.args.i))
 
-pub later-spec : {M : Type 1} → statement M
-later-spec =
+pub later_spec : {M : Type 1} → statement M
+later_spec =
     tie.close
     (tie.spec
     (λ c. search rules)

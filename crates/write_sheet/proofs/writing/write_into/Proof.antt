@@ -15,25 +15,25 @@ use Rattle.write_tables.proofs.Texts.{wrote-whole}
 use Rattle.write_sheet.proofs.writing.write_into.Statement.{statement}
 use Rattle.write_sheet.proofs.writing.write_into.Tie as tie
 
-shaped : (c : tie.Start) → HeadShaped c.args.t1
+shaped : (c : tie.Start) → HeadShaped c.args.head
 shaped c = search shape
 
-abbrev start : tie.After-fixed-by → tie.Start
+abbrev start : tie.After-fixed_by-bytes → tie.Start
 start c = c.before.before
 
-text : (c : tie.After-fixed-by)
+text : (c : tie.After-fixed_by-bytes)
     → let a = (start c).args in
-    let h = a.t1 in
-    bytes_held a.version h a.rows.now ≡ sheet_text 32 c.fixed-by.result.bytes (row_of 32 a.rows.now) a.version h.n h.sizes h.stated
+    let h = a.head in
+    bytes_held a.version h a.rows.now ≡ sheet_text 32 c.fixed_by-bytes.result.bytes (row_of 32 a.rows.now) a.version h.n h.sizes h.stated
 text c =
     let s = start c in
-    sound-text _ (shaped s) s.pre.0.0 s.args.version s.pre.0.1 s.pre.0.2 _ c.fixed-by.ensures.bytes_are
+    sound-text _ (shaped s) s.requires.0.0 s.args.version s.requires.0.1 s.requires.0.2 _ c.fixed_by-bytes.ensures.bytes_are
 
 -- The length told: as many bytes as the parts have, at most 15621, and within the buffer.
-bytes : (c : tie.After-fixed-by)
+bytes : (c : tie.After-fixed_by-bytes)
     → let a = (start c).args in
-    let h = a.t1 in
-    let k = c.fixed-by.result.bytes in
+    let h = a.head in
+    let k = c.fixed_by-bytes.result.bytes in
     let row = row_of 32 a.rows.now in
     let body = length (body_text 32 k row h.n h.sizes h.stated) in
     (h.n ≤ variables)
@@ -44,74 +44,74 @@ bytes : (c : tie.After-fixed-by)
 bytes c =
     let s = start c in
     let a = s.args in
-    let h = a.t1 in
-    let most = sound-most _ (shaped s) s.pre.0.0 a.version s.pre.0.1 s.pre.0.2 in (
-      held-n _ _ s.pre.0.0,
-      s.pre.1.0.0 ∙ ap length (text c) ∙ sheet-parts _ _ h.n h.sizes h.stated a.version,
+    let h = a.head in
+    let most = sound-most _ (shaped s) s.requires.0.0 a.version s.requires.0.1 s.requires.0.2 in (
+      held-n _ _ s.requires.0.0,
+      s.requires.1.0.0 ∙ ap length (text c) ∙ sheet-parts _ _ h.n h.sizes h.stated a.version,
       body-parts _ _ h.n h.sizes h.stated,
-      omega (arith, s.pre.1.0.0),
-      s.pre.1.1,
+      omega (arith, s.requires.1.0.0),
+      s.requires.1.1,
     )
 
-sub-follow : tie.Need-overflow-sub-follow
+sub-follow : tie.Need-overflow_sub-follow
 sub-follow c = omega (arith, bytes c.before)
 
-cast-follow : tie.Need-overflow-cast-follow
+cast-follow : tie.Need-overflow_cast-follow
 cast-follow c = omega (arith, bytes c.before)
 
-cast-write-header : tie.Need-overflow-cast-write-header
+cast-write-header : tie.Need-overflow_cast-version
 cast-write-header c =
-    let s = start c.before in omega (arith, version-byte _ (shaped s) s.pre.0.0 s.args.version s.pre.0.1 s.pre.0.2)
+    let s = start c.before in omega (arith, version-byte _ (shaped s) s.requires.0.0 s.args.version s.requires.0.1 s.requires.0.2)
 
-cast-write-header-2 : tie.Need-overflow-cast-write-header-2
+cast-write-header-2 : tie.Need-overflow_cast-n
 cast-write-header-2 c = omega (arith, bytes c.before)
 
-write-header-requires : tie.Need-write-header-requires
+write-header-requires : tie.Need-write_header-first_size-requires
 write-header-requires c κs = omega (arith, bytes c.before.before)
 
-abbrev headed : tie.After-write-sizes-arg2 → tie.After-write-header
-headed c = c.before.before.before.before.before
+abbrev headed : tie.After-write_sizes-arg-2-1 → tie.After-write_header-first_size
+headed c = c.before.before.before.before
 
-abbrev fixed : tie.After-write-header → tie.After-fixed-by
+abbrev fixed : tie.After-write_header-first_size → tie.After-fixed_by-bytes
 fixed c = c.before.before.before
 
-write-sizes-requires : tie.Need-write-sizes-requires
+write-sizes-requires : tie.Need-write_sizes-past_sizes-requires
 unfolding bytes_of
 write-sizes-requires c κs = let p = bytes (fixed (headed c)) in search rules
 
-abbrev sized : tie.After-struct-known2 → tie.After-write-sizes
+abbrev sized : tie.After-struct_known-2-1 → tie.After-write_sizes-past_sizes
 sized c = c.before.before.before.before
 
-cast-put-byte : tie.Need-overflow-cast-put-byte
+cast-put-byte : tie.Need-overflow_cast-extent
 cast-put-byte c =
     let s = start (fixed (headed (sized c).before)) in
-    omega (arith, s.pre.1.0.1, sound-count _ (shaped s) s.pre.0.0 s.args.version s.pre.0.1 s.pre.0.2)
+    omega (arith, s.requires.1.0.1, sound-count _ (shaped s) s.requires.0.0 s.args.version s.requires.0.1 s.requires.0.2)
 
-put-byte-requires : tie.Need-put-byte-requires
+put-byte-requires : tie.Need-put_byte-first_table-requires
 unfolding bytes_of
 put-byte-requires c κs = omega (arith, bytes (fixed (headed (sized c).before)))
 
-write-tables-requires : tie.Need-write-tables-requires
+write-tables-requires : tie.Need-write_tables-requires
 unfolding bytes_of
 write-tables-requires c κs =
-    let byte = c.before.before.before.before.before.before in
-    let sizes = sized byte.before in
+    let byte = c in
+    let sizes = sized c.before.before.before.before.before.before in
     let header = headed sizes.before in
     let f = fixed header in
-    let small : (i : ℕ) → get_or (start f).args.t1.sizes i 0 ≤ width = λ i. omega (arith, held-size _ _ (shaped (start f)) (start f).pre.0.0 i) in
-    let below = stated-below _ (shaped (start f)) (start f).pre.0.0 in
-    search (rules, below, bytes f, f.fixed-by.ensures, header.write-header.ensures, sizes.write-sizes.ensures, byte.put_byte.ensures)
+    let small : (i : ℕ) → get_or (start f).args.head.sizes i 0 ≤ width = λ i. omega (arith, held-size _ _ (shaped (start f)) (start f).requires.0.0 i) in
+    let below = stated-below _ (shaped (start f)) (start f).requires.0.0 in
+    search (rules, below, bytes f, f.fixed_by-bytes.ensures, header.write_header-first_size.ensures, sizes.write_sizes-past_sizes.ensures, byte.put_byte-first_table.ensures)
 
 returns : tie.Need-returns
 returns c =
-    let byte = c.before.before.before.before.before.before.before.before.before in
-    let sizes = sized byte.before in
+    let byte = c in
+    let sizes = sized c.before.before.before.before.before.before.before.before.before in
     let header = headed sizes.before in
     let f = fixed header in
-    let h = (start f).args.t1 in
+    let h = (start f).args.head in
     rw (text f)
-    (wrote-whole (wrote-sheet _ _ h.n h.sizes h.stated (omega (arith, bytes f)) (start f).pre.1.0.1 header.write-header.ensures
-    sizes.write-sizes.ensures byte.put_byte.ensures c.before.before.write-tables.ensures))
+    (wrote-whole (wrote-sheet _ _ h.n h.sizes h.stated (omega (arith, bytes f)) (start f).requires.1.0.1 header.write_header-first_size.ensures
+    sizes.write_sizes-past_sizes.ensures byte.put_byte-first_table.ensures c.write_tables.ensures))
 
 pub write_into_spec : {M : Type 1} → statement M
 write_into_spec =
