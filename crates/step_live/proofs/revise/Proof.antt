@@ -13,46 +13,46 @@ use Rattle.step_live.proofs.Revising.{Revising, revising-none, revising-more, re
 use Rattle.step_live.proofs.revise.Statement.{statement}
 use Rattle.step_live.proofs.revise.Tie as tie
 
-abbrev invariant-loop : tie.invariant-loop
+abbrev invariant-loop : tie.invariant-loop-rest
 invariant-loop lists₀ rows others j against changed₀ rest₀ lists changed rest = Revising 32 rows lists₀ others j lists changed rest
 
-abbrev decreases-loop : tie.decreases-loop
+abbrev decreases-loop : tie.decreases-loop-rest
 decreases-loop lists₀ rows others j against changed₀ rest₀ lists changed rest = count 32 (has rest)
 
-loop-holds : tie.Need-loop-init invariant-loop decreases-loop
-loop-holds c = let s = c.before in revising-none s.requires.3 s.ranges.others.fits
+loop-holds : tie.Need-loop-rest-init invariant-loop decreases-loop
+loop-holds c = let s = c in revising-none s.requires.3 s.ranges.others.fits
 
 -- The variable taken is one of the others.
-other : (c : tie.After-lowest invariant-loop decreases-loop) → has c.before.before.before.before.args.others c.lowest.result ≡ true
+other : (c : tie.After-lowest-x invariant-loop decreases-loop) → has c.args.others c.lowest-x.result ≡ true
 other c =
-    let R = c.before.before.loop.invariant in
-    R.rest_in _ (lowest-in 32 _ _ R.rest_fits c.before.loop-test.true c.lowest.ensures).1
+    let R = c.loop-rest.invariant in
+    R.rest_in _ (lowest-in 32 _ _ R.rest_fits c.loop-rest-test.true c.lowest-x.ensures).1
 
-within : (c : tie.After-lowest invariant-loop decreases-loop) → c.lowest.result < 16
-within c = c.before.before.before.before.requires.2 _ (other c)
+within : (c : tie.After-lowest-x invariant-loop decreases-loop) → c.lowest-x.result < 16
+within c = c.requires.2 _ (other c)
 
-supported-requires : tie.Need-supported-requires invariant-loop decreases-loop
+supported-requires : tie.Need-supported-after-requires invariant-loop decreases-loop
 supported-requires c κs =
-    let l = c.before in
-    let p = l.before.before.before.before.requires in
-    (within l, p.0, λ q. clash (ap (has _) (sym q) ∙ other l) p.1)
+    let l = c in
+    let p = l.requires in
+    (within c.before.before, p.0, λ q. clash (ap (has _) (sym q) ∙ other c.before.before) p.1)
 
-loop-less : tie.Need-loop-smaller invariant-loop decreases-loop
+loop-less : tie.Need-loop-rest-smaller invariant-loop decreases-loop
 loop-less c =
-    let l = c.before.before.before in
-    rest-less 32 l.before.before.loop.invariant.rest_fits l.before.loop-test.true l.lowest.ensures c.dropped.ensures
+    let l = c in
+    rest-less 32 l.loop-rest.invariant.rest_fits l.loop-rest-test.true l.lowest-x.ensures c.dropped-rest.ensures
 
-loop-again : tie.Need-loop-preserved invariant-loop decreases-loop
+loop-again : tie.Need-loop-rest-preserved invariant-loop decreases-loop
 loop-again c =
-    let l = c.before.before.before in
-    revising-more l.before.before.loop.invariant l.before.loop-test.true l.lowest.ensures (within l)
-    c.before.supported.ensures c.dropped.ensures (2 ^ 32) (pow_mono {i = 16} {j = 32} (omega arith))
+    let l = c in
+    revising-more l.loop-rest.invariant l.loop-rest-test.true l.lowest-x.ensures (within c.before.before.before.before)
+    c.supported-after.ensures c.dropped-rest.ensures (2 ^ 32) (pow_mono {i = 16} {j = 32} (omega arith))
 
 returns : tie.Need-returns invariant-loop decreases-loop
-returns c = revising-end c.before.loop.invariant c.loop-test.false
+returns c = revising-end c.loop-rest.invariant c.loop-rest-test.false
 
-pub revise-spec : {M : Type 1} → statement M
-revise-spec =
+pub revise_spec : {M : Type 1} → statement M
+revise_spec =
     tie.close
     (tie.spec
     invariant-loop
@@ -62,13 +62,13 @@ revise-spec =
     loop-holds
     (λ c κs. search rules)
     (λ c. let l = within c in search rules)
-    (λ c. let l = within c in search rules)
+    (λ c. let l = within c.before in search rules)
     supported-requires
-    (λ c. let l = within c.before.before in search rules)
-    (λ c. let l = within c.before.before in search rules)
+    (λ c. let l = within c.before.before.before in search rules)
+    (λ c. let l = within c.before.before.before in search rules)
     (λ c. search rules)
-    (λ c. let l = within c.before.before in search rules)
-    (λ c. let l = within c.before.before in search rules)
+    (λ c. let l = within c.before.before.before in search rules)
+    (λ c. let l = within c.before.before.before in search rules)
     (λ c κs. search rules)
     loop-less
     loop-again

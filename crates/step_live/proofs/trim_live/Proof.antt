@@ -9,10 +9,10 @@ use Rattle.step_live.proofs.Turn.{Trimming, work, trimming-none, trimming-end, t
 use Rattle.step_live.proofs.trim_live.Statement.{statement}
 use Rattle.step_live.proofs.trim_live.Tie as tie
 
-abbrev invariant-loop : tie.invariant-loop
+abbrev invariant-loop : tie.invariant-loop-left
 invariant-loop head rows sizes leaders stated free lists₀ left₀ lists left = Trimming head rows lists left
 
-abbrev decreases-loop : tie.decreases-loop
+abbrev decreases-loop : tie.decreases-loop-left
 decreases-loop head rows sizes leaders stated free lists₀ left₀ lists left = work head rows lists left
 
 shaped : (c : tie.Start invariant-loop decreases-loop) → HeadShaped c.args.head
@@ -24,67 +24,67 @@ sound c = held-sound _ _ (shaped c) c.requires
 small : (c : tie.Start invariant-loop decreases-loop) → c.args.head.n ≤ 16
 small c = held-n _ c.args.rows.now c.requires
 
-loop-holds : tie.Need-loop-init invariant-loop decreases-loop
+loop-holds : tie.Need-loop-left-init invariant-loop decreases-loop
 loop-holds c =
-    let s = c.before.before.before.before.before in
-    trimming-none _ _ (shaped s) (sound s) (small s) c.before.free-set.ensures
+    let s = c in
+    trimming-none _ _ (shaped c.before.before.before.before.before) (sound c.before.before.before.before.before) (small c.before.before.before.before.before) c.free_set-free.ensures
 
 -- j is one of the variables, and not its own neighbour.
-within : (c : tie.After-lowest invariant-loop decreases-loop) → c.lowest.result < 16
+within : (c : tie.After-lowest-j invariant-loop decreases-loop) → c.lowest-j.result < 16
 within c =
-    let at = c.before.before in
-    let s = at.before.before.before.before.before.before in
-    turn_in _ _ (shaped s) (sound s) (small s) at.loop.invariant c.before.loop-test.true c.lowest.ensures
+    let at = c in
+    let s = at in
+    turn_in _ _ (shaped c.before.before.before.before.before.before.before.before) (sound c.before.before.before.before.before.before.before.before) (small c.before.before.before.before.before.before.before.before) at.loop-left.invariant c.loop-left-test.true c.lowest-j.ensures
 
-revise-requires : tie.Need-revise-requires invariant-loop decreases-loop
+revise-requires : tie.Need-revise-changed-requires invariant-loop decreases-loop
 revise-requires c κs =
-    let w = c.before.before in
-    let at = w.before.before in
-    let f = at.before.before in
-    let s = f.before.before.before.before in (
-      within w,
-      turn-self _ _ (shaped s) (sound s) (small s) at.loop.invariant w.before.loop-test.true w.lowest.ensures f.free-set.ensures c.both.ensures,
-      turn-others _ _ (shaped s) (sound s) (small s) at.loop.invariant w.before.loop-test.true w.lowest.ensures f.free-set.ensures c.both.ensures,
-      at.loop.invariant.shaped.array_length,
+    let w = c in
+    let at = w in
+    let f = at in
+    let s = f in (
+      within c.before.before,
+      turn-self _ _ (shaped c.before.before.before.before.before.before.before.before.before.before) (sound c.before.before.before.before.before.before.before.before.before.before) (small c.before.before.before.before.before.before.before.before.before.before) at.loop-left.invariant w.loop-left-test.true w.lowest-j.ensures f.free_set-free.ensures c.both.ensures,
+      turn-others _ _ (shaped c.before.before.before.before.before.before.before.before.before.before) (sound c.before.before.before.before.before.before.before.before.before.before) (small c.before.before.before.before.before.before.before.before.before.before) at.loop-left.invariant w.loop-left-test.true w.lowest-j.ensures f.free_set-free.ensures c.both.ensures,
+      at.loop-left.invariant.shaped.array_length,
     )
 
-loop-less : tie.Need-loop-smaller invariant-loop decreases-loop
+loop-less : tie.Need-loop-left-smaller invariant-loop decreases-loop
 loop-less c =
-    let d = c.before in
-    let r = d.before in
-    let b = r.before in
-    let w = b.before.before in
-    let at = w.before.before in
-    let f = at.before.before in
-    let s = f.before.before.before.before in
-    turn-less _ _ (shaped s) (sound s) (small s) at.loop.invariant w.before.loop-test.true w.lowest.ensures f.free-set.ensures b.both.ensures
-    r.revise.ensures.lists_are r.revise.ensures.changed_are d.dropped.ensures c.either.ensures
+    let d = c in
+    let r = d in
+    let b = r in
+    let w = b in
+    let at = w in
+    let f = at in
+    let s = f in
+    turn-less _ _ (shaped c.before.before.before.before.before.before.before.before.before.before.before.before.before) (sound c.before.before.before.before.before.before.before.before.before.before.before.before.before) (small c.before.before.before.before.before.before.before.before.before.before.before.before.before) at.loop-left.invariant w.loop-left-test.true w.lowest-j.ensures f.free_set-free.ensures b.both.ensures
+    r.revise-changed.ensures.lists_are r.revise-changed.ensures.changed_are d.dropped.ensures c.either-left.ensures
 
-loop-again : tie.Need-loop-preserved invariant-loop decreases-loop
+loop-again : tie.Need-loop-left-preserved invariant-loop decreases-loop
 loop-again c =
-    let d = c.before in
-    let r = d.before in
-    let b = r.before in
-    let w = b.before.before in
-    let at = w.before.before in
-    let f = at.before.before in
-    let s = f.before.before.before.before in
-    turn_more _ _ (shaped s) (sound s) (small s) at.loop.invariant w.before.loop-test.true w.lowest.ensures f.free-set.ensures b.both.ensures
-    r.revise.ensures.lists_are r.revise.ensures.changed_are d.dropped.ensures c.either.ensures
+    let d = c in
+    let r = d in
+    let b = r in
+    let w = b in
+    let at = w in
+    let f = at in
+    let s = f in
+    turn_more _ _ (shaped c.before.before.before.before.before.before.before.before.before.before.before.before.before) (sound c.before.before.before.before.before.before.before.before.before.before.before.before.before) (small c.before.before.before.before.before.before.before.before.before.before.before.before.before) at.loop-left.invariant w.loop-left-test.true w.lowest-j.ensures f.free_set-free.ensures b.both.ensures
+    r.revise-changed.ensures.lists_are r.revise-changed.ensures.changed_are d.dropped.ensures c.either-left.ensures
 
-trim-followers-requires : tie.Need-trim-followers-requires invariant-loop decreases-loop
+trim-followers-requires : tie.Need-trim_followers-trimmed-requires invariant-loop decreases-loop
 trim-followers-requires c κs =
-    let s = c.before.before.before.before.before.before.before in
-    sound-led _ _ (shaped s) (sound s) (small s)
+    let s = c in
+    sound-led _ _ (shaped c.before.before.before.before.before.before.before) (sound c.before.before.before.before.before.before.before) (small c.before.before.before.before.before.before.before)
 
 returns : tie.Need-returns invariant-loop decreases-loop
 returns c =
-    let at = c.before.before in
-    let s = at.before.before.before.before.before.before in
-    trimming-end _ _ (shaped s) (sound s) (small s) at.loop.invariant c.before.loop-test.false c.trim-followers.ensures
+    let at = c in
+    let s = at in
+    trimming-end _ _ (shaped c.before.before.before.before.before.before.before.before) (sound c.before.before.before.before.before.before.before.before) (small c.before.before.before.before.before.before.before.before) at.loop-left.invariant c.loop-left-test.false c.trim_followers-trimmed.ensures
 
-pub trim-live-spec : {M : Type 1} → statement M
-trim-live-spec =
+pub trim_live_spec : {M : Type 1} → statement M
+trim_live_spec =
     tie.close
     (tie.spec
     invariant-loop

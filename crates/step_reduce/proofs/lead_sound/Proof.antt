@@ -7,5 +7,5 @@ use Rattle.step_reduce.proofs.lead_sound.Tie as tie
 returns : tie.Need-returns
 returns c = named-leads _ _ _ _ _ c.run_sound.ensures
 
-pub lead-sound-spec : {M : Type 1} → statement M
-lead-sound-spec = tie.close (tie.spec (λ c κs. search rules) returns)
+pub lead_sound_spec : {M : Type 1} → statement M
+lead_sound_spec = tie.close (tie.spec (λ c κs. search rules) returns)

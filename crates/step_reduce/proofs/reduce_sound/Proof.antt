@@ -7,5 +7,5 @@ use Rattle.step_reduce.proofs.reduce_sound.Tie as tie
 returns : tie.Need-returns
 returns c = lowest-reduces _ _ _ _ c.run_sound.ensures
 
-pub reduce-sound-spec : {M : Type 1} → statement M
-reduce-sound-spec = tie.close (tie.spec (λ c κs. search rules) returns)
+pub reduce_sound_spec : {M : Type 1} → statement M
+reduce_sound_spec = tie.close (tie.spec (λ c κs. search rules) returns)

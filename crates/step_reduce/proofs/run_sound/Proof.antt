@@ -12,59 +12,59 @@ use Rattle.step_reduce.proofs.Reducing.{Running, running_none, running-legal, ru
 use Rattle.step_reduce.proofs.run_sound.Statement.{statement}
 use Rattle.step_reduce.proofs.run_sound.Tie as tie
 
-abbrev invariant-loop : tie.invariant-loop
+abbrev invariant-loop : tie.invariant-loop-pair
 invariant-loop rows₀ leader cut₀ steps₀ pair₀ rows cut steps pair = Running (who_leads leader) cut₀ rows₀ cut rows steps
     × (pair ≡ follower_pair (held cut rows) (who_leads leader (held cut rows)))
 
-abbrev decreases-loop : tie.decreases-loop
+abbrev decreases-loop : tie.decreases-loop-pair
 decreases-loop rows₀ leader cut₀ steps₀ pair₀ rows cut steps pair = free_count (held cut rows)
 
-loop-holds : tie.Need-loop-init invariant-loop decreases-loop
+loop-holds : tie.Need-loop-pair-init invariant-loop decreases-loop
 loop-holds c =
-    let s = c.before.before in
+    let s = c in
     let h : HeadShaped s.args.head = search shape in
-    (running_none _ _ _ h s.requires.0 s.requires.1, c.next-step.ensures)
+    (running_none _ _ _ h s.requires.0 s.requires.1, c.next_step-pair.ensures)
 
-returns : tie.Need-returns invariant-loop decreases-loop
-returns c = let l = c.before.before.loop in running-done l.invariant.0 (sym l.invariant.1 ∙ c.enum_told.given.1)
+returns : tie.Need-returns-in_default invariant-loop decreases-loop
+returns c = let l = c.loop-pair in running-done l.invariant.0 (sym l.invariant.1 ∙ c.in_default.is)
 
 -- The pair found.
-found : (c : tie.After-step-arg invariant-loop decreases-loop) → let at = c.before.before.before.before in
-    let N = held at.loop.cut at.loop.rows in
-    let q = c.before.before.pair.given.0 in
-    follower_pair N (who_leads at.before.before.before.args.leader N) ≡ pair.Found q.0 q.1.0
-found c = let q = c.before.before in sym q.before.before.loop.invariant.1 ∙ q.pair.given.1
+found : (c : tie.After-step-arg-1 invariant-loop decreases-loop) → let at = c in
+    let N = held at.loop-pair.cut at.loop-pair.rows in
+    let q = c.pair.given.0 in
+    follower_pair N (who_leads at.args.leader N) ≡ pair.Found q.0 q.1.0
+found c = let q = c in sym q.loop-pair.invariant.1 ∙ q.in-Found.is
 
-step-requires : tie.Need-step-requires invariant-loop decreases-loop
+step-requires : tie.Need-step-cut-requires invariant-loop decreases-loop
 step-requires c κs =
-    let R = c.before.before.before.before.loop.invariant.0 in
+    let R = c.loop-pair.invariant.0 in
     (R.still_sound, R.still_rows, running-legal R (found c))
 
-add-steps : tie.Need-overflow-add-steps invariant-loop decreases-loop
+add-steps : tie.Need-overflow_add-steps invariant-loop decreases-loop
 add-steps c =
-    let R = c.before.before.before.before.before.loop.invariant.0 in
+    let R = c.loop-pair.invariant.0 in
     omega (arith, running-steps R (found c.before))
 
-next-step-requires-2 : tie.Need-next-step-requires-2 invariant-loop decreases-loop
+next-step-requires-2 : tie.Need-next_step-pair-requires-in-loop-pair invariant-loop decreases-loop
 next-step-requires-2 c κs =
-    let t = c.before in
-    let R = t.before.before.before.before.before.loop.invariant.0 in
-    (running_more R (found t.before) t.step.ensures).still_sound
+    let t = c in
+    let R = t.loop-pair.invariant.0 in
+    (running_more R (found c.before) t.step-cut.ensures).still_sound
 
-loop-less : tie.Need-loop-smaller invariant-loop decreases-loop
+loop-less : tie.Need-loop-pair-smaller invariant-loop decreases-loop
 loop-less c =
-    let t = c.before.before in
-    let R = t.before.before.before.before.before.loop.invariant.0 in
-    running-less R (found t.before) t.step.ensures
+    let t = c in
+    let R = t.loop-pair.invariant.0 in
+    running-less R (found c.before.before) t.step-cut.ensures
 
-loop-again : tie.Need-loop-preserved invariant-loop decreases-loop
+loop-again : tie.Need-loop-pair-preserved invariant-loop decreases-loop
 loop-again c =
-    let t = c.before.before in
-    let R = t.before.before.before.before.before.loop.invariant.0 in
-    (running_more R (found t.before) t.step.ensures, c.next-step2.ensures)
+    let t = c in
+    let R = t.loop-pair.invariant.0 in
+    (running_more R (found c.before.before) t.step-cut.ensures, c.next_step-pair-in-loop-pair.ensures)
 
-pub run-sound-spec : {M : Type 1} → statement M
-run-sound-spec =
+pub run_sound_spec : {M : Type 1} → statement M
+run_sound_spec =
     tie.close
     (tie.spec
     invariant-loop

@@ -6,9 +6,6 @@ use Rattle.step_trim.proofs.Trimmed.{own-list, led-list, led-in}
 use Rattle.step_trim.proofs.trim_variable.Statement.{statement}
 use Rattle.step_trim.proofs.trim_variable.Tie as tie
 
-led : (c : tie.Else-leader-eq0) → (c.wide-leader.result - 1 < 16) × (c.args.x ≡ c.wide-leader.result - 1 → ⊥)
-led c = led-in _ c.args.x c.wide-leader.ensures c.requires.1 c.if-leader-eq0.false
-
 returns : tie.Need-returns-then-leader-eq0
 returns c = own-list _ c.args.x c.wide-leader.ensures 32 _ _ c.if-leader-eq0.true
 
@@ -29,7 +26,7 @@ trim_variable_spec =
     (λ c. search rules)
     (λ c. search rules)
     (λ c. search rules)
-    (λ c. let l = led c in search rules)
-    (λ c. let l = led c in search rules)
-    (λ c κs. let l = led c in search rules)
+    (λ c. let l = led-in _ c.args.x c.wide-leader.ensures c.requires.1 c.if-leader-eq0.false in search rules)
+    (λ c. let l = led-in _ c.args.x c.wide-leader.ensures c.requires.1 c.if-leader-eq0.false in search rules)
+    (λ c κs. let l = led-in _ c.args.x c.wide-leader.ensures c.requires.1 c.if-leader-eq0.false in search rules)
     returns-2)

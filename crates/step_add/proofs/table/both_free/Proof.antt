@@ -8,5 +8,5 @@ use Rattle.step_add.proofs.table.both_free.Tie as tie
 returns : tie.Need-returns
 returns c = λ t. let b = sym (machine-and _ _) ∙ t in (eqb-true _ _ (and_l _ _ b), eqb-true _ _ (and_r _ _ b))
 
-pub both-free-spec : {M : Type 1} → statement M
-both-free-spec = tie.close (tie.spec returns)
+pub both_free_spec : {M : Type 1} → statement M
+both_free_spec = tie.close (tie.spec returns)

@@ -12,40 +12,40 @@ use Rattle.step_sides.proofs.Cut.{partner-own, free-row, cut-unstated, cut-state
 use Rattle.step_add.proofs.table.cut_free_row.Statement.{statement}
 use Rattle.step_add.proofs.table.cut_free_row.Tie as tie
 
-returns : tie.Need-returns
+returns : tie.Need-returns-then-not-member
 unfolding cut_at
-returns c = is_word 32 0 _ (pow_pos 32) (λ b k. has-zero b ∙ sym (and-fails _ _ (and-fails _ _ (sym c.before.member.ensures ∙ not-true _ c.if1.true))))
+returns c = is_word 32 0 _ (pow_pos 32) (λ b k. has-zero b ∙ sym (and-fails _ _ (and-fails _ _ (sym c.member.ensures ∙ c.if-not-member.true))))
 
-in-domain : (c : tie.Else1) → has c.before.before.before.args.first.values c.before.before.before.args.a ≡ true
-in-domain c = sym c.before.member.ensures ∙ not-false _ c.if1.false
+in-domain : (c : tie.Else-not-member) → has c.args.first.values c.args.a ≡ true
+in-domain c = sym c.member.ensures ∙ c.if-not-member.false
 
 -- The value has a row of the table.
-shared-slice-read-both : tie.Need-shared-slice-read-both
+shared-slice-read-both : tie.Need-bounds-table-a
 shared-slice-read-both c =
-    let s = c.before.before.before.before in
+    let s = c in
     let l = s.requires.5 _ (in-domain c.before) in
     rw (← partner-own 32 _ s.args.first s.args.a s.requires.6) at l
 
-returns-2 : tie.Need-returns-2
+returns-2 : tie.Need-returns-then-not-was
 returns-2 c =
-    let b = c.before in
-    let s = b.before.before.before.before.before in
+    let b = c in
+    let s = b in
     let a = s.args in
-    cut-unstated 32 _ _ a.first a.second _ (in-domain b.before.before) refl
-    (free-row 32 _ _ a.first a.second _ s.requires.6 s.requires.7 b.both.ensures) (not-true _ c.if2.true)
+    cut-unstated 32 _ _ a.first a.second _ (in-domain c.before.before.before) refl
+    (free-row 32 _ _ a.first a.second _ s.requires.6 s.requires.7 b.both-row.ensures) (c.if-not-was.true)
 
-returns-3 : tie.Need-returns-3
+returns-3 : tie.Need-returns
 returns-3 c =
-    let e = c.before.before in
-    let b = e.before in
-    let s = b.before.before.before.before.before in
+    let e = c in
+    let b = e in
+    let s = b in
     let a = s.args in
-    cut-stated 32 _ _ a.first a.second _ (in-domain b.before.before) refl
-    (free-row 32 _ _ a.first a.second _ s.requires.6 s.requires.7 b.both.ensures)
-    (not-false _ e.if2.false) c.before.Stored-row.ensures c.both2.ensures
+    cut-stated 32 _ _ a.first a.second _ (in-domain c.before.before.before.before.before) refl
+    (free-row 32 _ _ a.first a.second _ s.requires.6 s.requires.7 b.both-row.ensures)
+    (e.if-not-was.false) c.stored_row.ensures c.both.ensures
 
-pub cut-free-row-spec : {M : Type 1} → statement M
-cut-free-row-spec =
+pub cut_free_row_spec : {M : Type 1} → statement M
+cut_free_row_spec =
     tie.close
     (tie.spec
     (λ c κs. search rules)

@@ -10,33 +10,33 @@ use Rattle.step_sides.proofs.Cut.{partners-stay, cut-more}
 use Rattle.step_add.proofs.table.cut_free_rows.Statement.{statement}
 use Rattle.step_add.proofs.table.cut_free_rows.Tie as tie
 
-abbrev invariant-loop : tie.invariant-loop
+abbrev invariant-loop : tie.invariant-loop-a
 invariant-loop rows₀ table first second was p q a₀ rows a =
     (a ≤ 32) × Stored 32 rows₀ rows first.leader second.leader (cut_at 32 rows₀ table first second was) a
 
-abbrev decreases-loop : tie.decreases-loop
+abbrev decreases-loop : tie.decreases-loop-a
 decreases-loop rows₀ table first second was p q a₀ rows a = 32 - a
 
-loop-holds : tie.Need-loop-init invariant-loop decreases-loop
+loop-holds : tie.Need-loop-a-init invariant-loop decreases-loop
 loop-holds c = (omega arith, stored-none 32)
 
-cut-free-row-requires : tie.Need-cut-free-row-requires invariant-loop decreases-loop
+cut-free-row-requires : tie.Need-cut_free_row-row-requires invariant-loop decreases-loop
 cut-free-row-requires c κs =
-    let at = c.before.before in
-    let p = at.before.before.requires in
-    (p.0, p.1, p.2, p.3, c.before.loop-test.true, partners-stay 32 p.2 at.loop.invariant.1 at.before.before.args.table.now p.4, p.6, p.7)
+    let at = c in
+    let p = at.requires in
+    (p.0, p.1, p.2, p.3, c.loop-a-test.true, partners-stay 32 p.2 at.loop-a.invariant.1 at.args.table.now p.4, p.6, p.7)
 
-loop-again : tie.Need-loop-preserved invariant-loop decreases-loop
+loop-again : tie.Need-loop-a-preserved invariant-loop decreases-loop
 loop-again c =
-    let r = c.before.before in
-    let at = r.before.before.before in
-    (omega arith, cut-more 32 _ _ at.before.before.requires.2 at.loop.invariant.1 r.cut-free-row.ensures c.put-row.ensures)
+    let r = c in
+    let at = r in
+    (omega arith, cut-more 32 _ _ at.requires.2 at.loop-a.invariant.1 r.cut_free_row-row.ensures c.put_row.ensures)
 
 returns : tie.Need-returns invariant-loop decreases-loop
-returns c = rw (let e : c.before.loop.a ≡ 32 = omega arith in e) at c.before.loop.invariant.1
+returns c = rw (let e : c.loop-a.a ≡ 32 = omega arith in e) at c.loop-a.invariant.1
 
-pub cut-free-rows-spec : {M : Type 1} → statement M
-cut-free-rows-spec =
+pub cut_free_rows_spec : {M : Type 1} → statement M
+cut_free_rows_spec =
     tie.close
     (tie.spec
     invariant-loop

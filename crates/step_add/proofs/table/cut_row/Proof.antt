@@ -12,32 +12,32 @@ use Rattle.step_sides.proofs.Cut.{cut-unstated, cut-stated}
 use Rattle.step_add.proofs.table.cut_row.Statement.{statement}
 use Rattle.step_add.proofs.table.cut_row.Tie as tie
 
-returns : tie.Need-returns
+returns : tie.Need-returns-then-not-member
 unfolding cut_at
-returns c = is_word 32 0 _ (pow_pos 32) (λ b k. has-zero b ∙ sym (and-fails _ _ (and-fails _ _ (sym c.before.member.ensures ∙ not-true _ c.if1.true))))
+returns c = is_word 32 0 _ (pow_pos 32) (λ b k. has-zero b ∙ sym (and-fails _ _ (and-fails _ _ (sym c.member.ensures ∙ c.if-not-member.true))))
 
-in-domain : (c : tie.Else1) → has c.before.before.before.args.first.values c.before.before.before.args.a ≡ true
-in-domain c = sym c.before.member.ensures ∙ not-false _ c.if1.false
+in-domain : (c : tie.Else-not-member) → has c.args.first.values c.args.a ≡ true
+in-domain c = sym c.member.ensures ∙ c.if-not-member.false
 
 reach-requires : tie.Need-reach-requires
-reach-requires c κs = let p = c.before.before.before.requires in (p.0, p.1, p.4, p.5 _ (in-domain c))
+reach-requires c κs = let p = c.requires in (p.0, p.1, p.4, p.5 _ (in-domain c))
 
-returns-2 : tie.Need-returns-2
+returns-2 : tie.Need-returns-then-not-was
 returns-2 c =
-    let r = c.before.before in
-    let a = r.before.before.before.before.args in
-    cut-unstated 32 _ _ a.first a.second _ (in-domain r.before) r.reach.ensures c.before.both.ensures (not-true _ c.if2.true)
+    let r = c in
+    let a = r.args in
+    cut-unstated 32 _ _ a.first a.second _ (in-domain c.before.before.before) r.reach.ensures c.both-row.ensures (c.if-not-was.true)
 
-returns-3 : tie.Need-returns-3
+returns-3 : tie.Need-returns
 returns-3 c =
-    let e = c.before.before in
-    let r = e.before.before in
-    let a = r.before.before.before.before.args in
-    cut-stated 32 _ _ a.first a.second _ (in-domain r.before) r.reach.ensures e.before.both.ensures
-    (not-false _ e.if2.false) c.before.Stored-row.ensures c.both2.ensures
+    let e = c in
+    let r = e in
+    let a = r.args in
+    cut-stated 32 _ _ a.first a.second _ (in-domain c.before.before.before.before.before) r.reach.ensures e.both-row.ensures
+    (e.if-not-was.false) c.stored_row.ensures c.both.ensures
 
-pub cut-row-spec : {M : Type 1} → statement M
-cut-row-spec =
+pub cut_row_spec : {M : Type 1} → statement M
+cut_row_spec =
     tie.close
     (tie.spec
     (λ c κs. search rules)
