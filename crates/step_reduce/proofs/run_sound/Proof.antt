@@ -31,8 +31,7 @@ returns c = let l = c.loop-pair in running-done l.invariant.0 (sym l.invariant.1
 -- The pair found.
 found : (c : tie.After-step-arg-1 invariant-loop decreases-loop) → let at = c in
     let N = held at.loop-pair.cut at.loop-pair.rows in
-    let q = c.pair.given.0 in
-    follower_pair N (who_leads at.args.leader N) ≡ pair.Found q.0 q.1.0
+    follower_pair N (who_leads at.args.leader N) ≡ pair.Found c.in-Found.i c.in-Found.j
 found c = let q = c in sym q.loop-pair.invariant.1 ∙ q.in-Found.is
 
 step-requires : tie.Need-step-cut-requires invariant-loop decreases-loop
