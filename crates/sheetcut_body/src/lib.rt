@@ -2,18 +2,24 @@
 // holds this code is that it is run, by several program crates, each on an input of its own.
 #![tactic(auto)]
 
-use libc::{STDERR_FILENO, STDIN_FILENO, STDOUT_FILENO};
+use std::io;
+use std::io::Read;
 use text_report::{INPUT, report_input};
 
-pub fn run() {
+// Reads until the array is full or the input ends, and answers how many bytes came. A read that fails counts as the end: what came before it is the input.
+fn read_input(reader: impl Read + Drop, input: &mut [u8; INPUT]) -> usize {
+    let mut room = &mut input[..];
+    let _ = io::copy(&mut reader.take(INPUT as u64), &mut room);
+    INPUT.saturating_sub(room.len())
+}
+
+// A text that can't be written whole is told on standard error.
+pub fn run(rt: &(impl Input + Print + Eprint)) {
     let mut input = [0u8; INPUT];
-    let count = io::read_full(STDIN_FILENO, &mut input);
+    let count = read_input(rt.reader(), &mut input);
     let text = report_input(input, count);
     let bytes = text.bytes;
-    if !io::write_all(STDOUT_FILENO, &bytes[..text.length]) {
-        io::write_all(
-            STDERR_FILENO,
-            b"sheetcut: the text could not be written whole\n",
-        );
+    if rt.write_all(&bytes[..text.length]).is_err() {
+        let _ = rt.eprintln("sheetcut: the text could not be written whole");
     }
 }

@@ -2,61 +2,83 @@
 // can speak of what is read and written: what holds this code is that it is run, by several program crates, each on an input of its own.
 #![tactic(auto)]
 
-use libc::{STDERR_FILENO, STDIN_FILENO, STDOUT_FILENO};
+ghost use Rattle.std.specs.Prelude.{◌≤◌};
+ghost use Rattle.sheetplan_body.specs.declared.TheConstants.{INPUT};
+
 use plan_asked::{Asked, Phase, end_words, nothing_asked, take_word};
 use plan_text::{Ask, ROOM, plan_into};
+use std::env::FillError;
+use std::io::{Read, Write};
+use std::rt::{Env, Files};
+use std::{fs, io, str};
 
 // One byte more than the largest sheet has: what an input has past these is not read.
 const INPUT: usize = 15622;
 
-fn say(line: &[u8]) {
-    io::write_all(STDOUT_FILENO, line);
+// Room for any path.
+const PATH: usize = 4096;
+
+// Room for what the system says of an error.
+const REASON: usize = 128;
+
+fn say(rt: &impl Print, line: &[u8]) {
+    let _ = rt.write_all(line);
 }
 
-fn say_help() {
-    say(b"usage: sheetplan [--page9] [--lead N] [FILE]\n");
+fn say_help(rt: &impl Print) {
+    say(rt, b"usage: sheetplan [--page9] [--lead N] [FILE]\n");
     say(
+        rt,
         b"  plans the parts of an option sheet: which options are live and which follow, which value goes with which,\n",
     );
     say(
+        rt,
         b"  which values some build has, which to stock nothing of, and how many builds there are.\n",
     );
-    say(b"  FILE      the sheet; without it standard input is read\n");
-    say(b"  --page9   adds page nine of the flat meter\n");
-    say(b"  --lead N  lets option N take its followers first\n");
-    say(b"  The last line is END n REFUSED: n is 1 where something is refused, and else 0.\n");
+    say(
+        rt,
+        b"  FILE      the sheet; without it standard input is read\n",
+    );
+    say(rt, b"  --page9   adds page nine of the flat meter\n");
+    say(rt, b"  --lead N  lets option N take its followers first\n");
+    say(
+        rt,
+        b"  The last line is END n REFUSED: n is 1 where something is refused, and else 0.\n",
+    );
 }
 
 // The arguments are at fault, or a file can't be opened: a line on standard error says why.
-fn say_refused() {
-    say(b"END 1 REFUSED\n");
+fn say_refused(rt: &impl Print) {
+    say(rt, b"END 1 REFUSED\n");
 }
 
-// The `k`-th word. One that is longer than any path is taken for an unknown one.
-fn next_word(asked: Asked, k: usize) -> Asked {
-    let mut word = io::buffer();
-    let length = os::arg(k, &mut word);
-    if os::errno() != 0 {
-        return take_word(asked, k, b"-");
-    }
-    take_word(asked, k, &word[..length])
-}
-
-fn all_words() -> Asked {
-    let count = os::arg_count();
+fn all_words(rt: &impl Env) -> Asked {
     let mut asked = nothing_asked();
-    let mut k: usize = 1;
-    while k < count {
-        asked = next_word(asked, k);
-        k += 1;
+    for k in 1..usize::MAX {
+        let mut word = [0u8; PATH];
+        match rt.arg(k, &mut word) {
+            Ok(length) => asked = take_word(asked, k, &word[..length]),
+            // Longer than any path: taken for an unknown one.
+            Err(FillError::TooLong) => asked = take_word(asked, k, b"-"),
+            Err(FillError::NotPresent) => break,
+        }
     }
     end_words(asked)
 }
 
-// The table of the sheet that a descriptor gives.
-fn print_plan(fd: i32, asked: Asked) {
+// Reads until the array is full or the input ends, and answers how many bytes came. A read that fails counts as the end: what came before it is the sheet.
+fn read_input(reader: impl Read + Drop, input: &mut [u8; INPUT]) -> usize
+    ensures { result ≤ INPUT }
+{
+    let mut room = &mut input[..];
+    let _ = io::copy(&mut reader.take(INPUT as u64), &mut room);
+    INPUT.saturating_sub(room.len())
+}
+
+// The table of the sheet that a reader gives.
+fn print_plan(rt: &(impl Print + Eprint), reader: impl Read + Drop, asked: Asked) {
     let mut input = [0u8; INPUT];
-    let count = io::read_full(fd, &mut input);
+    let count = read_input(reader, &mut input);
     let ask = Ask {
         page9: asked.page9,
         leads: asked.leads,
@@ -64,49 +86,72 @@ fn print_plan(fd: i32, asked: Asked) {
     };
     let mut text = [0u8; ROOM];
     let length = plan_into(&input[..count], ask, &mut text);
-    if !io::write_all(STDOUT_FILENO, &text[..length]) {
-        io::write_all(
-            STDERR_FILENO,
-            b"sheetplan: the text could not be written whole\n",
-        );
+    if rt.write_all(&text[..length]).is_err() {
+        let _ = rt.eprintln("sheetplan: the text could not be written whole");
+    }
+}
+
+// What the system says of an error, without its number.
+fn say_why(rt: &impl Eprint, name: &str, error: io::Error) {
+    let mut words = [0u8; REASON];
+    let mut room = &mut words[..];
+    let _ = write!(room, "{error}");
+    let length = REASON.saturating_sub(room.len());
+    let all = str::from_utf8(&words[..length]).unwrap_or("");
+    let reason = match all.split_once(" (os error ") {
+        Some((reason, _)) => reason,
+        None => all,
+    };
+    let _ = eprintln!(rt; "{name}: {reason}");
+}
+
+// The table of the file of that name.
+fn print_named<R: Files + Print + Eprint>(rt: &R, name: &str, asked: Asked) {
+    match fs::open(rt, name) {
+        Ok(file) => print_plan(rt, file, asked),
+        Err(error) => {
+            say_why(rt, name, error);
+            say_refused(rt);
+        }
     }
 }
 
 // The table of the file that the `k`-th word names.
-fn print_file(k: usize, asked: Asked) {
-    let mut path = io::buffer();
-    let length = os::arg(k, &mut path);
-    let fd = os::open_read(&path[..length]);
-    if fd < 0 {
-        os::fail(&path[..length]);
-        say_refused();
-        return;
+fn print_file<R: Env + Files + Print + Eprint>(rt: &R, k: usize, asked: Asked) {
+    let mut path = [0u8; PATH];
+    let length = match rt.arg(k, &mut path) {
+        Ok(length) => length,
+        Err(_) => 0,
+    };
+    match str::from_utf8(&path[..length]) {
+        Ok(name) => print_named(rt, name, asked),
+        Err(_) => {
+            let _ = rt.eprintln("sheetplan: the name of the file is not UTF-8");
+            say_refused(rt);
+        }
     }
-    print_plan(fd, asked);
-    libc::close(fd);
 }
 
-fn print_asked(asked: Asked) {
+fn print_asked<R: Env + Files + Input + Print + Eprint>(rt: &R, asked: Asked) {
     if asked.file == 0 {
-        print_plan(STDIN_FILENO, asked);
+        print_plan(rt, rt.reader(), asked);
         return;
     }
-    print_file(asked.file, asked);
+    print_file(rt, asked.file, asked);
 }
 
-pub fn run() {
-    let asked = all_words();
+pub fn run<R: Env + Files + Input + Print + Eprint>(rt: &R) {
+    let asked = all_words(rt);
     let phase = asked.phase;
     match phase {
-        Phase::Words => print_asked(asked),
-        Phase::Leader => say_refused(),
-        Phase::Help => say_help(),
+        Phase::Words => print_asked(rt, asked),
+        Phase::Leader => say_refused(rt),
+        Phase::Help => say_help(rt),
         Phase::Fault => {
-            io::write_all(
-                STDERR_FILENO,
-                b"sheetplan: the arguments are [--page9] [--lead N] [FILE]; --help says more\n",
+            let _ = rt.eprintln(
+                "sheetplan: the arguments are [--page9] [--lead N] [FILE]; --help says more",
             );
-            say_refused();
+            say_refused(rt);
         }
     }
 }

@@ -1,5 +1,7 @@
 // How often each thing was tried, how often it came out wrong, and where the random numbers are.
 
+use std::io;
+
 // One more than the greatest of the kinds that are counted.
 pub const KINDS: usize = 78;
 
@@ -265,37 +267,42 @@ pub fn with_kits(tally: Tally, other: Tally) -> Tally {
     add(after, DIFFERENCES, counts[DIFFERENCES])
 }
 
-fn print_number(number: u64) {
-    io::write_all(1, b" ");
-    io::print_decimal(1, number);
-    io::write_all(1, b"\n");
+fn print_number(rt: &impl Print, number: u64) -> io::Result<()> {
+    println!(rt; " {number}")
 }
 
 // One byte of the titles, and the number `k` where a title ends. Answers the number that comes next.
-fn print_byte(byte: u8, k: usize, counts: &[u64; KINDS]) -> usize {
+fn print_byte(rt: &impl Print, byte: u8, k: usize, counts: &[u64; KINDS]) -> io::Result<usize> {
     if byte != 10 {
-        io::write_all(1, &[byte]);
-        return k;
+        rt.write_all(&[byte])?;
+        return Ok(k);
     }
     if KINDS <= k {
-        return k;
+        return Ok(k);
     }
-    print_number(counts[k]);
-    k + 1
+    print_number(rt, counts[k])?;
+    Ok(k + 1)
 }
 
 // A line for each title, with the numbers from `first` on. Each title ends with a line feed.
-pub fn print(titles: &[u8], first: usize, counts: &[u64; KINDS]) {
+pub fn print(
+    rt: &impl Print,
+    titles: &[u8],
+    first: usize,
+    counts: &[u64; KINDS],
+) -> io::Result<()> {
     let length = titles.len();
     let mut k = first;
     for i in 0..length {
-        k = print_byte(titles[i], k, counts);
+        k = print_byte(rt, titles[i], k, counts)?;
     }
+    Ok(())
 }
 
 // What every program counts.
-pub fn print_checks(counts: &[u64; KINDS]) {
+pub fn print_checks(rt: &impl Print, counts: &[u64; KINDS]) -> io::Result<()> {
     print(
+        rt,
         b"damaged states\nsheets with all tuples tried\nbuilds\nreads accepted\nreads refused\n\
         steps taken\nsteps refused\nreductions\ntests\ntests refused\ncompletions\n\
         completions refused\nverdicts\nwrites\nwrites refused\ncalls on unsound states\n\
@@ -321,6 +328,6 @@ pub fn print_checks(counts: &[u64; KINDS]) {
         bytes that neither reader accepts\n",
         DAMAGED_STATES,
         counts,
-    );
-    print(b"differences\n", DIFFERENCES, counts);
+    )?;
+    print(rt, b"differences\n", DIFFERENCES, counts)
 }

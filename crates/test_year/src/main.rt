@@ -4,9 +4,9 @@
 #![tactic(auto)]
 
 use bins::Bin;
-use libc::STDOUT_FILENO;
 use state::State;
 use state_bins::{plan_call_off, plan_delivery};
+use std::io;
 use years::Tally;
 
 // Entries, drawn.
@@ -16,22 +16,12 @@ mod stock;
 // Lists of them.
 mod years;
 
-fn print_number(text: &[u8], number: u64) {
-    io::write_all(STDOUT_FILENO, text);
-    io::print_decimal(STDOUT_FILENO, number);
-}
-
-fn print(text: &[u8], count: u32) {
-    print_number(text, count as u64);
-}
-
-fn print_line(number: u8, shelf: [Bin; 512]) -> [Bin; 512] {
-    print(b"", number as u32);
-    print(b": ", shelf[0].count);
-    print(b" ", shelf[1].count);
-    print(b" ", shelf[2].count);
-    io::write_all(STDOUT_FILENO, b"\n");
-    shelf
+fn print_line(rt: &impl Print, number: u8, shelf: [Bin; 512]) -> io::Result<[Bin; 512]> {
+    let first = shelf[0].count;
+    let second = shelf[1].count;
+    let third = shelf[2].count;
+    println!(rt; "{number}: {first} {second} {third}")?;
+    Ok(shelf)
 }
 
 fn bin(variable: u8, value: u8, count: u32) -> Bin {
@@ -43,61 +33,69 @@ fn bin(variable: u8, value: u8, count: u32) -> Bin {
 }
 
 fn deliver(
+    rt: &impl Print,
     state: State,
     shelf: [Bin; 512],
     option: usize,
     value: usize,
     amount: u32,
-) -> [Bin; 512] {
+) -> io::Result<[Bin; 512]> {
     let p = plan_delivery(state, option, value, amount);
     let number = bins_post::number_in(shelf, 3, p);
     let left = bins_post::bins_in(shelf, 3, p);
-    print_line(number, left)
+    print_line(rt, number, left)
 }
 
-fn call_off(state: State, shelf: [Bin; 512], build: &[u8], amount: u32) -> [Bin; 512] {
+fn call_off(
+    rt: &impl Print,
+    state: State,
+    shelf: [Bin; 512],
+    build: &[u8],
+    amount: u32,
+) -> io::Result<[Bin; 512]> {
     let p = plan_call_off(state, build, amount);
     let number = bins_post::number_in(shelf, 3, p);
     let left = bins_post::bins_in(shelf, 3, p);
-    print_line(number, left)
+    print_line(rt, number, left)
 }
 
 // Value 1 of option 1 is in no build, and is delivered all the same.
-fn run_deliveries(state: State, shelf: [Bin; 512]) -> [Bin; 512] {
-    let full = deliver(state, shelf, 1, 1, 4294967295);
-    let still = deliver(state, full, 1, 1, 1);
-    let none = deliver(state, still, 1, 1, 0);
-    let past = deliver(state, none, 1, 2, 0);
-    let zero = deliver(state, past, 0, 0, 1);
-    deliver(state, zero, 3, 0, 1)
+fn run_deliveries(rt: &impl Print, state: State, shelf: [Bin; 512]) -> io::Result<[Bin; 512]> {
+    let full = deliver(rt, state, shelf, 1, 1, 4294967295)?;
+    let still = deliver(rt, state, full, 1, 1, 1)?;
+    let none = deliver(rt, state, still, 1, 1, 0)?;
+    let past = deliver(rt, state, none, 1, 2, 0)?;
+    let zero = deliver(rt, state, past, 0, 0, 1)?;
+    deliver(rt, state, zero, 3, 0, 1)
 }
 
-fn run_call_offs(state: State, shelf: [Bin; 512]) -> [Bin; 512] {
+fn run_call_offs(rt: &impl Print, state: State, shelf: [Bin; 512]) -> io::Result<[Bin; 512]> {
     let build = [0u8, 0];
     let forbidden = [1u8, 0];
     let longer = [0u8, 0, 0];
-    let drawn = call_off(state, shelf, &build, 3);
-    let low = call_off(state, drawn, &build, 3);
-    let dead = call_off(state, low, &forbidden, 0);
-    let long = call_off(state, dead, &longer, 3);
-    call_off(state, long, &build, 2)
+    let drawn = call_off(rt, state, shelf, &build, 3)?;
+    let low = call_off(rt, state, drawn, &build, 3)?;
+    let dead = call_off(rt, state, low, &forbidden, 0)?;
+    let long = call_off(rt, state, dead, &longer, 3)?;
+    call_off(rt, state, long, &build, 2)
 }
 
 // A record fewer, one more, and two exchanged.
-fn run_records(state: State, shelf: [Bin; 512]) {
+fn run_records(rt: &impl Print, state: State, shelf: [Bin; 512]) -> io::Result<()> {
     let build = [0u8, 0];
     let p = plan_call_off(state, &build, 0);
-    print_line(bins_post::number_in(shelf, 2, p), shelf);
-    print_line(bins_post::number_in(shelf, 4, p), shelf);
+    print_line(rt, bins_post::number_in(shelf, 2, p), shelf)?;
+    print_line(rt, bins_post::number_in(shelf, 4, p), shelf)?;
     let mut exchanged = shelf;
     exchanged[0] = shelf[1];
     exchanged[1] = shelf[0];
     let number = bins_post::number_in(exchanged, 3, p);
     let left = bins_post::bins_in(exchanged, 3, p);
-    print_line(number, left);
+    print_line(rt, number, left)?;
+    Ok(())
 }
 
-fn run_examples() {
+fn run_examples(rt: &impl Print) -> io::Result<()> {
     let bytes = [1u8, 0, 10, 2, 2, 1, 1, 1, 2, 0, 1, 0, 0];
     let mut shelf = [bin(0, 0, 0); 512];
     shelf[0] = bin(1, 0, 5);
@@ -105,9 +103,9 @@ fn run_examples() {
     shelf[2] = bin(2, 0, 9);
     let answer = sheet::read(&bytes);
     let state = answer.state;
-    let stocked = run_deliveries(state, shelf);
-    let left = run_call_offs(state, stocked);
-    run_records(state, left);
+    let stocked = run_deliveries(rt, state, shelf)?;
+    let left = run_call_offs(rt, state, stocked)?;
+    run_records(rt, state, left)
 }
 
 // Sheets A, J and G.
@@ -145,21 +143,26 @@ fn opened(seed: u64) -> Tally {
     }
 }
 
-fn print_tally(tally: Tally) {
+fn print_tally(rt: &impl Print, tally: Tally) -> io::Result<()> {
     let numbers = tally.numbers;
-    print_number(b"taken ", numbers[0]);
-    print_number(b"\ndeliveries taken ", tally.deliveries);
-    print_number(b"\nrefused with 9 ", numbers[9]);
-    print_number(b"\nrefused with 27 ", numbers[27]);
-    print_number(b"\nrefused with 28 ", numbers[28]);
-    print_number(b"\nrefused with 29 ", numbers[29]);
-    print_number(b"\ndifferences ", tally.differences);
-    print_number(b"\nword ", tally.word);
-    io::write_all(STDOUT_FILENO, b"\n");
+    let taken = numbers[0];
+    let deliveries = tally.deliveries;
+    println!(rt; "taken {taken}\ndeliveries taken {deliveries}")?;
+    print_refused(rt, 9, numbers[9])?;
+    print_refused(rt, 27, numbers[27])?;
+    print_refused(rt, 28, numbers[28])?;
+    print_refused(rt, 29, numbers[29])?;
+    let differences = tally.differences;
+    let word = tally.word;
+    println!(rt; "differences {differences}\nword {word}")
 }
 
-fn main() {
-    run_examples();
+fn print_refused(rt: &impl Print, number: u8, count: u64) -> io::Result<()> {
+    println!(rt; "refused with {number} {count}")
+}
+
+fn main(rt: HostRuntime) -> io::Result<()> {
+    run_examples(&rt)?;
     let tally = run_tables(opened(88172645463325252));
-    print_tally(run_sizes(tally));
+    print_tally(&rt, run_sizes(tally))
 }
