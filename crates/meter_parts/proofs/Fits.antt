@@ -26,7 +26,7 @@ use Rattle.state.specs.Tables.{table_added}
 use Rattle.state.specs.Solutions.{verdict_of}
 use Rattle.state.specs.Worked.{worked_told}
 use Rattle.state.proofs.Calls.{call-number, call_back, call_same, call-head, taken-sound}
-use Rattle.state.proofs.Worked.{reduction-told}
+use Rattle.state.proofs.WorkedOut.{reduction-told}
 use Rattle.meter_rule.specs.PageNine.{page_nine}
 use Rattle.meter.specs.Fitted.{MeterTold, flat_meter, fit_refusal, turned_away, fitted_state, fitted}
 use Rattle.meter.proofs.Fitted.{refuses-unsound, refuses-none, fitted-away, fitted-done}

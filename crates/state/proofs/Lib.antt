@@ -7,4 +7,4 @@ pub mod Tables
 pub mod Lists
 pub mod Solutions
 pub mod Cut
-pub mod Worked
+pub mod WorkedOut

@@ -1,7 +1,7 @@
 -- Either case of reading: `cut-refused`, or `cut-accepted` over a state that is known to be sound.
 use native.Mathlib.Omega.{arith}
 use borrow.Author.Rules.{rules}
-use Rattle.state.proofs.Worked.{reduction-told}
+use Rattle.state.proofs.WorkedOut.{reduction-told}
 use Rattle.state_read.proofs.RoundTrip.{AsRead}
 use Rattle.state_cut.specs.Parts.{cut_parts_told}
 use Rattle.state_cut.proofs.Cuts.{state_read, cut-refused, cut-read, cut-sound, cut-accepted}

@@ -32,7 +32,7 @@ returns : tie.Need-returns-then-same_lists invariant-loop decreases-loop
 returns c =
     let e = c in
     let t = e in
-    round-none t.loop-steps.invariant t.trim_live-trimmed.ensures (e.same_lists.ensures c.if-same_lists.true) e.else-steps-ne0.true
+    round-none t.loop-steps.invariant t.trim_live-trimmed.ensures (e.same_lists.ensures c.if-same_lists.true) e.if-steps-ne0.true
 
 returns-2 : tie.Need-returns-then-round-eq0 invariant-loop decreases-loop
 returns-2 c =

@@ -3,7 +3,7 @@ use borrow.Author.Rules.{rules}
 use Rattle.state.specs.View.{state_of}
 use Rattle.state.specs.Calls.{called}
 use Rattle.state.proofs.Steps.{refusal-told}
-use Rattle.state.proofs.Worked.{taken-told, LeadTaken, not-refused-lead, lead-made}
+use Rattle.state.proofs.WorkedOut.{taken-told, LeadTaken, not-refused-lead, lead-made}
 use Rattle.state.proofs.lead.lead_parts.Statement.{statement}
 use Rattle.state.proofs.lead.lead_parts.Tie as tie
 

@@ -4,7 +4,7 @@ use borrow.Author.Rules.{rules}
 use Rattle.state.specs.View.{state_of}
 use Rattle.state.specs.Calls.{called}
 use Rattle.state.proofs.Steps.{refusal-told}
-use Rattle.state.proofs.Worked.{taken-told, StepTaken, not-refused-step, step-made}
+use Rattle.state.proofs.WorkedOut.{taken-told, StepTaken, not-refused-step, step-made}
 use Rattle.state.proofs.reduction.eliminate_parts.Statement.{statement}
 use Rattle.state.proofs.reduction.eliminate_parts.Tie as tie
 

@@ -4,7 +4,7 @@ use mathlib.Core.Path.{◌≡◌, sym, ◌∙◌}
 use borrow.Author.Rules.{rules}
 use borrow.Author.Tests.{not-true, not-false}
 use Rattle.head.specs.Held.{sound_in}
-use Rattle.state.proofs.Worked.{unsound-told, reduction-told}
+use Rattle.state.proofs.WorkedOut.{unsound-told, reduction-told}
 use Rattle.state.proofs.reduction.reduce_parts.Statement.{statement}
 use Rattle.state.proofs.reduction.reduce_parts.Tie as tie
 

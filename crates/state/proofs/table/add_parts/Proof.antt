@@ -5,7 +5,7 @@ use Rattle.state.specs.View.{state_of}
 use Rattle.state.specs.Calls.{called}
 use Rattle.state.proofs.Steps.{refusal-told}
 use Rattle.state.proofs.Tables.{TableTaken, not-refused-table, table-made}
-use Rattle.state.proofs.Worked.{taken-told}
+use Rattle.state.proofs.WorkedOut.{taken-told}
 use Rattle.state.proofs.table.add_parts.Statement.{statement}
 use Rattle.state.proofs.table.add_parts.Tie as tie
 
