@@ -7,27 +7,27 @@ use Rattle.state.proofs.WorkedOut.{taken-told, LeadTaken, not-refused-lead, lead
 use Rattle.state.proofs.lead.lead_parts.Statement.{statement}
 use Rattle.state.proofs.lead.lead_parts.Tie as tie
 
-returns : tie.Need-returns
+returns : tie.Need-returns-in_default
 unfolding called
-returns c = refusal-told _ c.enum-told2.given.1 c.before.before.refuse-lead.ensures
+returns c = refusal-told _ c.in_default.is c.refuse_lead-outcome.ensures
 
-taken : (t : tie.After-enum-told) → let a = t.before.before.before.before.args in LeadTaken (state_of a.head a.rows.now) a.leader
-taken t = not-refused-lead t.enum_told.given.1 t.before.before.refuse-lead.ensures
+taken : (t : tie.In-Done) → let a = t.args in LeadTaken (state_of a.head a.rows.now) a.leader
+taken t = not-refused-lead t.in-Done.is t.refuse_lead-outcome.ensures
 
-sub-lead-sound : tie.Need-overflow-sub-lead-sound
+sub-lead-sound : tie.Need-overflow_sub-leader
 sub-lead-sound c = (taken c.before.before.before).leader_some
 
-lead-sound-requires : tie.Need-lead-sound-requires
-lead-sound-requires c κs = (c.before.whole.ensures, (taken c.before.before.before).of_sound)
+lead-sound-requires : tie.Need-lead_sound-run-requires
+lead-sound-requires c κs = (c.whole.ensures, (taken c.before.before.before).of_sound)
 
-returns-2 : tie.Need-returns-2
+returns-2 : tie.Need-returns
 returns-2 c =
-    let r = c.before in
-    let t = r.before.before.before.before in
-    taken-told _ _ (taken t).number_0 t.enum_told.given.1 (lead-made _ _) r.lead-sound.ensures.becomes r.lead-sound.ensures.steps_are
+    let r = c in
+    let t = r in
+    taken-told _ _ (taken c.before.before.before.before.before).number_0 t.in-Done.is (lead-made _ _) r.lead_sound-run.ensures.becomes r.lead_sound-run.ensures.steps_are
 
-pub lead-parts-spec : {M : Type 1} → statement M
-lead-parts-spec =
+pub lead_parts_spec : {M : Type 1} → statement M
+lead_parts_spec =
     tie.close
     (tie.spec
     (λ c κs. search rules)

@@ -8,28 +8,28 @@ use Rattle.state.proofs.WorkedOut.{taken-told, StepTaken, not-refused-step, step
 use Rattle.state.proofs.reduction.eliminate_parts.Statement.{statement}
 use Rattle.state.proofs.reduction.eliminate_parts.Tie as tie
 
-returns : tie.Need-returns
+returns : tie.Need-returns-in_default
 unfolding called
-returns c = refusal-told _ c.enum-told2.given.1 c.before.before.refuse-step.ensures
+returns c = refusal-told _ c.in_default.is c.refuse_step-outcome.ensures
 
-taken : (t : tie.After-enum-told) → let a = t.before.before.before.before.args in
+taken : (t : tie.In-Done) → let a = t.args in
     StepTaken (state_of a.head a.rows.now) a.leader a.follower
-taken t = not-refused-step t.enum_told.given.1 t.before.before.refuse-step.ensures
+taken t = not-refused-step t.in-Done.is t.refuse_step-outcome.ensures
 
-sub-step : tie.Need-overflow-sub-step
+sub-step : tie.Need-overflow_sub-leader
 sub-step c = (taken c.before.before.before).leader_some
 
-sub-step-2 : tie.Need-overflow-sub-step-2
+sub-step-2 : tie.Need-overflow_sub-follower
 sub-step-2 c = (taken c.before.before.before).follower_some
 
-step-requires : tie.Need-step-requires
-step-requires c κs = let T = taken c.before.before.before in (T.of_sound, c.before.whole.ensures, T.is_legal)
+step-requires : tie.Need-step-after-requires
+step-requires c κs = let T = taken c.before.before.before in (T.of_sound, c.whole.ensures, T.is_legal)
 
-returns-2 : tie.Need-returns-2
-returns-2 c = let t = c.before.before.before.before in taken-told _ _ (taken t).number_0 t.enum_told.given.1 (step-made _ _ _) c.step.ensures refl
+returns-2 : tie.Need-returns
+returns-2 c = let t = c in taken-told _ _ (taken c.before.before.before.before).number_0 t.in-Done.is (step-made _ _ _) c.step-after.ensures refl
 
-pub eliminate-parts-spec : {M : Type 1} → statement M
-eliminate-parts-spec =
+pub eliminate_parts_spec : {M : Type 1} → statement M
+eliminate_parts_spec =
     tie.close
     (tie.spec
     (λ c κs. search rules)

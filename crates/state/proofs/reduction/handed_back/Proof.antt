@@ -5,7 +5,7 @@ use Rattle.state.proofs.reduction.handed_back.Tie as tie
 
 returns : tie.Need-returns
 unfolding told
-returns c = rw c.state-of.ensures
+returns c = rw c.state_of-state.ensures
 
-pub handed-back-spec : {M : Type 1} → statement M
-handed-back-spec = tie.close (tie.spec (λ c κs. search rules) returns)
+pub handed_back_spec : {M : Type 1} → statement M
+handed_back_spec = tie.close (tie.spec (λ c κs. search rules) returns)

@@ -12,22 +12,22 @@ use Rattle.state.specs.Calls.{call_refusal}
 use Rattle.state.proofs.table.refuse_table.Statement.{statement}
 use Rattle.state.proofs.table.refuse_table.Tie as tie
 
-sound : (c : tie.Else1) → sound_in c.before.before.before.args.head c.before.before.before.args.rows.now ≡ true
-sound c = sym c.before.sound-parts.ensures ∙ not-false _ c.if1.false
+sound : (c : tie.Else-not-sound_parts) → sound_in c.args.head c.args.rows.now ≡ true
+sound c = sym c.sound_parts.ensures ∙ c.if-not-sound_parts.false
 
-returns : tie.Need-returns
+returns : tie.Need-returns-then-not-sound_parts
 unfolding outcome_number call_refusal refuses
-returns c = sym (if-false _ _ _ (sym c.before.sound-parts.ensures ∙ not-true _ c.if1.true))
+returns c = sym (if-false _ _ _ (sym c.sound_parts.ensures ∙ c.if-not-sound_parts.true))
 
-judge-table-requires : tie.Need-judge-table-requires
+judge-table-requires : tie.Need-judge_table-requires
 judge-table-requires c κs = (held-n _ _ (sound c), held-size _ _ (search shape) (sound c))
 
-returns-2 : tie.Need-returns-2
+returns-2 : tie.Need-returns
 unfolding call_refusal refuses
-returns-2 c = c.judge-table.ensures _ ∙ sym (if-true _ _ _ (sound c.before))
+returns-2 c = c.judge_table.ensures _ ∙ sym (if-true _ _ _ (sound c.before))
 
-pub refuse-table-spec : {M : Type 1} → statement M
-refuse-table-spec =
+pub refuse_table_spec : {M : Type 1} → statement M
+refuse_table_spec =
     tie.close
     (tie.spec
     (λ c κs. search rules)

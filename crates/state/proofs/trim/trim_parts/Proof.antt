@@ -8,17 +8,17 @@ use Rattle.state.proofs.WorkedOut.{unsound-told, alternation-told}
 use Rattle.state.proofs.trim.trim_parts.Statement.{statement}
 use Rattle.state.proofs.trim.trim_parts.Tie as tie
 
-sound : (c : tie.Else1) → sound_in c.before.before.before.args.head c.before.before.before.args.rows.now ≡ true
-sound c = sym c.before.sound-parts.ensures ∙ not-false _ c.if1.false
+sound : (c : tie.Else-not-sound_parts) → sound_in c.args.head c.args.rows.now ≡ true
+sound c = sym c.sound_parts.ensures ∙ c.if-not-sound_parts.false
 
-returns : tie.Need-returns
-returns c = unsound-told _ _ (sym c.before.sound-parts.ensures ∙ not-true _ c.if1.true)
+returns : tie.Need-returns-then-not-sound_parts
+returns c = unsound-told _ _ (sym c.sound_parts.ensures ∙ c.if-not-sound_parts.true)
 
-alternate-sound-requires : tie.Need-alternate-sound-requires
-alternate-sound-requires c κs = let w = c.before in (w.whole.ensures, sound w.before.before)
+alternate-sound-requires : tie.Need-alternate_sound-cut-requires
+alternate-sound-requires c κs = let w = c in (w.whole.ensures, sound c.before.before.before)
 
-returns-2 : tie.Need-returns-2
-returns-2 c = let r = c.before in alternation-told _ _ (sound r.before.before.before.before) r.alternate-sound.ensures
+returns-2 : tie.Need-returns
+returns-2 c = let r = c in alternation-told _ _ (sound c.before.before.before.before.before) r.alternate_sound-cut.ensures
 
-pub trim-parts-spec : {M : Type 1} → statement M
-trim-parts-spec = tie.close (tie.spec (λ c κs. search rules) returns (λ c κs. search rules) alternate-sound-requires returns-2)
+pub trim_parts_spec : {M : Type 1} → statement M
+trim_parts_spec = tie.close (tie.spec (λ c κs. search rules) returns (λ c κs. search rules) alternate-sound-requires returns-2)

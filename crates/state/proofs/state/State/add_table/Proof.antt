@@ -7,8 +7,8 @@ use Rattle.state.proofs.state.State.add_table.Tie as tie
 
 returns : tie.Need-returns
 returns c =
-    let d = c.before.before.before.before in
-    c.handed_back.ensures ∙ rw (state-whole d.before.before.args.self _ d.head_in.ensures) at c.before.add_parts.ensures
+    let d = c in
+    c.handed_back.ensures ∙ rw (state-whole d.args.self _ d.head_in-head.ensures) at c.add_parts-worked.ensures
 
-pub add-table-spec : {M : Type 1} → statement M
-add-table-spec = tie.close (tie.spec (λ c κs. search rules) (λ c κs. search rules) (λ c κs. search rules) returns)
+pub add_table_spec : {M : Type 1} → statement M
+add_table_spec = tie.close (tie.spec (λ c κs. search rules) (λ c κs. search rules) (λ c κs. search rules) returns)

@@ -7,8 +7,8 @@ use Rattle.state.proofs.state.State.lead.Tie as tie
 
 returns : tie.Need-returns
 returns c =
-    let d = c.before.before.before.before in
-    c.handed_back.ensures ∙ rw (state-whole d.before.args.self _ d.head_in.ensures) at c.before.lead-parts.ensures
+    let d = c in
+    c.handed_back.ensures ∙ rw (state-whole d.args.self _ d.head_in-head.ensures) at c.lead_parts-worked.ensures
 
-pub lead-spec : {M : Type 1} → statement M
-lead-spec = tie.close (tie.spec (λ c κs. search rules) (λ c κs. search rules) (λ c κs. search rules) returns)
+pub lead_spec : {M : Type 1} → statement M
+lead_spec = tie.close (tie.spec (λ c κs. search rules) (λ c κs. search rules) (λ c κs. search rules) returns)

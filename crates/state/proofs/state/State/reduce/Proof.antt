@@ -7,8 +7,8 @@ use Rattle.state.proofs.state.State.reduce.Tie as tie
 
 returns : tie.Need-returns
 returns c =
-    let d = c.before.before.before.before in
-    c.handed_back.ensures ∙ rw (state-whole d.before.args.self _ d.head_in.ensures) at c.before.reduce-parts.ensures
+    let d = c in
+    c.handed_back.ensures ∙ rw (state-whole d.args.self _ d.head_in-head.ensures) at c.reduce_parts-worked.ensures
 
-pub reduce-spec : {M : Type 1} → statement M
-reduce-spec = tie.close (tie.spec (λ c κs. search rules) (λ c κs. search rules) (λ c κs. search rules) returns)
+pub reduce_spec : {M : Type 1} → statement M
+reduce_spec = tie.close (tie.spec (λ c κs. search rules) (λ c κs. search rules) (λ c κs. search rules) returns)
