@@ -5,7 +5,7 @@ use Rattle.capi_lent.proofs.left.Statement.{statement}
 use Rattle.capi_lent.proofs.left.Tie as tie
 
 returns : tie.Need-returns
-returns c = record { made = c.put-made.ensures; steps_are = refl }
+returns c = record { made = c.put_made.ensures; steps_are = refl }
 
-pub left-spec : {M : Type 1} → statement M
-left-spec = tie.close (tie.spec (λ c κs. search rules) returns)
+pub left_spec : {M : Type 1} → statement M
+left_spec = tie.close (tie.spec (λ c κs. search rules) returns)

@@ -5,7 +5,7 @@ use Rattle.capi_lent.proofs.put_head.Statement.{statement}
 use Rattle.capi_lent.proofs.put_head.Tie as tie
 
 returns : tie.Need-returns
-returns c = head-stored _ c.put-changed.ensures
+returns c = head-stored _ c.put_changed.ensures
 
-pub put-head-spec : {M : Type 1} → statement M
-put-head-spec = tie.close (tie.spec (λ c κs. search rules) returns)
+pub put_head_spec : {M : Type 1} → statement M
+put_head_spec = tie.close (tie.spec (λ c κs. search rules) returns)

@@ -11,33 +11,33 @@ use Rattle.state_order.proofs.Orders.{find-9, find-refused, find-done}
 use Rattle.state_order.proofs.find_order_parts.Statement.{statement}
 use Rattle.state_order.proofs.find_order_parts.Tie as tie
 
-returns : tie.Need-returns
+returns : tie.Need-returns-then-not-sound_parts
 unfolding outcome_number
-returns c = find-9 _ _ (sym c.before.sound-parts.ensures ∙ not-true _ c.if1.true)
+returns c = find-9 _ _ (sym c.sound_parts.ensures ∙ c.if-not-sound_parts.true)
 
 -- Past the first test the state is sound.
-is_sound : (c : tie.Else1) → let s = c.before.before.before.args in sound_in s.head s.rows.now ≡ true
-is_sound c = sym c.before.sound-parts.ensures ∙ not-false _ c.if1.false
+is_sound : (c : tie.Else-not-sound_parts) → let s = c.args in sound_in s.head s.rows.now ≡ true
+is_sound c = sym c.sound_parts.ensures ∙ c.if-not-sound_parts.false
 
-sound : (c : tie.Else1) → let s = c.before.before.before.args in Sound (held s.head s.rows.now)
-sound c = let h : HeadShaped c.before.before.before.args.head = search shape in held-sound _ _ h (is_sound c)
+sound : (c : tie.Else-not-sound_parts) → let s = c.args in Sound (held s.head s.rows.now)
+sound c = let h : HeadShaped c.args.head = search shape in held-sound _ _ h (is_sound c)
 
-returns-2 : tie.Need-returns-2
+returns-2 : tie.Need-returns-then-not-find_order
 unfolding outcome_number
 returns-2 c =
-    let f = c.before.before.before in
-    let e = f.before.before in
-    find-refused _ _ (is_sound e) f.find-order.ensures.1 (sound e) (sym (not-true _ c.if2.true) ∙ f.find-order.ensures.0)
+    let f = c in
+    let e = f in
+    find-refused _ _ (is_sound c.before.before.before.before.before) f.find_order.ensures.1 (sound c.before.before.before.before.before) (sym (c.if-not-find_order.true) ∙ f.find_order.ensures.0)
 
-returns-3 : tie.Need-returns-3
+returns-3 : tie.Need-returns
 unfolding outcome_number
 returns-3 c =
-    let f = c.before.before.before in
-    let e = f.before.before in
-    find-done _ _ (is_sound e) f.find-order.ensures.1 (sym (not-false _ c.if2.false) ∙ f.find-order.ensures.0)
+    let f = c in
+    let e = f in
+    find-done _ _ (is_sound c.before.before.before.before.before) f.find_order.ensures.1 (sym (c.if-not-find_order.false) ∙ f.find_order.ensures.0)
 
-pub find-order-parts-spec : {M : Type 1} → statement M
-find-order-parts-spec =
+pub find_order_parts_spec : {M : Type 1} → statement M
+find_order_parts_spec =
     tie.close
     (tie.spec
     (λ c κs. search rules)

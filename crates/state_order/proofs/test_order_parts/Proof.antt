@@ -11,37 +11,37 @@ use Rattle.state_order.proofs.Orders.{told_as, told-9, told-tested}
 use Rattle.state_order.proofs.test_order_parts.Statement.{statement}
 use Rattle.state_order.proofs.test_order_parts.Tie as tie
 
-returns : tie.Need-returns
+returns : tie.Need-returns-then-not-sound_parts
 unfolding test_told
-returns c = told-9 _ _ (sym c.before.sound-parts.ensures ∙ not-true _ c.if1.true)
+returns c = told-9 _ _ (sym c.sound_parts.ensures ∙ c.if-not-sound_parts.true)
 
 -- Past the first test the state is sound.
-is_sound : (c : tie.Else1) → let s = c.before.before.before.args in sound_in s.head s.rows.now ≡ true
-is_sound c = sym c.before.sound-parts.ensures ∙ not-false _ c.if1.false
+is_sound : (c : tie.Else-not-sound_parts) → let s = c.args in sound_in s.head s.rows.now ≡ true
+is_sound c = sym c.sound_parts.ensures ∙ c.if-not-sound_parts.false
 
-sound : (c : tie.Else1) → let s = c.before.before.before.args in Sound (held s.head s.rows.now)
-sound c = let h : HeadShaped c.before.before.before.args.head = search shape in held-sound _ _ h (is_sound c)
+sound : (c : tie.Else-not-sound_parts) → let s = c.args in Sound (held s.head s.rows.now)
+sound c = let h : HeadShaped c.args.head = search shape in held-sound _ _ h (is_sound c)
 
-returns-2 : tie.Need-returns-2
+returns-2 : tie.Need-returns-in-Good
 unfolding test_told told_as
 returns-2 c =
-    let t = c.before.before in
-    told-tested _ _ (sound t.before) (is_sound t.before) _ (sym c.enum_told.given.1 ∙ t.test-order.ensures)
+    let t = c in
+    told-tested _ _ (sound c.before.before) (is_sound c.before.before) _ (sym c.in-Good.is ∙ t.test_order-tested.ensures)
 
-returns-3 : tie.Need-returns-3
+returns-3 : tie.Need-returns-in-Not
 unfolding test_told told_as
 returns-3 c =
-    let t = c.before.before in
-    told-tested _ _ (sound t.before) (is_sound t.before) _ (sym c.enum-told2.given.1 ∙ t.test-order.ensures)
+    let t = c in
+    told-tested _ _ (sound c.before.before) (is_sound c.before.before) _ (sym c.in-Not.is ∙ t.test_order-tested.ensures)
 
-returns-4 : tie.Need-returns-4
+returns-4 : tie.Need-returns-in-Refused
 unfolding test_told told_as
 returns-4 c =
-    let t = c.before.before in
-    told-tested _ _ (sound t.before) (is_sound t.before) _ (sym c.enum-told3.given.1 ∙ t.test-order.ensures)
+    let t = c in
+    told-tested _ _ (sound c.before.before) (is_sound c.before.before) _ (sym c.in-Refused.is ∙ t.test_order-tested.ensures)
 
-pub test-order-parts-spec : {M : Type 1} → statement M
-test-order-parts-spec =
+pub test_order_parts_spec : {M : Type 1} → statement M
+test_order_parts_spec =
     tie.close
     (tie.spec
     (λ c κs. search rules)

@@ -7,29 +7,29 @@ use Rattle.state_paired.proofs.Beside.{handed-on, walked, kept, turned-away}
 use Rattle.state_paired.proofs.read_paired_parts.Statement.{statement}
 use Rattle.state_paired.proofs.read_paired_parts.Tie as tie
 
-returns : tie.Need-returns
-returns c = let r = c.before.before.read-parts in handed-on _ r.result _ r.ensures c.enum_told.given.1
+returns : tie.Need-returns-in-Refused
+returns c = let r = c.read_parts-read in handed-on _ r.result _ r.ensures c.in-Refused.is
 
 -- The bytes are those of a sheet.
-taken : (c : tie.After-enum-told2) → Accepted c.before.before.before.before.before.args.bytes.now
-taken c = let r = c.before.before.read-parts in walked _ r.result _ r.ensures c.enum-told2.given.1
+taken : (c : tie.In_default) → Accepted c.args.bytes.now
+taken c = let r = c.read_parts-read in walked _ r.result _ r.ensures c.in_default.is
 
-unpaired-place-requires : tie.Need-unpaired-place-requires
+unpaired-place-requires : tie.Need-unpaired_place-place-requires
 unpaired-place-requires c κs = let A = taken c in search rules
 
-returns-2 : tie.Need-returns-2
+returns-2 : tie.Need-returns-then-place-eq0
 returns-2 c =
-    let w = c.before in
-    let r = w.before.before.before.read-parts in
-    kept _ r.result _ r.ensures (taken w.before) (sym w.unpaired-place.ensures ∙ c.if1.true)
+    let w = c in
+    let r = w.read_parts-read in
+    kept _ r.result _ r.ensures (taken c.before.before) (sym w.unpaired_place-place.ensures ∙ c.if-place-eq0.true)
 
-returns-3 : tie.Need-returns-3
+returns-3 : tie.Need-returns
 returns-3 c =
-    let w = c.before.before.before in
-    c.refused.ensures ∙ turned-away _ (taken w.before) w.unpaired-place.ensures (λ z. omega (arith, c.before.before.if1.false))
+    let w = c in
+    c.refused.ensures ∙ turned-away _ (taken c.before.before.before.before) w.unpaired_place-place.ensures (λ z. omega (arith, c.if-place-eq0.false))
 
-pub read-paired-parts-spec : {M : Type 1} → statement M
-read-paired-parts-spec =
+pub read_paired_parts_spec : {M : Type 1} → statement M
+read_paired_parts_spec =
     tie.close
     (tie.spec
     (λ c κs. search rules)

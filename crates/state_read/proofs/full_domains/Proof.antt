@@ -7,27 +7,27 @@ use Rattle.state_read.proofs.Reading.{DomainsSoFar, domains-none, domains-more, 
 use Rattle.state_read.proofs.full_domains.Statement.{statement}
 use Rattle.state_read.proofs.full_domains.Tie as tie
 
-abbrev invariant-loop : tie.invariant-loop
+abbrev invariant-loop : tie.invariant-loop-i
 invariant-loop n sizes domains₀ i₀ domains i = DomainsSoFar n sizes domains i
 
-abbrev decreases-loop : tie.decreases-loop
+abbrev decreases-loop : tie.decreases-loop-i
 decreases-loop n sizes domains₀ i₀ domains i = n - i
 
-loop-holds : tie.Need-loop-init invariant-loop decreases-loop
+loop-holds : tie.Need-loop-i-init invariant-loop decreases-loop
 loop-holds c = domains-none refl c.requires.2
 
 full-requires : tie.Need-full-requires invariant-loop decreases-loop
-full-requires c κs = c.before.before.requires.1 c.before.loop.i
+full-requires c κs = c.requires.1 c.loop-i.i
 
-loop-again : tie.Need-loop-preserved invariant-loop decreases-loop
+loop-again : tie.Need-loop-i-preserved invariant-loop decreases-loop
 loop-again c =
-    domains-more c.before.before.before.requires.0 c.before.before.loop.invariant (omega arith) c.full.ensures
+    domains-more c.requires.0 c.loop-i.invariant (omega arith) c.full.ensures
 
 returns : tie.Need-returns invariant-loop decreases-loop
-returns c = domains-end c.before.before.requires.0 c.before.loop.invariant (omega arith)
+returns c = domains-end c.requires.0 c.loop-i.invariant (omega arith)
 
-pub full-domains-spec : {M : Type 1} → statement M
-full-domains-spec =
+pub full_domains_spec : {M : Type 1} → statement M
+full_domains_spec =
     tie.close
     (tie.spec
     invariant-loop

@@ -7,29 +7,29 @@ use Rattle.state_read.proofs.Reading.{full_domains, head_read, read-accepted, re
 use Rattle.state_read.proofs.read_parts.Statement.{statement}
 use Rattle.state_read.proofs.read_parts.Tie as tie
 
-full-domains-requires : tie.Need-full-domains-requires
+full-domains-requires : tie.Need-full_domains-domains-requires
 full-domains-requires c κs =
-    let r = c.before.before.before in
-    let octets : Octets r.before.before.before.before.before.args.bytes.now =
-    λ k. omega (arith, r.before.before.before.before.shared-slice-known.given k) in (
-      read-few _ r.read-into.ensures octets c.before.n.given.1,
-      λ i. omega (arith, read-sizes _ r.read-into.ensures octets c.before.n.given.1 i),
-      read_past _ r.read-into.ensures c.before.n.given.1,
+    let r = c in
+    let octets : Octets r.args.bytes.now =
+    λ k. omega (arith, r.shared_slice_known-1.given k) in (
+      read-few _ r.read_into.ensures octets c.in-Value.is,
+      λ i. omega (arith, read-sizes _ r.read_into.ensures octets c.in-Value.is i),
+      read_past _ r.read_into.ensures c.in-Value.is,
     )
 
-returns : tie.Need-returns
+returns : tie.Need-returns-in-Value
 unfolding read_parts_told head_read full_domains
 returns c =
-    rw c.full-domains.ensures
-    (read-accepted _ c.before.before.before.before.read-into.ensures c.before.before.n.given.1)
+    rw c.full_domains-domains.ensures
+    (read-accepted _ c.read_into.ensures c.in-Value.is)
 
-returns-2 : tie.Need-returns-2
+returns-2 : tie.Need-returns-in-Refused
 returns-2 c =
-    let k = c.before.before.before in
-    c.refused.ensures ∙ read-refused _ k.before.before.read-into.ensures k.cause.given.1
+    let k = c in
+    c.refused.ensures ∙ read-refused _ k.read_into.ensures k.in-Refused.is
 
-pub read-parts-spec : {M : Type 1} → statement M
-read-parts-spec =
+pub read_parts_spec : {M : Type 1} → statement M
+read_parts_spec =
     tie.close
     (tie.spec
     (λ c κs. search rules)

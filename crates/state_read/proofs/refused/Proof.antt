@@ -6,7 +6,7 @@ use Rattle.state_read.proofs.refused.Tie as tie
 
 returns : tie.Need-returns
 unfolding read_parts_told
-returns c = rw (c.zero-head.ensures, c.before.zero-rows.ensures) (refused-told _ _)
+returns c = rw (c.zero_head.ensures, c.zero_rows.ensures) (refused-told _ _)
 
-pub refused-spec : {M : Type 1} → statement M
-refused-spec = tie.close (tie.spec (λ c κs. search rules) (λ c κs. search rules) returns)
+pub refused_spec : {M : Type 1} → statement M
+refused_spec = tie.close (tie.spec (λ c κs. search rules) (λ c κs. search rules) returns)

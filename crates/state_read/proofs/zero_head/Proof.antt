@@ -7,5 +7,5 @@ returns : tie.Need-returns
 unfolding zero_head
 returns c = refl
 
-pub zero-head-spec : {M : Type 1} → statement M
-zero-head-spec = tie.close (tie.spec returns)
+pub zero_head_spec : {M : Type 1} → statement M
+zero_head_spec = tie.close (tie.spec returns)

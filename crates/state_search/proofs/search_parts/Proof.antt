@@ -15,44 +15,44 @@ use Rattle.state_search.proofs.Searches.{told_none, told-found}
 use Rattle.state_search.proofs.search_parts.Statement.{statement}
 use Rattle.state_search.proofs.search_parts.Tie as tie
 
-returns : tie.Need-returns
+returns : tie.Need-returns-then-not-sound_parts
 unfolding verdict_told
-returns c = sym (search-refuses _ 9 (search-unsound _ (sym c.before.sound-parts.ensures ∙ not-true _ c.if1.true)) (omega arith))
+returns c = sym (search-refuses _ 9 (search-unsound _ (sym c.sound_parts.ensures ∙ c.if-not-sound_parts.true)) (omega arith))
 
 -- Past the first test the state is sound,
-is_sound : (c : tie.Else1) → let s = c.before.before.args in sound_in s.head s.rows.now ≡ true
-is_sound c = sym c.before.sound-parts.ensures ∙ not-false _ c.if1.false
+is_sound : (c : tie.Else-not-sound_parts) → let s = c.args in sound_in s.head s.rows.now ≡ true
+is_sound c = sym c.sound_parts.ensures ∙ c.if-not-sound_parts.false
 
 product-requires : tie.Need-product-requires
 product-requires c κs = held-n _ _ (is_sound c)
 
-returns-2 : tie.Need-returns-2
+returns-2 : tie.Need-returns-then-product-gt-MOST_CHOICES
 unfolding verdict_told
 returns-2 c =
-    let p = c.before in
-    let t = is_sound p.before in
-    sym (search-refuses _ 23 (search-own _ t ∙ product-refused _ _ (p.product.ensures _ t) c.if2.true) (omega arith))
+    let p = c in
+    let t = is_sound c.before.before in
+    sym (search-refuses _ 23 (search-own _ t ∙ product-refused _ _ (p.product.ensures _ t) c.if-product-gt-MOST_CHOICES.true) (omega arith))
 
 -- and past the second nothing refuses.
-accepts : (c : tie.Else2) → let s = c.before.before.before.before.args in search_number (state_of s.head s.rows.now) ≡ 0
+accepts : (c : tie.Else-product-gt-MOST_CHOICES) → let s = c.args in search_number (state_of s.head s.rows.now) ≡ 0
 accepts c =
     let t = is_sound c.before.before in
-    search-own _ t ∙ product-accepted _ _ (c.before.product.ensures _ t) (omega (arith, c.if2.false))
+    search-own _ t ∙ product-accepted _ _ (c.product.ensures _ t) (omega (arith, c.if-product-gt-MOST_CHOICES.false))
 
-returns-3 : tie.Need-returns-3
+returns-3 : tie.Need-returns-then-not-found
 unfolding verdict_told
 returns-3 c =
-    let f = c.before.before.before in
-    told_none _ (accepts f.before) _ f.search-sound.ensures (not-true _ c.if3.true)
+    let f = c in
+    told_none _ (accepts c.before.before.before.before) _ f.search_sound-found.ensures (not-true _ c.if-not-found.true)
 
-returns-4 : tie.Need-returns-4
+returns-4 : tie.Need-returns
 unfolding verdict_told
 returns-4 c =
-    let f = c.before.before.before in
-    told-found _ (accepts f.before) _ f.search-sound.ensures (not-false _ c.if3.false)
+    let f = c in
+    told-found _ (accepts c.before.before.before.before) _ f.search_sound-found.ensures (not-false _ c.if-not-found.false)
 
-pub search-parts-spec : {M : Type 1} → statement M
-search-parts-spec =
+pub search_parts_spec : {M : Type 1} → statement M
+search_parts_spec =
     tie.close
     (tie.spec
     (λ c κs. search rules)

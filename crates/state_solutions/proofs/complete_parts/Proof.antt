@@ -16,27 +16,27 @@ use Rattle.state_solutions.proofs.Solutions.{mirrored, complete-9, complete-14, 
 use Rattle.state_solutions.proofs.complete_parts.Statement.{statement}
 use Rattle.state_solutions.proofs.complete_parts.Tie as tie
 
-shaped : (c : tie.Start) → HeadShaped c.args.t1
+shaped : (c : tie.Start) → HeadShaped c.args.head
 shaped c = search shape
 
 abbrev state : tie.Start → State
-state c = state_of c.args.t1 c.args.rows.now
+state c = state_of c.args.head c.args.rows.now
 
 -- Past the first test the state is sound,
-abbrev start : tie.Else1 → tie.Start
+abbrev start : tie.Else-not-sound_parts → tie.Start
 start c = c.before.before.before
 
-is_sound : (c : tie.Else1) → sound_state (state (start c)) ≡ true
-is_sound c = sym c.before.sound-parts.ensures ∙ not-false _ c.if1.false
+is_sound : (c : tie.Else-not-sound_parts) → sound_state (state (start c)) ≡ true
+is_sound c = sym c.sound_parts.ensures ∙ c.if-not-sound_parts.false
 
 -- past the second the length is right, past the third each free value is in its domain,
-abbrev second : tie.After-values-kept → tie.Else2
-second c = c.before.before.before.before.before
+abbrev second : tie.After-values_kept → tie.Else-solution-n
+second c = c.before.before.before
 
-abbrev first : tie.Else3 → tie.Else1
+abbrev first : tie.Else-not-values_kept → tie.Else-not-sound_parts
 first c = (second c.before).before
 
-module _ (c : tie.Else3) where
+module _ (c : tie.Else-not-values_kept) where
   abbrev at : State
   at = state (start (first c))
 
@@ -44,63 +44,63 @@ module _ (c : tie.Else3) where
   build = (start (first c)).args.solution.now
 
   is-long : length build ≡ at.n
-  is-long = (second c.before).if2.false
+  is-long = (second c.before).if-solution-n.false
 
   kept : values_kept at.n at.leaders at.domains build ≡ true
-  kept = sym c.before.values-kept.ensures ∙ not-false _ c.if3.false
+  kept = sym c.values_kept.ensures ∙ c.if-not-values_kept.false
 
 -- past the fourth each stated pair of free variables allows its values.
-abbrev third : tie.After-pairs-kept → tie.Else3
-third c = c.before.before.before.before.before
+abbrev third : tie.After-pairs_kept → tie.Else-not-values_kept
+third c = c.before.before.before
 
-allowed : (c : tie.Else4) → let e = third c.before in pairs_kept 32 (at e).n (at e).leaders (at e).stated (at e).rows (build e) ≡ true
-allowed c = sym c.before.pairs-kept.ensures ∙ not-false _ c.if4.false
+allowed : (c : tie.Else-not-pairs_kept) → let e = third c.before in pairs_kept 32 (at e).n (at e).leaders (at e).stated (at e).rows (build e) ≡ true
+allowed c = sym c.pairs_kept.ensures ∙ c.if-not-pairs_kept.false
 
-returns : tie.Need-returns
+returns : tie.Need-returns-then-not-sound_parts
 unfolding outcome_number
-returns c = complete-9 _ _ (sym c.before.sound-parts.ensures ∙ not-true _ c.if1.true)
+returns c = complete-9 _ _ (sym c.sound_parts.ensures ∙ c.if-not-sound_parts.true)
 
-returns-2 : tie.Need-returns-2
+returns-2 : tie.Need-returns-then-solution-n
 unfolding outcome_number
-returns-2 c = complete-14 _ _ (is_sound c.before) c.if2.true
+returns-2 c = complete-14 _ _ (is_sound c.before) c.if-solution-n.true
 
-values-kept-requires : tie.Need-values-kept-requires
+values-kept-requires : tie.Need-values_kept-requires
 values-kept-requires c κs =
-    let e = c.before.before.before.before in
-    (held-n _ _ (is_sound e.before), omega (arith, e.if2.false))
+    let e = c in
+    (held-n _ _ (is_sound c.before.before.before), omega (arith, e.if-solution-n.false))
 
-returns-3 : tie.Need-returns-3
+returns-3 : tie.Need-returns-then-not-values_kept
 unfolding outcome_number
 returns-3 c =
-    complete-15 _ _ (is_sound (second c.before).before) (second c.before).if2.false
-    (sym c.before.values-kept.ensures ∙ not-true _ c.if3.true)
+    complete-15 _ _ (is_sound (second c.before).before) (second c.before).if-solution-n.false
+    (sym c.values_kept.ensures ∙ c.if-not-values_kept.true)
 
-pairs-kept-requires : tie.Need-pairs-kept-requires
+pairs-kept-requires : tie.Need-pairs_kept-requires
 pairs-kept-requires c κs =
-    let e = c.before.before.before.before in
-    (held-n _ _ (is_sound (first e)), omega (arith, is-long e), mirrored (at e) (shaped (start (first e))) (is_sound (first e)))
+    let e = c.before.before in
+    (held-n _ _ (is_sound (first c.before.before)), omega (arith, is-long e), mirrored (at e) (shaped (start (first c.before.before))) (is_sound (first c.before.before)))
 
-returns-4 : tie.Need-returns-4
+returns-4 : tie.Need-returns-then-not-pairs_kept
 unfolding outcome_number
 returns-4 c =
     complete-16 _ _ (is_sound (first (third c.before))) (is-long (third c.before)) (kept (third c.before))
-    (sym c.before.pairs-kept.ensures ∙ not-true _ c.if4.true)
+    (sym c.pairs_kept.ensures ∙ c.if-not-pairs_kept.true)
 
-complete-values-requires : tie.Need-complete-values-requires
+complete-values-requires : tie.Need-complete_values-requires
 complete-values-requires c κs =
-    let e = third c.before.before.before.before.before in
+    let e = third c.before.before.before.before in
     complete-led _ (shaped (start (first e))) (is_sound (first e)) _ (is-long e) (kept e)
 
-returns-5 : tie.Need-returns-5
+returns-5 : tie.Need-returns
 unfolding outcome_number
 returns-5 c =
-    let v = c.before.before in
-    let f = v.before.before.before.before.before in
-    let e = third f.before in
-    complete-done _ (shaped (start (first e))) (is_sound (first e)) _ (is-long e) (kept e) _ (allowed f) v.complete-values.ensures
+    let v = c in
+    let f = v in
+    let e = third c.before.before.before.before.before.before.before in
+    complete-done _ (shaped (start (first e))) (is_sound (first e)) _ (is-long e) (kept e) _ (allowed c.before.before.before.before.before.before) v.complete_values.ensures
 
-pub complete-parts-spec : {M : Type 1} → statement M
-complete-parts-spec =
+pub complete_parts_spec : {M : Type 1} → statement M
+complete_parts_spec =
     tie.close
     (tie.spec
     (λ c κs. search rules)

@@ -18,24 +18,24 @@ use Rattle.state_solutions.proofs.Solutions.{mirrored, all-free, tested-9, teste
 use Rattle.state_solutions.proofs.test_parts.Statement.{statement}
 use Rattle.state_solutions.proofs.test_parts.Tie as tie
 
-shaped : (c : tie.Start) → HeadShaped c.args.t1
+shaped : (c : tie.Start) → HeadShaped c.args.head
 shaped c = search shape
 
 abbrev state : tie.Start → State
-state c = state_of c.args.t1 c.args.rows.now
+state c = state_of c.args.head c.args.rows.now
 
 -- Past the first test the state is sound, past the second the length is right, past the third each value is below its size.
-abbrev start : tie.Else1 → tie.Start
+abbrev start : tie.Else-not-sound_parts → tie.Start
 start c = c.before.before.before
 
-abbrev first : tie.Else3 → tie.Else1
-first c = c.before.before.before.before.before
+abbrev first : tie.Else-not-values_below → tie.Else-not-sound_parts
+first c = c.before.before.before.before
 
-is_sound : (c : tie.Else1) → sound_state (state (start c)) ≡ true
-is_sound c = sym c.before.sound-parts.ensures ∙ not-false _ c.if1.false
+is_sound : (c : tie.Else-not-sound_parts) → sound_state (state (start c)) ≡ true
+is_sound c = sym c.sound_parts.ensures ∙ c.if-not-sound_parts.false
 
 -- So what is left are the domains and the pairs.
-module _ (c : tie.Else3) where
+module _ (c : tie.Else-not-values_below) where
   abbrev at : State
   at = state (start (first c))
 
@@ -45,68 +45,68 @@ module _ (c : tie.Else3) where
   outside : values_kept at.n (replicate variables 0) at.domains build ≡ false → says false ≡ tested at build
   outside =
       tested-outside _ _ _ (all-free at (is_sound (first c)))
-      (is_sound (first c)) c.before.before.before.before.if2.false (sym c.before.values-below.ensures ∙ not-false _ c.if3.false)
+      (is_sound (first c)) c.if-solution-n.false (sym c.values_below.ensures ∙ c.if-not-values_below.false)
 
   pairs : values_kept at.n (replicate variables 0) at.domains build ≡ true
       → says (pairs_kept 32 at.n (replicate variables 0) at.stated at.rows build) ≡ tested at build
   pairs =
       tested-pairs _ _ _ (all-free at (is_sound (first c)))
-      (is_sound (first c)) c.before.before.before.before.if2.false (sym c.before.values-below.ensures ∙ not-false _ c.if3.false)
+      (is_sound (first c)) c.if-solution-n.false (sym c.values_below.ensures ∙ c.if-not-values_below.false)
 
-returns : tie.Need-returns
+returns : tie.Need-returns-then-not-sound_parts
 unfolding test_told
-returns c = tested-9 _ _ (sym c.before.sound-parts.ensures ∙ not-true _ c.if1.true)
+returns c = tested-9 _ _ (sym c.sound_parts.ensures ∙ c.if-not-sound_parts.true)
 
-returns-2 : tie.Need-returns-2
+returns-2 : tie.Need-returns-then-solution-n
 unfolding test_told
-returns-2 c = tested-14 _ _ (is_sound c.before) c.if2.true
+returns-2 c = tested-14 _ _ (is_sound c.before) c.if-solution-n.true
 
-values-below-requires : tie.Need-values-below-requires
-values-below-requires c κs = (held-n _ _ (is_sound c.before.before.before), omega arith)
+values-below-requires : tie.Need-values_below-requires
+values-below-requires c κs = (held-n _ _ (is_sound c.before.before), omega arith)
 
-returns-3 : tie.Need-returns-3
+returns-3 : tie.Need-returns-then-not-values_below
 unfolding test_told
 returns-3 c =
-    tested-15 _ _ (is_sound c.before.before.before.before.before) c.before.before.before.before.if2.false
-    (sym c.before.values-below.ensures ∙ not-true _ c.if3.true)
+    tested-15 _ _ (is_sound c.before.before.before.before) c.if-solution-n.false
+    (sym c.values_below.ensures ∙ c.if-not-values_below.true)
 
-values-kept-requires : tie.Need-values-kept-requires
+values-kept-requires : tie.Need-values_kept-requires
 values-kept-requires c κs =
-    let e = c.before.before.before in
-    (held-n _ _ (is_sound (first e)), omega (arith, e.before.before.before.before.if2.false))
+    let e = c in
+    (held-n _ _ (is_sound (first c.before.before)), omega (arith, e.if-solution-n.false))
 
-returns-4 : tie.Need-returns-4
+returns-4 : tie.Need-returns-then-not-values_kept
 unfolding test_told
-returns-4 c = outside c.before.before.before.before.before (sym c.before.values-kept.ensures ∙ not-true _ c.if4.true)
+returns-4 c = outside c.before.before.before.before (sym c.values_kept.ensures ∙ c.if-not-values_kept.true)
 
-abbrev fourth : tie.After-pairs-kept-arg → tie.Else4
-fourth c = c.before.before.before
+abbrev fourth : tie.After-pairs_kept-arg-1 → tie.Else-not-values_kept
+fourth c = c.before.before
 
-abbrev third : tie.After-pairs-kept-arg → tie.Else3
-third c = (fourth c).before.before.before.before.before
+abbrev third : tie.After-pairs_kept-arg-1 → tie.Else-not-values_below
+third c = (fourth c).before.before.before.before
 
-pairs-kept-requires : tie.Need-pairs-kept-requires
+pairs-kept-requires : tie.Need-pairs_kept-requires
 pairs-kept-requires c κs =
     let e = first (third c) in
-    (held-n _ _ (is_sound e), omega (arith, (third c).before.before.before.before.if2.false), mirrored (state (start e)) (shaped (start e)) (is_sound e))
+    (held-n _ _ (is_sound e), omega (arith, (third c).if-solution-n.false), mirrored (state (start e)) (shaped (start e)) (is_sound e))
 
 -- The last test is the answer.
-answer : (c : tie.After-pairs-kept) → says c.pairs-kept.result ≡ tested (at (third c.before)) (build (third c.before))
+answer : (c : tie.After-pairs_kept) → says c.pairs_kept.result ≡ tested (at (third c.before)) (build (third c.before))
 answer c =
-    ap says c.pairs-kept.ensures
+    ap says c.pairs_kept.ensures
     ∙ pairs (third c.before)
-    (sym (fourth c.before).before.values-kept.ensures ∙ not-false _ (fourth c.before).if4.false)
+    (sym (fourth c.before).values_kept.ensures ∙ (fourth c.before).if-not-values_kept.false)
 
-returns-5 : tie.Need-returns-5
+returns-5 : tie.Need-returns-then-not-pairs_kept
 unfolding test_told
-returns-5 c = ap says (sym (not-true _ c.if5.true)) ∙ answer c.before
+returns-5 c = ap says (sym (c.if-not-pairs_kept.true)) ∙ answer c.before
 
-returns-6 : tie.Need-returns-6
+returns-6 : tie.Need-returns
 unfolding test_told
-returns-6 c = ap says (sym (not-false _ c.if5.false)) ∙ answer c.before
+returns-6 c = ap says (sym (c.if-not-pairs_kept.false)) ∙ answer c.before
 
-pub test-parts-spec : {M : Type 1} → statement M
-test-parts-spec =
+pub test_parts_spec : {M : Type 1} → statement M
+test_parts_spec =
     tie.close
     (tie.spec
     (λ c κs. search rules)

@@ -17,63 +17,63 @@ use Rattle.state_survey.proofs.Told.{survey-unsound, survey-own, survey-refuses,
 use Rattle.state_survey.proofs.survey_parts.Statement.{statement}
 use Rattle.state_survey.proofs.survey_parts.Tie as tie
 
-returns : tie.Need-returns
+returns : tie.Need-returns-then-not-sound_parts
 unfolding outcome_number
 returns c =
-    let e = c.before in
-    c.nothing.ensures ∙ sym (survey-refuses _ 9 (survey-unsound _ (sym e.before.sound-parts.ensures ∙ not-true _ e.if1.true)) (omega arith))
+    let e = c in
+    c.nothing.ensures ∙ sym (survey-refuses _ 9 (survey-unsound _ (sym e.sound_parts.ensures ∙ e.if-not-sound_parts.true)) (omega arith))
 
 -- Past the first test the state is sound,
-is_sound : (c : tie.Else1) → let s = c.before.before.args in sound_in s.head s.rows.now ≡ true
-is_sound c = sym c.before.sound-parts.ensures ∙ not-false _ c.if1.false
+is_sound : (c : tie.Else-not-sound_parts) → let s = c.args in sound_in s.head s.rows.now ≡ true
+is_sound c = sym c.sound_parts.ensures ∙ c.if-not-sound_parts.false
 
-network-sound : (c : tie.Else1) → let s = c.before.before.args in Sound (held s.head s.rows.now)
-network-sound c = let h : HeadShaped c.before.before.args.head = search shape in held-sound _ _ h (is_sound c)
+network-sound : (c : tie.Else-not-sound_parts) → let s = c.args in Sound (held s.head s.rows.now)
+network-sound c = let h : HeadShaped c.args.head = search shape in held-sound _ _ h (is_sound c)
 
-tied-product-requires : tie.Need-tied-product-requires
+tied-product-requires : tie.Need-tied_product-choices-requires
 tied-product-requires c κs = held-n _ _ (is_sound c)
 
-returns-2 : tie.Need-returns-2
+returns-2 : tie.Need-returns-then-choices-gt-MOST_CHOICES
 unfolding outcome_number
 returns-2 c =
-    let p = c.before.before in
-    let t = is_sound p.before in
-    c.nothing2.ensures
-    ∙ sym (survey-refuses _ 23 (survey-own _ t ∙ product-refused _ _ (p.tied-product.ensures _ t) c.before.if2.true) (omega arith))
+    let p = c in
+    let t = is_sound c.before.before.before in
+    c.nothing-then-choices-gt-MOST_CHOICES.ensures
+    ∙ sym (survey-refuses _ 23 (survey-own _ t ∙ product-refused _ _ (p.tied_product-choices.ensures _ t) c.if-choices-gt-MOST_CHOICES.true) (omega arith))
 
 -- and past the second nothing refuses: the product is what was computed.
-accepts : (c : tie.Else2) → let s = c.before.before.before.before.args in survey_number (state_of s.head s.rows.now) ≡ 0
+accepts : (c : tie.Else-choices-gt-MOST_CHOICES) → let s = c.args in survey_number (state_of s.head s.rows.now) ≡ 0
 accepts c =
     let t = is_sound c.before.before in
-    survey-own _ t ∙ product-accepted _ _ (c.before.tied-product.ensures _ t) (omega (arith, c.if2.false))
+    survey-own _ t ∙ product-accepted _ _ (c.tied_product-choices.ensures _ t) (omega (arith, c.if-choices-gt-MOST_CHOICES.false))
 
-product_is : (c : tie.Else2) → let s = c.before.before.before.before.args in
-    (tied_product (held s.head s.rows.now) ≡ c.before.tied-product.result) × (c.before.tied-product.result ≤ 1000000)
+product_is : (c : tie.Else-choices-gt-MOST_CHOICES) → let s = c.args in
+    (tied_product (held s.head s.rows.now) ≡ c.tied_product-choices.result) × (c.tied_product-choices.result ≤ 1000000)
 product_is c =
     let t = is_sound c.before.before in
-    let l : c.before.tied-product.result ≤ 1000000 = omega (arith, c.if2.false) in
-    (below-cap _ _ (c.before.tied-product.ensures _ t) l, l)
+    let l : c.tied_product-choices.result ≤ 1000000 = omega (arith, c.if-choices-gt-MOST_CHOICES.false) in
+    (below-cap _ _ (c.tied_product-choices.ensures _ t) l, l)
 
-returns-3 : tie.Need-returns-3
+returns-3 : tie.Need-returns-then-choices-eq0
 unfolding outcome_number
 returns-3 c =
-    let e = c.before.before in
-    c.nothing3.ensures ∙ sym (told-empty _ (network-sound e.before.before) (accepts e) ((product_is e).0 ∙ c.before.if3.true))
+    let e = c in
+    c.nothing-then-choices-eq0.ensures ∙ sym (told-empty _ (network-sound c.before.before.before.before) (accepts c.before.before) ((product_is c.before.before).0 ∙ c.if-choices-eq0.true))
 
-survey-sound-requires : tie.Need-survey-sound-requires
+survey-sound-requires : tie.Need-survey_sound-surveyed-requires
 survey-sound-requires c κs =
-    let e = c.before in
-    let p = product_is e in
-    (is_sound e.before.before, omega (arith, p.0, c.if3.false), omega (arith, p.0, p.1))
+    let e = c in
+    let p = product_is c.before in
+    (is_sound c.before.before.before, omega (arith, p.0, c.if-choices-eq0.false), omega (arith, p.0, p.1))
 
-returns-4 : tie.Need-returns-4
+returns-4 : tie.Need-returns
 unfolding survey_told outcome_number
 returns-4 c =
-    let e = c.before.before.before in
-    told_of _ (network-sound e.before.before) (accepts e) _ c.before.survey-sound.ensures
+    let e = c in
+    told_of _ (network-sound c.before.before.before.before.before) (accepts c.before.before.before) _ c.survey_sound-surveyed.ensures
 
-pub survey-parts-spec : {M : Type 1} → statement M
-survey-parts-spec =
+pub survey_parts_spec : {M : Type 1} → statement M
+survey_parts_spec =
     tie.close
     (tie.spec
     (λ c κs. search rules)

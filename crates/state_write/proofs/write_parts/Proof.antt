@@ -20,125 +20,125 @@ use Rattle.state_write.proofs.Written.{fresh-told, refused-told, written-told}
 use Rattle.state_write.proofs.write_parts.Statement.{statement}
 use Rattle.state_write.proofs.write_parts.Tie as tie
 
-shaped : (c : tie.Start) → HeadShaped c.args.t1
+shaped : (c : tie.Start) → HeadShaped c.args.head
 shaped c = search shape
 
-abbrev start : tie.Else1 → tie.Start
+abbrev start : tie.Else-not-sound_parts → tie.Start
 start c = c.before.before.before
 
-is_sound : (c : tie.Else1) → sound_in (start c).args.t1 (start c).args.rows.now ≡ true
-is_sound c = sym c.before.sound-parts.ensures ∙ not-false _ c.if1.false
+is_sound : (c : tie.Else-not-sound_parts) → sound_in (start c).args.head (start c).args.rows.now ≡ true
+is_sound c = sym c.sound_parts.ensures ∙ c.if-not-sound_parts.false
 
 -- What is measured of a sound state: whether it is fresh, whether it fits the version, whether that takes its rows, and, where it does, how many bytes its
 -- sheet has.
-abbrev fixed : tie.After-extent-of → tie.After-fixed-by
-fixed c = c.before.before.before.before
+abbrev fixed : tie.After-extent_of-extent → tie.After-fixed_by-bytes
+fixed c = c.before.before.before
 
-abbrev passed : tie.After-extent-of → tie.After-rows-pass
+abbrev passed : tie.After-extent_of-extent → tie.After-rows_pass-passes
 passed c = (fixed c).before
 
-abbrev tested : tie.After-extent-of → tie.After-fits-version
+abbrev tested : tie.After-extent_of-extent → tie.After-fits_version-fits
 tested c = (passed c).before
 
-abbrev past : tie.After-extent-of → tie.After-fresh-parts
+abbrev past : tie.After-extent_of-extent → tie.After-fresh_parts-fresh
 past c = (tested c).before.before.before
 
-abbrev sound : tie.After-extent-of → tie.Else1
+abbrev sound : tie.After-extent_of-extent → tie.Else-not-sound_parts
 sound c = (past c).before
 
-abbrev told : tie.After-extent-of → Network
-told c = let a = (start (sound c)).args in held a.t1 a.rows.now
+abbrev told : tie.After-extent_of-extent → Network
+told c = let a = (start (sound c)).args in held a.head a.rows.now
 
-fresh-measured : (c : tie.After-extent-of) → fresh (told c) ≡ (past c).fresh-parts.result
-fresh-measured c = let e = sound c in fresh-told _ (shaped (start e)) (is_sound e) ∙ sym (past c).fresh-parts.ensures
+fresh-measured : (c : tie.After-extent_of-extent) → fresh (told c) ≡ (past c).fresh_parts-fresh.result
+fresh-measured c = let e = sound c in fresh-told _ (shaped (start e)) (is_sound e) ∙ sym (past c).fresh_parts-fresh.ensures
 
-fits-measured : (c : tie.After-extent-of) → fits_version (layout_of (start (sound c)).args.version) (told c) ≡ (tested c).fits-version.result
-fits-measured c = let a = (start (sound c)).args in sym ((tested c).fits-version.ensures a.t1 a.rows.now refl refl)
+fits-measured : (c : tie.After-extent_of-extent) → fits_version (layout_of (start (sound c)).args.version) (told c) ≡ (tested c).fits_version-fits.result
+fits-measured c = let a = (start (sound c)).args in sym ((tested c).fits_version-fits.ensures a.head a.rows.now refl refl)
 
-pass-measured : (c : tie.After-extent-of) → rows_pass (layout_of (start (sound c)).args.version) (told c) ≡ (passed c).rows_pass.result
-pass-measured c = sym (passed c).rows_pass.ensures
+pass-measured : (c : tie.After-extent_of-extent) → rows_pass (layout_of (start (sound c)).args.version) (told c) ≡ (passed c).rows_pass-passes.result
+pass-measured c = sym (passed c).rows_pass-passes.ensures
 
-length-measured : (c : tie.After-extent-of) → fits_version (layout_of (start (sound c)).args.version) (told c) ≡ true
+length-measured : (c : tie.After-extent_of-extent) → fits_version (layout_of (start (sound c)).args.version) (told c) ≡ true
     → rows_pass (layout_of (start (sound c)).args.version) (told c) ≡ true
-    → let a = (start (sound c)).args in c.extent-of.result.length ≡ length (bytes_held a.version a.t1 a.rows.now)
+    → let a = (start (sound c)).args in c.extent_of-extent.result.length ≡ length (bytes_held a.version a.head a.rows.now)
 length-measured c v p =
     let e = sound c in
-    length-told _ (shaped (start e)) (is_sound e) _ v p (fixed c).fixed-by.ensures.bytes_are c.extent-of.ensures.0
+    length-told _ (shaped (start e)) (is_sound e) _ v p (fixed c).fixed_by-bytes.ensures.bytes_are c.extent_of-extent.ensures.0
 
 -- Past the second test it is fresh, past the third it fits, past the fourth its rows pass, and past the fifth there is room.
-is_fresh : (c : tie.Else2) → fresh (told c.before) ≡ true
-is_fresh c = fresh-measured c.before ∙ not-false _ c.if2.false
+is_fresh : (c : tie.Else-not-fresh) → fresh (told c.before) ≡ true
+is_fresh c = fresh-measured c.before ∙ c.if-not-fresh.false
 
-fits : (c : tie.Else3) → let m = c.before.before in fits_version (layout_of (start (sound m)).args.version) (told m) ≡ true
-fits c = fits-measured c.before.before ∙ not-false _ c.if3.false
+fits : (c : tie.Else-not-fits) → let m = c in fits_version (layout_of (start (sound m)).args.version) (told m) ≡ true
+fits c = fits-measured c.before.before ∙ c.if-not-fits.false
 
-pass : (c : tie.Else4) → let m = c.before.before.before in rows_pass (layout_of (start (sound m)).args.version) (told m) ≡ true
-pass c = pass-measured c.before.before.before ∙ not-false _ c.if4.false
+pass : (c : tie.Else-not-passes) → let m = c.before.before.before in rows_pass (layout_of (start (sound m)).args.version) (told m) ≡ true
+pass c = pass-measured c.before.before.before ∙ c.if-not-passes.false
 
-room : (c : tie.Else5)
-    → let a = (start (sound c.before.before.before.before)).args in length (bytes_held a.version a.t1 a.rows.now) ≤ length a.buffer.now
-room c = let p = c.before in omega (arith, c.if5.false, length-measured p.before.before.before (fits p.before) (pass p))
+room : (c : tie.Else-buffer-length)
+    → let a = (start (sound c.before.before.before.before)).args in length (bytes_held a.version a.head a.rows.now) ≤ length a.buffer-1.now
+room c = let p = c in omega (arith, c.if-buffer-length.false, length-measured c.before.before.before.before (fits c.before.before) (pass c.before))
 
-returns : tie.Need-returns
-returns c = refused-told _ _ _ (write-unsound _ _ _ (sym c.before.sound-parts.ensures ∙ not-true _ c.if1.true))
+returns : tie.Need-returns-then-not-sound_parts
+returns c = refused-told _ _ _ (write-unsound _ _ _ (sym c.sound_parts.ensures ∙ c.if-not-sound_parts.true))
 
-fresh-parts-requires : tie.Need-fresh-parts-requires
+fresh-parts-requires : tie.Need-fresh_parts-fresh-requires
 fresh-parts-requires c κs = (held-n _ _ (is_sound c), λ i. omega (arith, held-size _ _ (shaped (start c)) (is_sound c) i))
 
-fits-version-requires : tie.Need-fits-version-requires
-fits-version-requires c κs = held-n _ _ (is_sound c.before.before.before)
+fits-version-requires : tie.Need-fits_version-fits-requires
+fits-version-requires c κs = held-n _ _ (is_sound c.before.before)
 
-rows-pass-requires : tie.Need-rows-pass-requires
-rows-pass-requires c κs = is_sound c.before.before.before.before
+rows-pass-requires : tie.Need-rows_pass-passes-requires
+rows-pass-requires c κs = is_sound c.before.before.before
 
-extent-of-requires : tie.Need-extent-of-requires
+extent-of-requires : tie.Need-extent_of-extent-requires
 extent-of-requires c κs =
-    let f = c.before.before.before in
-    let e = f.before.before.before.before.before.before in
-    (f.fixed-by.ensures.bytes_most, held-n _ _ (is_sound e), stated-below _ (shaped (start e)) (is_sound e))
+    let f = c in
+    let e = f in
+    (f.fixed_by-bytes.ensures.bytes_most, held-n _ _ (is_sound c.before.before.before.before.before.before.before), stated-below _ (shaped (start c.before.before.before.before.before.before.before)) (is_sound c.before.before.before.before.before.before.before))
 
-returns-2 : tie.Need-returns-2
+returns-2 : tie.Need-returns-then-not-fresh
 returns-2 c =
-    let m = c.before in refused-told _ _ _ (write-not-fresh _ _ _ (is_sound (sound m)) (fresh-measured m ∙ not-true _ c.if2.true))
+    let m = c in refused-told _ _ _ (write-not-fresh _ _ _ (is_sound (sound c.before)) (fresh-measured c.before ∙ c.if-not-fresh.true))
 
-returns-3 : tie.Need-returns-3
+returns-3 : tie.Need-returns-then-not-fits
 returns-3 c =
     let m = c.before.before in
-    refused-told _ _ _ (write-not-in-version _ _ _ (is_sound (sound m)) (is_fresh c.before) (fits-measured m ∙ not-true _ c.if3.true))
+    refused-told _ _ _ (write-not-in-version _ _ _ (is_sound (sound c.before.before)) (is_fresh c.before) (fits-measured c.before.before ∙ c.if-not-fits.true))
 
-returns-4 : tie.Need-returns-4
+returns-4 : tie.Need-returns-then-not-passes
 returns-4 c =
-    let t = c.before in
-    let m = t.before.before in
-    refused-told _ _ _ (write-blank-row _ _ _ (is_sound (sound m)) (is_fresh t.before) (fits t) (pass-measured m ∙ not-true _ c.if4.true))
+    let t = c in
+    let m = t in
+    refused-told _ _ _ (write-blank-row _ _ _ (is_sound (sound c.before.before.before)) (is_fresh c.before.before) (fits c.before) (pass-measured c.before.before.before ∙ c.if-not-passes.true))
 
-returns-5 : tie.Need-returns-5
+returns-5 : tie.Need-returns-then-buffer-length
 unfolding bytes_held sheet_bytes
 returns-5 c =
-    let p = c.before in
-    let t = p.before in
-    let m = t.before.before in
-    refused-told _ _ _ (write-no-room _ _ _ (is_sound (sound m)) (is_fresh t.before) (fits t) (pass p)
-    (omega (arith, c.if5.true, length-measured m (fits t) (pass p))))
+    let p = c in
+    let t = p in
+    let m = t in
+    refused-told _ _ _ (write-no-room _ _ _ (is_sound (sound c.before.before.before.before)) (is_fresh c.before.before.before) (fits c.before.before) (pass c.before)
+    (omega (arith, c.if-buffer-length.true, length-measured c.before.before.before.before (fits c.before.before) (pass c.before))))
 
-write-into-requires : tie.Need-write-into-requires
+write-into-requires : tie.Need-write_into-requires
 write-into-requires c κs =
-    let p = c.before.before in
-    let t = p.before in
-    let m = t.before.before in
-    ((is_sound (sound m), fits t, pass p), ((length-measured m (fits t) (pass p), m.extent-of.ensures.1), c.before.if5.false))
+    let p = c in
+    let t = p in
+    let m = t in
+    ((is_sound (sound c.before.before.before.before.before), fits c.before.before.before, pass c.before.before), ((length-measured c.before.before.before.before.before (fits c.before.before.before) (pass c.before.before), m.extent_of-extent.ensures.1), c.if-buffer-length.false))
 
-returns-6 : tie.Need-returns-6
+returns-6 : tie.Need-returns
 returns-6 c =
-    let w = c.before.before in
-    let r = w.before.before in
-    let p = r.before in
-    let t = p.before in
-    written-told _ _ _ (is_sound (sound t.before.before)) (is_fresh t.before) (fits t) (pass p) (room r) w.write-into.ensures.0
-    w.write-into.ensures.1
+    let w = c in
+    let r = w in
+    let p = r in
+    let t = p in
+    written-told _ _ _ (is_sound (sound c.before.before.before.before.before.before.before.before)) (is_fresh c.before.before.before.before.before.before.before) (fits c.before.before.before.before.before.before) (pass c.before.before.before.before.before) (room c.before.before.before.before) w.write_into.ensures.0
+    w.write_into.ensures.1
 
-pub write-parts-spec : {M : Type 1} → statement M
-write-parts-spec =
+pub write_parts_spec : {M : Type 1} → statement M
+write_parts_spec =
     tie.close
     (tie.spec
     (λ c κs. search rules)

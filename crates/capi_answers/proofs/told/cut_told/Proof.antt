@@ -8,14 +8,14 @@ use Rattle.capi_answers.proofs.told.cut_told.Tie as tie
 returns : tie.Need-returns
 unfolding cut_out
 returns c s i =
-    let g = c.before.before.before.args in
+    let g = c.args in
     record {
-      number = c.before.before.read_number.ensures i;
-      place = c.before.read-place.ensures i;
+      number = c.read_number.ensures i;
+      place = c.read_place.ensures i;
       steps = g.steps;
-      kind = c.verdict-kind.ensures g.solution i;
+      kind = c.verdict_kind.ensures g.solution i;
       solution = shown g.verdict g.solution i;
     }
 
-pub cut-told-spec : {M : Type 1} → statement M
-cut-told-spec = tie.close (tie.spec (λ c κs. search rules) (λ c κs. search rules) (λ c κs. search rules) returns)
+pub cut_told_spec : {M : Type 1} → statement M
+cut_told_spec = tie.close (tie.spec (λ c κs. search rules) (λ c κs. search rules) (λ c κs. search rules) returns)

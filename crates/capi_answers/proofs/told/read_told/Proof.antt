@@ -6,7 +6,7 @@ use Rattle.capi_answers.proofs.told.read_told.Tie as tie
 
 returns : tie.Need-returns
 unfolding read_out
-returns c s i = record { number = c.before.read_number.ensures i; place = c.read-place.ensures i }
+returns c s i = record { number = c.read_number.ensures i; place = c.read_place.ensures i }
 
-pub read-told-spec : {M : Type 1} → statement M
-read-told-spec = tie.close (tie.spec (λ c κs. search rules) (λ c κs. search rules) returns)
+pub read_told_spec : {M : Type 1} → statement M
+read_told_spec = tie.close (tie.spec (λ c κs. search rules) (λ c κs. search rules) returns)

@@ -8,8 +8,8 @@ use Rattle.capi_answers.proofs.told.survey_told.Tie as tie
 returns : tie.Need-returns
 unfolding survey_out survey_told
 returns c i =
-    let a = c.before.before.args.answer in
-    record { number = c.outcome-number.ensures i; more = a.more; words = a.words; count = a.count }
+    let a = c.args.answer in
+    record { number = c.outcome_number.ensures i; more = a.more; words = a.words; count = a.count }
 
-pub survey-told-spec : {M : Type 1} → statement M
-survey-told-spec = tie.close (tie.spec (λ c κs. search rules) returns)
+pub survey_told_spec : {M : Type 1} → statement M
+survey_told_spec = tie.close (tie.spec (λ c κs. search rules) returns)

@@ -6,7 +6,7 @@ use Rattle.capi_answers.proofs.told.tested.Tie as tie
 
 returns : tie.Need-returns
 unfolding tested_out
-returns c i = record { number = c.before.test-number.ensures i; agrees = c.test-agrees.ensures i }
+returns c i = record { number = c.test_number.ensures i; agrees = c.test_agrees.ensures i }
 
-pub tested-spec : {M : Type 1} → statement M
-tested-spec = tie.close (tie.spec (λ c κs. search rules) (λ c κs. search rules) returns)
+pub tested_spec : {M : Type 1} → statement M
+tested_spec = tie.close (tie.spec (λ c κs. search rules) (λ c κs. search rules) returns)

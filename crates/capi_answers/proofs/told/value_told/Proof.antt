@@ -6,7 +6,7 @@ use Rattle.capi_answers.proofs.told.value_told.Tie as tie
 
 returns : tie.Need-returns
 unfolding value_out
-returns c i = record { number = c.before.value-number.ensures i; value = c.value-answered.ensures i }
+returns c i = record { number = c.value_number.ensures i; value = c.value_answered.ensures i }
 
-pub value-told-spec : {M : Type 1} → statement M
-value-told-spec = tie.close (tie.spec (λ c κs. search rules) (λ c κs. search rules) returns)
+pub value_told_spec : {M : Type 1} → statement M
+value_told_spec = tie.close (tie.spec (λ c κs. search rules) (λ c κs. search rules) returns)

@@ -8,12 +8,12 @@ use Rattle.capi_answers.proofs.told.verdict_told.Tie as tie
 returns : tie.Need-returns
 unfolding verdict_out
 returns c i =
-    let a = c.before.before.args in
+    let a = c.args in
     record {
-      number = c.before.verdict-number.ensures a.solution i;
-      kind = c.verdict-kind.ensures a.solution i;
+      number = c.verdict_number.ensures a.solution i;
+      kind = c.verdict_kind.ensures a.solution i;
       solution = shown a.verdict a.solution i;
     }
 
-pub verdict-told-spec : {M : Type 1} → statement M
-verdict-told-spec = tie.close (tie.spec (λ c κs. search rules) (λ c κs. search rules) returns)
+pub verdict_told_spec : {M : Type 1} → statement M
+verdict_told_spec = tie.close (tie.spec (λ c κs. search rules) (λ c κs. search rules) returns)

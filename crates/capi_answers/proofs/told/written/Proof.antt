@@ -6,7 +6,7 @@ use Rattle.capi_answers.proofs.told.written.Tie as tie
 
 returns : tie.Need-returns
 unfolding written_out
-returns c i = record { number = c.before.write-number.ensures i; length = c.write-length.ensures i }
+returns c i = record { number = c.write_number.ensures i; length = c.write_length.ensures i }
 
-pub written-spec : {M : Type 1} → statement M
-written-spec = tie.close (tie.spec (λ c κs. search rules) (λ c κs. search rules) returns)
+pub written_spec : {M : Type 1} → statement M
+written_spec = tie.close (tie.spec (λ c κs. search rules) (λ c κs. search rules) returns)

@@ -17,43 +17,43 @@ use Rattle.state_solutions.proofs.follower.follower_at.Tie as tie
 shaped : (c : tie.Start) → HeadShaped c.args.head
 shaped c = search shape
 
-abbrev start : tie.After-wide → tie.Start
+abbrev start : tie.After-wide-l → tie.Start
 start c = c.before.before.before
 
 -- The leader, counted from 0.
-leader-is : (c : tie.After-wide) → get_or (start c).args.head.leaders (start c).args.i 0 ≡ suc (c.wide.result - 1)
-leader-is c = let p = (start c).requires in omega (arith, c.wide.ensures, p.3)
+leader-is : (c : tie.After-wide-l) → get_or (start c).args.head.leaders (start c).args.i 0 ≡ suc (c.wide-l.result - 1)
+leader-is c = let p = (start c).requires in omega (arith, c.wide-l.ensures, p.3)
 
-returns : tie.Need-returns
+returns : tie.Need-returns-then-not-has_number
 unfolding value_told
 returns c =
-    let w = c.before.before in
-    let p = (start w).requires in
-    listed-15 _ p.0 _ _ _ p.1 (leader-is w) (sym c.before.has-number.ensures ∙ not-true _ c.if1.true)
+    let w = c in
+    let p = (start c.before.before).requires in
+    listed-15 _ p.0 _ _ _ p.1 (leader-is c.before.before) (sym c.has_number.ensures ∙ c.if-not-has_number.true)
 
 -- Past the test the value is in the leader's domain.
-listed : (c : tie.Else1) → has (get_or (start c.before.before).args.head.domains (c.before.before.wide.result - 1) 0) (start c.before.before).args.value ≡ true
-listed c = sym c.before.has-number.ensures ∙ not-false _ c.if1.false
+listed : (c : tie.Else-not-has_number) → has (get_or (start c.before.before).args.head.domains (c.wide-l.result - 1) 0) (start c.before.before).args.value ≡ true
+listed c = sym c.has_number.ensures ∙ c.if-not-has_number.false
 
-partner-of-requires : tie.Need-partner-of-requires
+partner-of-requires : tie.Need-partner_of-requires
 partner-of-requires c κs =
-    let w = c.before.before in
-    let p = (start w).requires in (
-      omega (arith, w.wide.ensures, p.2, p.4),
+    let w = c in
+    let p = (start c.before.before).requires in (
+      omega (arith, w.wide-l.ensures, p.2, p.4),
       omega (arith, p.1, p.2),
-      leader_other _ (shaped (start w)) p.0 _ _ (leader-is w),
-      has-below 32 _ _ (listed c) ((shaped (start w)).domains_array.element_lt _),
+      leader_other _ (shaped (start c.before.before)) p.0 _ _ (leader-is c.before.before),
+      has-below 32 _ _ (listed c) ((shaped (start c.before.before)).domains_array.element_lt _),
     )
 
-returns-2 : tie.Need-returns-2
+returns-2 : tie.Need-returns
 unfolding value_told
 returns-2 c =
-    let w = c.before.before.before in
-    let p = (start w).requires in
-    ap (told 0) c.partner-of.ensures ∙ listed-taken _ p.0 _ _ _ p.1 (leader-is w) (shaped (start w)) (listed c.before)
+    let w = c in
+    let p = (start c.before.before.before).requires in
+    ap (told 0) c.partner_of.ensures ∙ listed-taken _ p.0 _ _ _ p.1 (leader-is c.before.before.before) (shaped (start c.before.before.before)) (listed c.before)
 
-pub follower-at-spec : {M : Type 1} → statement M
-follower-at-spec =
+pub follower_at_spec : {M : Type 1} → statement M
+follower_at_spec =
     tie.close
     (tie.spec
     (λ c. search rules)
