@@ -10,56 +10,56 @@ use Rattle.state_verdict.proofs.Verdicts.{told_none, told-open, told-built, lowe
 use Rattle.state_verdict.proofs.verdict_of.Statement.{statement}
 use Rattle.state_verdict.proofs.verdict_of.Tie as tie
 
-shaped : (c : tie.Start) → HeadShaped c.args.t1
+shaped : (c : tie.Start) → HeadShaped c.args.head
 shaped c = search shape
 
-abbrev start : tie.After-domains-open → tie.Start
-start c = c.before.before.before.before
+abbrev start : tie.After-domains_open → tie.Start
+start c = c.before.before.before
 
 -- Past the first test each free variable has a value left.
-left : (c : tie.Else1) → let h = (start c.before).args.t1 in domains_open h.n h.leaders h.domains ≡ true
-left c = sym c.before.domains-open.ensures ∙ not-false _ c.if1.false
+left : (c : tie.Else-not-domains_open) → let h = (start c.before).args.head in domains_open h.n h.leaders h.domains ≡ true
+left c = sym c.domains_open.ensures ∙ c.if-not-domains_open.false
 
-domains-open-requires : tie.Need-domains-open-requires
-domains-open-requires c κs = held-n _ _ c.before.before.before.requires
+domains-open-requires : tie.Need-domains_open-requires
+domains-open-requires c κs = held-n _ _ c.requires
 
-returns : tie.Need-returns
+returns : tie.Need-returns-then-not-domains_open
 unfolding verdict_told
 returns c =
     let s = start c.before in
-    told_none _ (shaped s) s.pre (sym c.before.domains-open.ensures ∙ not-true _ c.if1.true)
+    told_none _ (shaped s) s.requires (sym c.domains_open.ensures ∙ c.if-not-domains_open.true)
 
-free-apart-requires : tie.Need-free-apart-requires
-free-apart-requires c κs = held-n _ _ (start c.before.before.before.before).requires
+free-apart-requires : tie.Need-free_apart-requires
+free-apart-requires c κs = held-n _ _ (start c.before.before.before).requires
 
-returns-2 : tie.Need-returns-2
+returns-2 : tie.Need-returns-then-not-free_apart
 unfolding verdict_told
 returns-2 c =
-    let e = c.before.before.before.before.before in
-    let s = start e.before in
-    told-open _ (shaped s) s.pre (left e) (sym c.before.free-apart.ensures ∙ not-true _ c.if2.true)
+    let e = c in
+    let s = start c.before.before.before.before.before in
+    told-open _ (shaped s) s.requires (left c.before.before.before.before) (sym c.free_apart.ensures ∙ c.if-not-free_apart.true)
 
 -- Past the second no two free variables are stated together.
-abbrev first : tie.Else2 → tie.Else1
-first c = c.before.before.before.before.before
+abbrev first : tie.Else-not-free_apart → tie.Else-not-domains_open
+first c = c.before.before.before.before
 
-lowest-solution-requires : tie.Need-lowest-solution-requires
+lowest-solution-requires : tie.Need-lowest_solution-requires
 lowest-solution-requires c κs =
-    let e = first c.before.before.before in
+    let e = first c.before.before in
     let s = start e.before in
-    lowest-led _ (shaped s) s.pre (left e)
+    lowest-led _ (shaped s) s.requires (left e)
 
-returns-3 : tie.Need-returns-3
+returns-3 : tie.Need-returns
 unfolding verdict_told
 returns-3 c =
-    let f = c.before.before.before.before in
-    let e = first f in
+    let f = c in
+    let e = first c.before.before.before in
     let s = start e.before in
-    told-built _ (shaped s) s.pre (left e) _ (search rules)
-    (sym f.before.free-apart.ensures ∙ not-false _ f.if2.false) c.lowest-solution.ensures
+    told-built _ (shaped s) s.requires (left e) _ (search rules)
+    (sym f.free_apart.ensures ∙ f.if-not-free_apart.false) c.lowest_solution.ensures
 
-pub verdict-of-spec : {M : Type 1} → statement M
-verdict-of-spec =
+pub verdict_of_spec : {M : Type 1} → statement M
+verdict_of_spec =
     tie.close
     (tie.spec
     domains-open-requires

@@ -7,12 +7,12 @@ use Rattle.state.proofs.Solutions.{verdict-refused}
 use Rattle.state_verdict.proofs.verdict_parts.Statement.{statement}
 use Rattle.state_verdict.proofs.verdict_parts.Tie as tie
 
-returns : tie.Need-returns
+returns : tie.Need-returns-then-not-sound_parts
 unfolding verdict_told
-returns c = sym (verdict-refused _ (sym c.before.sound-parts.ensures ∙ not-true _ c.if1.true))
+returns c = sym (verdict-refused _ (sym c.sound_parts.ensures ∙ c.if-not-sound_parts.true))
 
-verdict-of-requires : tie.Need-verdict-of-requires
-verdict-of-requires c κs = sym c.before.sound-parts.ensures ∙ not-false _ c.if1.false
+verdict-of-requires : tie.Need-verdict_of-requires
+verdict-of-requires c κs = sym c.sound_parts.ensures ∙ c.if-not-sound_parts.false
 
-pub verdict-parts-spec : {M : Type 1} → statement M
-verdict-parts-spec = tie.close (tie.spec (λ c κs. search rules) returns verdict-of-requires (λ c. search rules))
+pub verdict_parts_spec : {M : Type 1} → statement M
+verdict_parts_spec = tie.close (tie.spec (λ c κs. search rules) returns verdict-of-requires (λ c. search rules))

@@ -41,7 +41,7 @@ abbrev tested : tie.After-extent_of-extent → tie.After-fits_version-fits
 tested c = (passed c).before
 
 abbrev past : tie.After-extent_of-extent → tie.After-fresh_parts-fresh
-past c = (tested c).before.before.before
+past c = (tested c).before.before
 
 abbrev sound : tie.After-extent_of-extent → tie.Else-not-sound_parts
 sound c = (past c).before
@@ -69,14 +69,14 @@ length-measured c v p =
 is_fresh : (c : tie.Else-not-fresh) → fresh (told c.before) ≡ true
 is_fresh c = fresh-measured c.before ∙ c.if-not-fresh.false
 
-fits : (c : tie.Else-not-fits) → let m = c in fits_version (layout_of (start (sound m)).args.version) (told m) ≡ true
+fits : (c : tie.Else-not-fits) → let m = c.before.before in fits_version (layout_of (start (sound m)).args.version) (told m) ≡ true
 fits c = fits-measured c.before.before ∙ c.if-not-fits.false
 
 pass : (c : tie.Else-not-passes) → let m = c.before.before.before in rows_pass (layout_of (start (sound m)).args.version) (told m) ≡ true
 pass c = pass-measured c.before.before.before ∙ c.if-not-passes.false
 
 room : (c : tie.Else-buffer-length)
-    → let a = (start (sound c.before.before.before.before)).args in length (bytes_held a.version a.head a.rows.now) ≤ length a.buffer-1.now
+    → let a = (start (sound c.before.before.before.before)).args in length (bytes_held a.version a.head a.rows.now) ≤ length a.buffer.now
 room c = let p = c in omega (arith, c.if-buffer-length.false, length-measured c.before.before.before.before (fits c.before.before) (pass c.before))
 
 returns : tie.Need-returns-then-not-sound_parts
