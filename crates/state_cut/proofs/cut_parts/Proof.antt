@@ -8,40 +8,40 @@ use Rattle.state_cut.proofs.Cuts.{state_read, cut-refused, cut-read, cut-sound, 
 use Rattle.state_cut.proofs.cut_parts.Statement.{statement}
 use Rattle.state_cut.proofs.cut_parts.Tie as tie
 
-abbrev read : tie.After-enum-told → tie.After-read-parts
-read c = c.before.before.before
+abbrev read : tie.In_default → tie.After-read_parts-read
+read c = c.before.before
 
 -- The bytes are read as a sound state.
-read_as : (c : tie.After-enum-told) → AsRead (state_read _ (read c).read-parts.result _ (read c).read-parts.ensures)
+read_as : (c : tie.In_default) → AsRead (state_read _ (read c).read_parts-read.result _ (read c).read_parts-read.ensures)
 read_as c =
-    cut-read _ (read c).read-parts.result _ (read c).read-parts.ensures
-    (λ k. omega (arith, (read c).before.before.shared-slice-known.given k)) c.enum_told.given.1
+    cut-read _ (read c).read_parts-read.result _ (read c).read_parts-read.ensures
+    (λ k. omega (arith, (read c).shared_slice_known-1.given k)) c.in_default.is
 
-returns : tie.Need-returns
+returns : tie.Need-returns-in-Refused
 returns c =
-    let r = c.before.before.before.before.read-parts in
-    cut-refused _ r.result _ r.ensures c.before.outcome.given.1
+    let r = c.read_parts-read in
+    cut-refused _ r.result _ r.ensures c.in-Refused.is
 
-reduce-sound-requires : tie.Need-reduce-sound-requires
+reduce-sound-requires : tie.Need-reduce_sound-cut-requires
 reduce-sound-requires c κs = let r = read_as c.before in (r.read_shaped.rows_shaped, r.is_sound)
 
-verdict-of-requires : tie.Need-verdict-of-requires
+verdict-of-requires : tie.Need-verdict_of-decided-requires
 verdict-of-requires c κs =
-    let d = c.before.before in
-    let t = d.before.before in
-    let a = (read t).read-parts in
-    cut-sound _ a.result _ a.ensures (read_as t) (reduction-told _ _ (read_as t).is_sound d.reduce-sound.ensures)
+    let d = c in
+    let t = d in
+    let a = (read c.before.before.before).read_parts-read in
+    cut-sound _ a.result _ a.ensures (read_as c.before.before.before) (reduction-told _ _ (read_as c.before.before.before).is_sound d.reduce_sound-cut.ensures)
 
-returns-2 : tie.Need-returns-2
+returns-2 : tie.Need-returns
 unfolding cut_parts_told
 returns-2 c =
-    let d = c.before.before.before.before in
-    let t = d.before.before in
-    let a = (read t).read-parts in
-    cut-accepted _ a.result _ a.ensures (read_as t) (reduction-told _ _ (read_as t).is_sound d.reduce-sound.ensures) t.enum_told.given.1 c.before.verdict-of.ensures
+    let d = c in
+    let t = d in
+    let a = (read c.before.before.before.before.before).read_parts-read in
+    cut-accepted _ a.result _ a.ensures (read_as c.before.before.before.before.before) (reduction-told _ _ (read_as c.before.before.before.before.before).is_sound d.reduce_sound-cut.ensures) t.in_default.is c.verdict_of-decided.ensures
 
-pub cut-parts-spec : {M : Type 1} → statement M
-cut-parts-spec =
+pub cut_parts_spec : {M : Type 1} → statement M
+cut_parts_spec =
     tie.close
     (tie.spec
     (λ c κs. search rules)

@@ -9,11 +9,11 @@ use Rattle.stock.proofs.bin_of.Tie as tie
 
 returns : tie.Need-returns
 returns c =
-    let a = c.before.before.args in
-    ap (λ (k : ℕ). bin_of_place (a.o + 1, get_or a.t2 a.o 0) (get_or a.counts.now k 0)) c.before.spot_of_lem.ensures
+    let a = c.args in
+    ap (λ (k : ℕ). bin_of_place (a.o + 1, get_or a.values a.o 0) (get_or a.counts.now k 0)) c.spot_of-at.ensures
 
-pub bin-of-spec : {M : Type 1} → statement M
-bin-of-spec =
+pub bin_of_spec : {M : Type 1} → statement M
+bin_of_spec =
     tie.close
     (tie.spec
     (λ c κs. search rules)

@@ -19,7 +19,7 @@ use Rattle.stock.proofs.deliver_counts.Statement.{statement}
 use Rattle.stock.proofs.deliver_counts.Tie as tie
 
 -- Past the first test it is a value of the head, whose index lies in the array.
-module _ (c : tie.Else1) where
+module _ (c : tie.Else-not-has_value) where
   abbrev start : tie.Start
   start = c.before.before
 
@@ -27,7 +27,7 @@ module _ (c : tie.Else1) where
   head = start.args.head
 
   is-value : (rows : List ℕ) → has_value (state_of head rows) start.args.variable start.args.value ≡ true
-  is-value rows = sym (c.before.has_value.ensures rows) ∙ not-false _ c.if1.false
+  is-value rows = sym (c.has_value.ensures rows) ∙ c.if-not-has_value.false
 
   from : 1 ≤ start.args.variable
   from = value-from (state_of head []) _ _ (is-value [])
@@ -35,59 +35,59 @@ module _ (c : tie.Else1) where
   to : start.args.variable ≤ head.n
   to = value-to (state_of head []) _ _ (is-value [])
 
-  below : start.args.value < get_or head.sizes (start.args.variable - 1) 0
+  below : start.args.value < get_or head.sizes-1 (start.args.variable - 1) 0
   below = value-below (state_of head []) _ _ (is-value [])
 
-  inside : spot head.sizes (start.args.variable - 1) start.args.value < 512
-  inside = spot_in head start.pre.0 (start.args.variable - 1) start.args.value (omega (arith, from, to)) below
+  inside : spot head.sizes-1 (start.args.variable - 1) start.args.value < 512
+  inside = spot_in head start.requires.0 (start.args.variable - 1) start.args.value (omega (arith, from, to)) below
 
-at-array : (c : tie.After-spot) → c.spot.result < 512
-at-array c = omega (arith, c.spot.ensures, inside c.before.before)
+at-array : (c : tie.After-spot-at) → c.spot-at.result < 512
+at-array c = omega (arith, c.spot-at.ensures, inside c.before.before)
 
-returns : tie.Need-returns
-returns c = λ rows t. no_value _ t _ _ _ _ (sym (c.before.has_value.ensures rows) ∙ not-true _ c.if1.true)
+returns : tie.Need-returns-then-not-has_value
+returns c = λ rows t. no_value _ t _ _ _ _ (sym (c.has_value.ensures rows) ∙ c.if-not-has_value.true)
 
-sub-spot : tie.Need-overflow-sub-spot
+sub-spot : tie.Need-overflow_sub-variable
 sub-spot c = from c.before
 
-spot-requires : tie.Need-spot-requires
+spot-requires : tie.Need-spot-at-requires
 spot-requires c κs =
     let e = c.before in
     (omega (arith, to e, (start e).requires.0.n_most), omega (arith, below e, (start e).requires.0.size_most ((start e).args.variable - 1)))
 
-mul-count : tie.Need-overflow-mul-count
+mul-count : tie.Need-offset_bounds-counts-at
 mul-count c = let l = at-array c in search rules
 
-element-copy-out-count : tie.Need-element-copy-out-count
-element-copy-out-count c = at-array c
+element-copy-out-count : tie.Need-bounds-counts-at
+element-copy-out-count c = at-array c.before
 
-returns-2 : tie.Need-returns-2
+returns-2 : tie.Need-returns-then-amount-count
 returns-2 c = λ rows t.
-    let p = c.before.before in
+    let p = c in
     let e = p.before.before in
     let a = (start e).args in
     too_many _ t _ _ _ _ (is-value e rows)
-    (le-leb _ _ (subst (λ (k : ℕ). 2 ^ 32 ≤ get_or a.counts.now k 0 + a.amount) p.spot.ensures (beyond a.amount _ (search rules) c.if2.true)))
+    (le-leb _ _ (subst (λ (k : ℕ). 2 ^ 32 ≤ get_or a.counts.now k 0 + a.amount) p.spot-at.ensures (beyond a.amount _ (search rules) c.if-amount-count.true)))
 
-mul-counts : tie.Need-overflow-mul-counts
-mul-counts c = let l = at-array c.before.before in search rules
+mul-counts : tie.Need-offset_bounds-counts-at-2
+mul-counts c = let l = at-array c.before.before.before in search rules
 
-element-write-counts : tie.Need-element-write-counts
-element-write-counts c = at-array c.before.before
+element-write-counts : tie.Need-bounds-counts-at-2
+element-write-counts c = at-array c.before.before.before
 
-returns-3 : tie.Need-returns-3
+returns-3 : tie.Need-returns
 unfolding changed_at
 returns-3 c = λ rows t.
-    let p = c.before.before in
+    let p = c in
     let e = p.before.before in
     let a = (start e).args in
     subst (λ (k : ℕ). CountsDelivered (state_of a.head rows) a.counts.now (set a.counts.now k (get_or a.counts.now k 0 + a.amount)) a.variable a.value a.amount 0)
-    (sym p.spot.ensures)
+    (sym p.spot-at.ensures)
     (taken _ t _ _ _ _ (is-value e rows) (omega (arith, inside e, (start e).requires.1))
-    (lt-leb _ _ (subst (λ (k : ℕ). get_or a.counts.now k 0 + a.amount < 2 ^ 32) p.spot.ensures (within a.amount _ (search rules) c.if2.false))))
+    (lt-leb _ _ (subst (λ (k : ℕ). get_or a.counts.now k 0 + a.amount < 2 ^ 32) p.spot-at.ensures (within a.amount _ (search rules) c.if-amount-count.false))))
 
-pub deliver-counts-spec : {M : Type 1} → statement M
-deliver-counts-spec =
+pub deliver_counts_spec : {M : Type 1} → statement M
+deliver_counts_spec =
     tie.close
     (tie.spec
     (λ c κs. search rules)

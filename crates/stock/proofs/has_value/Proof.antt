@@ -10,23 +10,23 @@ use borrow.Author.Rules.{rules}
 use Rattle.stock.proofs.has_value.Statement.{statement}
 use Rattle.stock.proofs.has_value.Tie as tie
 
-returns : tie.Need-returns
+returns : tie.Need-returns-then-variable-lt1
 unfolding has_value
-returns c = λ rows. sym (and-fails _ _ (and-fails _ _ (le-ltb 0 c.before.args.variable (omega arith))))
+returns c = λ rows. sym (and-fails _ _ (and-fails _ _ (le-ltb 0 c.args.variable (omega arith))))
 
-returns-2 : tie.Need-returns-2
+returns-2 : tie.Need-returns-then-head-variable
 unfolding has_value
-returns-2 c = λ rows. sym (and-fails _ _ (ap (and _) (lt-leb _ _ c.if2.true) ∙ and-false _))
+returns-2 c = λ rows. sym (and-fails _ _ (ap (and _) (lt-leb _ _ c.if-head-variable.true) ∙ and-false _))
 
-returns-3 : tie.Need-returns-3
+returns-3 : tie.Need-returns
 unfolding has_value
 returns-3 c = λ rows.
-    let n = c.before in
-    let l : 0 < n.before.before.before.args.variable = omega arith in
-    sym (and-holds _ _ (and_i _ _ (lt-ltb _ _ l) (le-leb _ _ n.if2.false)))
+    let n = c in
+    let l : 0 < n.args.variable = omega arith in
+    sym (and-holds _ _ (and_i _ _ (lt-ltb _ _ l) (le-leb _ _ n.if-head-variable.false)))
 
-pub has-value-spec : {M : Type 1} → statement M
-has-value-spec =
+pub has_value_spec : {M : Type 1} → statement M
+has_value_spec =
     tie.close
     (tie.spec
     returns

@@ -6,14 +6,14 @@ use Rattle.plan_state.proofs.Laws.{no-conditions, conditions}
 use Rattle.plan_state.proofs.plan.put_conditions.Statement.{statement}
 use Rattle.plan_state.proofs.plan.put_conditions.Tie as tie
 
-returns : tie.Need-returns
-returns c = rw (no-conditions _ _ (sym c.before.no_build.ensures ∙ c.if1.true)) (put-none _ _)
+returns : tie.Need-returns-then-no_build
+returns c = rw (no-conditions _ _ (sym c.no_build.ensures ∙ c.if-no_build.true)) (put-none _ _)
 
-returns-2 : tie.Need-returns-2
-returns-2 c = rw (conditions _ _ (sym c.before.before.before.before.before.no_build.ensures ∙ c.before.before.before.before.if1.false)) c.before.before.put-ifs.ensures
+returns-2 : tie.Need-returns
+returns-2 c = rw (conditions _ _ (sym c.no_build.ensures ∙ c.if-no_build.false)) c.put_ifs.ensures
 
-pub put-conditions-spec : {M : Type 1} → statement M
-put-conditions-spec =
+pub put_conditions_spec : {M : Type 1} → statement M
+put_conditions_spec =
     tie.close
     (tie.spec
     (λ c κs. search rules)

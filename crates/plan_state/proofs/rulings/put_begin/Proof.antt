@@ -7,21 +7,17 @@ use Rattle.plan_state.proofs.rulings.put_begin.Tie as tie
 
 returns : tie.Need-returns
 unfolding ascii
-returns c = begin-put _ _ _ c.before.before.before.before.before.before.before.before.steps.ensures c.before.before.before.before.before.before.before.before.before.before.before.before.before.before.before.before.before.before.before.before.before.before.put-titled.ensures c.before.before.before.before.before.before.before.before.before.before.before.before.before.before.before.before.before.put-text.ensures c.before.before.before.before.before.before.before.before.before.before.before.before.before.put-options.ensures c.before.before.before.before.before.before.before.put-titled2.ensures c.before.before.put-text2.ensures
+returns c = begin-put _ _ _ c.steps.ensures c.put_titled-counted.ensures c.put_text-begun.ensures c.put_options-listed.ensures c.put_titled-stepped.ensures c.put_text.ensures
 
-pub put-begin-spec : {M : Type 1} → statement M
-put-begin-spec =
+pub put_begin_spec : {M : Type 1} → statement M
+put_begin_spec =
     tie.close
     (tie.spec
-    (λ c. search rules)
-    (λ c κs. search rules)
-    (λ c. search rules)
     (λ c κs. search rules)
     (λ c κs. search rules)
-    (λ c. search rules)
     (λ c κs. search rules)
     (λ c κs. search rules)
-    (λ c. search rules)
+    (λ c κs. search rules)
     (λ c κs. search rules)
     (λ c. search rules)
     returns)

@@ -9,19 +9,18 @@ use Rattle.plan_state.proofs.Laws.{found-put, found-le}
 use Rattle.plan_state.proofs.rulings.put_found.Statement.{statement}
 use Rattle.plan_state.proofs.rulings.put_found.Tie as tie
 
-values-fit : (c : tie.After-search-parts) (k : ℕ) → Fits w8 (get_or c.search-parts.result.solution k 0)
+values-fit : (c : tie.After-search_parts-found) (k : ℕ) → Fits w8 (get_or c.search_parts-found.result.solution k 0)
 values-fit c k = search rules
 
 returns : tie.Need-returns
 unfolding ascii
-returns c = let a = c.before.before.before.before.before.before.before.before.before.before.before in (found-put _ a.search-parts.ensures c.before.before.before.before.before.before.before.put-text.ensures c.before.before.put-ruling.ensures, found-le _ a.search-parts.result.verdict _ a.search-parts.ensures c.before.before.before.before.before.before.before.before.before.before.before.before.before.requires (λ k. (values-fit a k).fits))
+returns c = let a = c in (found-put _ a.search_parts-found.ensures c.put_text-titled.ensures c.put_ruling.ensures, found-le _ a.search_parts-found.result.verdict _ a.search_parts-found.ensures c.requires (λ k. (values-fit c.before.before.before.before.before.before.before.before.before.before.before.before k).fits))
 
-pub put-found-spec : {M : Type 1} → statement M
-put-found-spec =
+pub put_found_spec : {M : Type 1} → statement M
+put_found_spec =
     tie.close
     (tie.spec
     (λ c κs. search rules)
-    (λ c. search rules)
     (λ c κs. search rules)
     (λ c κs. search rules)
     (λ c. search rules)

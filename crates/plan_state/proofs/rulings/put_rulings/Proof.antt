@@ -11,25 +11,24 @@ use Rattle.head.proofs.Held.{held-n}
 use Rattle.plan_state.proofs.rulings.put_rulings.Statement.{statement}
 use Rattle.plan_state.proofs.rulings.put_rulings.Tie as tie
 
-values-fit : (c : tie.After-verdict-of) (k : ℕ) → Fits w8 (get_or c.verdict-of.result.solution k 0)
+values-fit : (c : tie.After-verdict_of-shown) (k : ℕ) → Fits w8 (get_or c.verdict_of-shown.result.solution k 0)
 values-fit c k = search rules
 
-put-ruling-requires : tie.Need-put-ruling-requires
-put-ruling-requires c κs = held-n _ _ c.before.before.before.before.before.before.before.before.before.before.requires
+put-ruling-requires : tie.Need-put_ruling-ruled-requires
+put-ruling-requires c κs = held-n _ _ c.requires
 
-put-search-requires : tie.Need-put-search-requires
-put-search-requires c κs = held-n _ _ c.before.before.before.before.before.before.before.before.before.before.before.before.before.before.requires
+put-search-requires : tie.Need-put_search-requires
+put-search-requires c κs = held-n _ _ c.requires
 
 returns : tie.Need-returns
 unfolding ascii
-returns c = let a = c.before.before.before.before.before.before.before.before.before.before.before.before.before.before.before in let s = c.before.before.put-search.ensures a.verdict-of.result.solution in (rulings-put _ a.verdict-of.result.verdict _ a.verdict-of.ensures c.before.before.before.before.before.before.before.before.before.before.before.put-text.ensures c.before.before.before.before.before.before.put-ruling.ensures s.0, rulings-le _ a.verdict-of.result.verdict _ a.verdict-of.ensures (held-n _ _ c.before.before.before.before.before.before.before.before.before.before.before.before.before.before.before.before.before.requires) (λ k. (values-fit a k).fits) s.1)
+returns c = let a = c in let s = c.put_search.ensures a.verdict_of-shown.result.solution in (rulings-put _ a.verdict_of-shown.result.verdict _ a.verdict_of-shown.ensures c.put_text-titled.ensures c.put_ruling-ruled.ensures s.0, rulings-le _ a.verdict_of-shown.result.verdict _ a.verdict_of-shown.ensures (held-n _ _ c.requires) (λ k. (values-fit c.before.before.before.before.before.before.before.before.before.before.before.before.before.before.before.before k).fits) s.1)
 
-pub put-rulings-spec : {M : Type 1} → statement M
-put-rulings-spec =
+pub put_rulings_spec : {M : Type 1} → statement M
+put_rulings_spec =
     tie.close
     (tie.spec
     (λ c κs. search rules)
-    (λ c. search rules)
     (λ c κs. search rules)
     put-ruling-requires
     put-search-requires

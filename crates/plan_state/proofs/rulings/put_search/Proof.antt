@@ -8,24 +8,24 @@ use Rattle.plan_state.specs.Plan.{search_line}
 use Rattle.plan_state.proofs.rulings.put_search.Statement.{statement}
 use Rattle.plan_state.proofs.rulings.put_search.Tie as tie
 
-returns : tie.Need-returns
+returns : tie.Need-returns-in-None
 unfolding verdict_told search_line
-returns c = λ build. rw c.enum_told.given.1 (put-none _ _, omega arith)
+returns c = λ build. rw c.in-None.is (put-none _ _, omega arith)
 
-returns-2 : tie.Need-returns-2
+returns-2 : tie.Need-returns-in-Built
 unfolding verdict_told search_line
-returns-2 c = λ build. rw c.enum-told2.given.1 (put-none _ _, omega arith)
+returns-2 c = λ build. rw c.in-Built.is (put-none _ _, omega arith)
 
-returns-3 : tie.Need-returns-3
+returns-3 : tie.Need-returns-in-Open
 unfolding verdict_told search_line
-returns-3 c = λ build. rw c.before.before.before.before.enum-told3.given.1 c.before.before.put-found.ensures
+returns-3 c = λ build. rw c.in-Open.is c.put_found.ensures
 
-returns-4 : tie.Need-returns-4
+returns-4 : tie.Need-returns-in-Refused
 unfolding verdict_told search_line
-returns-4 c = λ build. rw c.enum-told4.given.1 (put-none _ _, omega arith)
+returns-4 c = λ build. rw c.in-Refused.is (put-none _ _, omega arith)
 
-pub put-search-spec : {M : Type 1} → statement M
-put-search-spec =
+pub put_search_spec : {M : Type 1} → statement M
+put_search_spec =
     tie.close
     (tie.spec
     (λ c. search rules)

@@ -7,13 +7,12 @@ use Rattle.plan_state.proofs.survey.put_maybe.Tie as tie
 
 returns : tie.Need-returns
 unfolding ascii
-returns c = maybe-put _ _ _ c.before.before.before.before.before.before.put-stock.ensures c.before.before.put-idle.ensures
+returns c = maybe-put _ _ _ c.put_stock-open.ensures c.put_idle.ensures
 
-pub put-maybe-spec : {M : Type 1} → statement M
-put-maybe-spec =
+pub put_maybe_spec : {M : Type 1} → statement M
+put_maybe_spec =
     tie.close
     (tie.spec
-    (λ c. search rules)
     (λ c κs. search rules)
     (λ c κs. search rules)
     (λ c. search rules)

@@ -4,20 +4,20 @@ use Rattle.plan_state.proofs.Laws.{survey-done, survey-refused, maybe-le}
 use Rattle.plan_state.proofs.survey.put_survey.Statement.{statement}
 use Rattle.plan_state.proofs.survey.put_survey.Tie as tie
 
-put-maybe-requires : tie.Need-put-maybe-requires
-put-maybe-requires c κs = (c.before.before.before.before.before.before.before.before.requires.0, c.before.before.before.before.before.before.before.before.requires.1)
+put-maybe-requires : tie.Need-put_maybe-requires
+put-maybe-requires c κs = (c.requires.0, c.requires.1)
 
-returns : tie.Need-returns
-returns c = let s = c.before.before.before.before.before.before.before.before.before.before.before in rw (survey-refused s.args.survey _ _ _ c.before.before.before.before.before.before.before.enum-told2.given.1) (c.before.before.put-maybe.ensures, maybe-le _ _ _ s.requires.0)
+returns : tie.Need-returns-in_default
+returns c = let s = c in rw (survey-refused s.args.survey _ _ _ c.in_default.is) (c.put_maybe.ensures, maybe-le _ _ _ s.requires.0)
 
-put-used-requires : tie.Need-put-used-requires
-put-used-requires c κs = (c.before.before.before.before.before.before.requires.0, c.before.before.before.before.before.before.requires.1)
+put-used-requires : tie.Need-put_used-requires
+put-used-requires c κs = (c.requires.0, c.requires.1)
 
-returns-2 : tie.Need-returns-2
-returns-2 c = let s = c.before.before.before.before.before.before.before.before.before in rw (survey-done s.args.survey _ _ _ c.before.before.before.before.before.enum_told.given.1) c.before.before.put-used.ensures
+returns-2 : tie.Need-returns
+returns-2 c = let s = c in rw (survey-done s.args.survey _ _ _ c.in-Done.is) c.put_used.ensures
 
-pub put-survey-spec : {M : Type 1} → statement M
-put-survey-spec =
+pub put_survey_spec : {M : Type 1} → statement M
+put_survey_spec =
     tie.close
     (tie.spec
     (λ c. search rules)

@@ -12,13 +12,12 @@ count_fits c = search rules
 
 returns : tie.Need-returns
 unfolding ascii
-returns c = let s = c.before.before.before.before.before.before.before.before.before.before.before.before.before.before.before.before.before in (used-put s.args.survey _ _ c.before.before.before.before.before.before.before.before.before.before.before.put-stock.ensures c.before.before.before.before.before.before.put-idle.ensures c.before.before.put-builds.ensures, used_le s.args.survey _ _ s.requires.0 (count_fits s).ranges)
+returns c = let s = c in (used-put s.args.survey _ _ c.put_stock-used.ensures c.put_idle-idle.ensures c.put_builds.ensures, used_le s.args.survey _ _ s.requires.0 (count_fits c.before.before.before.before.before.before.before.before.before.before.before.before.before.before.before.before.before.before).fits)
 
-pub put-used-spec : {M : Type 1} → statement M
-put-used-spec =
+pub put_used_spec : {M : Type 1} → statement M
+put_used_spec =
     tie.close
     (tie.spec
-    (λ c. search rules)
     (λ c κs. search rules)
     (λ c κs. search rules)
     (λ c κs. search rules)
