@@ -10,30 +10,30 @@ use Rattle.meter.proofs.Fitted.{refuses-unsound, refuses-not-flat, fitted-away, 
 use Rattle.meter.proofs.fit.Statement.{statement}
 use Rattle.meter.proofs.fit.Tie as tie
 
-returns : tie.Need-returns
+returns : tie.Need-returns-then-not-is_sound
 returns c =
-    let t = c.before in
-    c.turned-away.ensures ∙ sym (fitted-away _ 9 (refuses-unsound _ (sym t.before.is_sound.ensures ∙ not-true _ t.if1.true)) (omega arith))
+    let t = c in
+    c.turned_away.ensures ∙ sym (fitted-away _ 9 (refuses-unsound _ (sym t.is_sound.ensures ∙ t.if-not-is_sound.true)) (omega arith))
 
-returns-2 : tie.Need-returns-2
+returns-2 : tie.Need-returns-then-not-is_flat_meter
 returns-2 c =
-    let t = c.before in
-    let e = t.before.before.before in
-    c.turned-away2.ensures
-    ∙ sym (fitted-away _ 25 (refuses-not-flat _ (sym e.before.is_sound.ensures ∙ not-false _ e.if1.false) (sym t.before.is-flat-meter.ensures ∙ not-true _ t.if2.true)) (omega arith))
+    let t = c in
+    let e = t in
+    c.turned_away-then-not-is_flat_meter.ensures
+    ∙ sym (fitted-away _ 25 (refuses-not-flat _ (sym e.is_sound.ensures ∙ e.if-not-is_sound.false) (sym t.is_flat_meter.ensures ∙ t.if-not-is_flat_meter.true)) (omega arith))
 
-returns-3 : tie.Need-returns-3
+returns-3 : tie.Need-returns
 unfolding meter_told told outcome_number
 returns-3 c =
-    let v = c.before in
-    let b = v.before.before in
-    let a = b.before.before in
-    let p = a.before.before in
-    let t = p.before in
-    let e = t.before.before.before in
-    fitted-told _ _ (told a.add_table.result) (told b.reduce.result) _
-    (sym e.before.is_sound.ensures ∙ not-false _ e.if1.false) (sym t.before.is-flat-meter.ensures ∙ not-false _ t.if2.false)
-    p.page-nine.ensures a.add_table.ensures b.reduce.ensures v.verdict.ensures
+    let v = c in
+    let b = v in
+    let a = b in
+    let p = a in
+    let t = p in
+    let e = t in
+    fitted-told _ _ (told a.add_table-added.result) (told b.reduce-cut.result) _
+    (sym e.is_sound.ensures ∙ e.if-not-is_sound.false) (sym t.is_flat_meter.ensures ∙ t.if-not-is_flat_meter.false)
+    p.page_nine-table.ensures a.add_table-added.ensures b.reduce-cut.ensures v.verdict-shown.ensures
 
 pub fit_spec : {M : Type 1} → statement M
 fit_spec =

@@ -7,14 +7,14 @@ use Rattle.meter.proofs.is_flat_meter.Tie as tie
 use Rattle.meter.proofs.is_flat_meter.Reads as reads
 use Rattle.meter.proofs.is_flat_meter.Lts as lts
 
-returns : tie.Need-returns
+returns : tie.Need-returns-then-n-lt2
 returns c = sym (few-options _ _ (search rules))
 
-returns-2 : tie.Need-returns-2
+returns-2 : tie.Need-returns-then-sizes-ne4
 returns-2 c = sym (other-cell _ _ (search rules))
 
-returns-3 : tie.Need-returns-3
+returns-3 : tie.Need-returns
 returns-3 c = sym (flat-by-interval _ _ (search rules) (search rules))
 
-pub is-flat-meter-spec : {M : Type 1} → statement M
-is-flat-meter-spec = tie.close (tie.spec returns (λ c. search rules) returns-2 (λ c. search rules) returns-3)
+pub is_flat_meter_spec : {M : Type 1} → statement M
+is_flat_meter_spec = tie.close (tie.spec returns (λ c. search rules) returns-2 (λ c. search rules) returns-3)

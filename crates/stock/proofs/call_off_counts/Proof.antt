@@ -87,7 +87,7 @@ draw-requires c κs = let e = c.before.before.before.before.before in (n_most (s
 
 returns-3 : tie.Need-returns
 returns-3 c =
-    let d = c.before in
+    let d = c in
     let l = d in
     let e = l.before.before.before in
     let a = (start e).args in

@@ -6,7 +6,7 @@ use Rattle.sheet.proofs.sheets.cut.Tie as tie
 
 returns : tie.Need-returns
 unfolding cut_told cut_parts_told
-returns c = rw c.state-of.ensures c.before.before.before.cut_parts.ensures
+returns c = rw c.state_of-state.ensures c.cut_parts-cut.ensures
 
 pub cut_spec : {M : Type 1} → statement M
 cut_spec = tie.close (tie.spec (λ c κs. search rules) (λ c κs. search rules) returns)

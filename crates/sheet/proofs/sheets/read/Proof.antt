@@ -6,7 +6,7 @@ use Rattle.sheet.proofs.sheets.read.Tie as tie
 
 returns : tie.Need-returns
 unfolding read_told read_parts_told
-returns c = rw c.state-of.ensures c.before.before.read-parts.ensures
+returns c = rw c.state_of-state.ensures c.read_parts-read.ensures
 
 pub read_spec : {M : Type 1} → statement M
 read_spec = tie.close (tie.spec (λ c κs. search rules) (λ c κs. search rules) returns)

@@ -6,7 +6,7 @@ use Rattle.sheet.proofs.sheets.read_paired.Tie as tie
 
 returns : tie.Need-returns
 unfolding read_told read_parts_told
-returns c = rw c.state-of.ensures c.before.before.read-paired-parts.ensures
+returns c = rw c.state_of-state.ensures c.read_paired_parts-read.ensures
 
-pub read-paired-spec : {M : Type 1} → statement M
-read-paired-spec = tie.close (tie.spec (λ c κs. search rules) (λ c κs. search rules) returns)
+pub read_paired_spec : {M : Type 1} → statement M
+read_paired_spec = tie.close (tie.spec (λ c κs. search rules) (λ c κs. search rules) returns)

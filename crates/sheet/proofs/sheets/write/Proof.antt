@@ -6,9 +6,9 @@ use Rattle.sheet.proofs.sheets.write.Tie as tie
 
 returns : tie.Need-returns
 returns c =
-    let p = c.before.before in
-    let d = p.before.before.before.before in
-    rw (state-whole d.before.before.args.t1 _ d.head_in.ensures) at p.write-parts.ensures
+    let p = c in
+    let d = p in
+    rw (state-whole d.args.state _ d.head_in.ensures) at p.write_parts.ensures
 
 pub write_spec : {M : Type 1} → statement M
 write_spec = tie.close (tie.spec (λ c κs. search rules) (λ c κs. search rules) (λ c. search rules) returns)

@@ -6,9 +6,9 @@ use Rattle.sheet.proofs.states.complete.Tie as tie
 
 returns : tie.Need-returns
 returns c =
-    let p = c.before.before in
-    let d = p.before.before.before.before in
-    rw (state-whole d.before.before.args.t1 _ d.head_in.ensures) at p.complete-parts.ensures
+    let p = c in
+    let d = p in
+    rw (state-whole d.args.state _ d.head_in.ensures) at p.complete_parts.ensures
 
-pub complete-spec : {M : Type 1} → statement M
-complete-spec = tie.close (tie.spec (λ c κs. search rules) (λ c κs. search rules) (λ c. search rules) returns)
+pub complete_spec : {M : Type 1} → statement M
+complete_spec = tie.close (tie.spec (λ c κs. search rules) (λ c κs. search rules) (λ c. search rules) returns)

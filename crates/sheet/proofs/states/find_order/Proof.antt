@@ -6,9 +6,9 @@ use Rattle.sheet.proofs.states.find_order.Tie as tie
 
 returns : tie.Need-returns
 returns c =
-    let p = c.before.before in
-    let d = p.before.before.before.before in
-    rw (state-whole d.before.before.args.t1 _ d.head_in.ensures) at p.find-order-parts.ensures
+    let p = c in
+    let d = p in
+    rw (state-whole d.args.state _ d.head_in.ensures) at p.find_order_parts.ensures
 
-pub find-order-spec : {M : Type 1} → statement M
-find-order-spec = tie.close (tie.spec (λ c κs. search rules) (λ c κs. search rules) (λ c. search rules) returns)
+pub find_order_spec : {M : Type 1} → statement M
+find_order_spec = tie.close (tie.spec (λ c κs. search rules) (λ c κs. search rules) (λ c. search rules) returns)

@@ -6,8 +6,8 @@ use Rattle.sheet.proofs.states.follower_value.Tie as tie
 
 returns : tie.Need-returns
 returns c =
-    let d = c.before.before.before in
-    rw (state-whole d.before.args.t1 _ d.head_in.ensures) at c.follower-value-parts.ensures
+    let d = c in
+    rw (state-whole d.args.state _ d.head_in.ensures) at c.follower_value_parts.ensures
 
-pub follower-value-spec : {M : Type 1} → statement M
-follower-value-spec = tie.close (tie.spec (λ c κs. search rules) (λ c κs. search rules) returns)
+pub follower_value_spec : {M : Type 1} → statement M
+follower_value_spec = tie.close (tie.spec (λ c κs. search rules) (λ c κs. search rules) returns)

@@ -5,8 +5,8 @@ use Rattle.sheet.proofs.states.is_sound.Tie as tie
 
 returns : tie.Need-returns
 returns c =
-    let d = c.before.before.before in
-    rw d.head_in.ensures at c.sound-parts.ensures
+    let d = c in
+    rw d.head_in.ensures at c.sound_parts.ensures
 
-pub is-sound-spec : {M : Type 1} → statement M
-is-sound-spec = tie.close (tie.spec (λ c κs. search rules) (λ c κs. search rules) returns)
+pub is_sound_spec : {M : Type 1} → statement M
+is_sound_spec = tie.close (tie.spec (λ c κs. search rules) (λ c κs. search rules) returns)

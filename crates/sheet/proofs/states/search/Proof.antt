@@ -6,8 +6,8 @@ use Rattle.sheet.proofs.states.search.Tie as tie
 
 returns : tie.Need-returns
 returns c =
-    let d = c.before.before.before in
-    rw (state-whole d.before.args.t1 _ d.head_in.ensures) at c.search-parts.ensures
+    let d = c in
+    rw (state-whole d.args.state _ d.head_in.ensures) at c.search_parts.ensures
 
-pub search-spec : {M : Type 1} → statement M
-search-spec = tie.close (tie.spec (λ c κs. search rules) (λ c κs. search rules) returns)
+pub search_spec : {M : Type 1} → statement M
+search_spec = tie.close (tie.spec (λ c κs. search rules) (λ c κs. search rules) returns)

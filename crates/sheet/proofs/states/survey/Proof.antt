@@ -6,8 +6,8 @@ use Rattle.sheet.proofs.states.survey.Tie as tie
 
 returns : tie.Need-returns
 returns c =
-    let d = c.before.before.before in
-    rw (state-whole d.before.args.t1 _ d.head_in.ensures) at c.survey-parts.ensures
+    let d = c in
+    rw (state-whole d.args.state _ d.head_in.ensures) at c.survey_parts.ensures
 
-pub survey-spec : {M : Type 1} → statement M
-survey-spec = tie.close (tie.spec (λ c κs. search rules) (λ c κs. search rules) returns)
+pub survey_spec : {M : Type 1} → statement M
+survey_spec = tie.close (tie.spec (λ c κs. search rules) (λ c κs. search rules) returns)

@@ -6,8 +6,8 @@ use Rattle.sheet.proofs.states.test_order.Tie as tie
 
 returns : tie.Need-returns
 returns c =
-    let d = c.before.before.before in
-    rw (state-whole d.before.before.args.t1 _ d.head_in.ensures) at c.test-order-parts.ensures
+    let d = c in
+    rw (state-whole d.args.state _ d.head_in.ensures) at c.test_order_parts.ensures
 
-pub test-order-spec : {M : Type 1} → statement M
-test-order-spec = tie.close (tie.spec (λ c κs. search rules) (λ c κs. search rules) returns)
+pub test_order_spec : {M : Type 1} → statement M
+test_order_spec = tie.close (tie.spec (λ c κs. search rules) (λ c κs. search rules) returns)

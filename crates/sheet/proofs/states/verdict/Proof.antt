@@ -6,8 +6,8 @@ use Rattle.sheet.proofs.states.verdict.Tie as tie
 
 returns : tie.Need-returns
 returns c =
-    let d = c.before.before.before in
-    rw (state-whole d.before.args.t1 _ d.head_in.ensures) at c.verdict-parts.ensures
+    let d = c in
+    rw (state-whole d.args.state _ d.head_in.ensures) at c.verdict_parts.ensures
 
-pub verdict-spec : {M : Type 1} → statement M
-verdict-spec = tie.close (tie.spec (λ c κs. search rules) (λ c κs. search rules) returns)
+pub verdict_spec : {M : Type 1} → statement M
+verdict_spec = tie.close (tie.spec (λ c κs. search rules) (λ c κs. search rules) returns)

@@ -8,56 +8,52 @@ use Rattle.text_report.specs.Text.{cut_text}
 use Rattle.text_report.proofs.cut.put_cut.Statement.{statement}
 use Rattle.text_report.proofs.cut.put_cut.Tie as tie
 
-put-titled-requires : tie.Need-put-titled-requires
+put-titled-requires : tie.Need-put_titled-counted-requires
 unfolding cut_text ascii
-put-titled-requires c κs = omega (arith, simp length-append at c.before.before.before.requires.1)
+put-titled-requires c κs = omega (arith, simp length-append at c.requires.1)
 
-put-text-requires : tie.Need-put-text-requires
+put-text-requires : tie.Need-put_text-begun-requires
 unfolding cut_text ascii
-put-text-requires c κs = omega (arith, simp length-append at c.before.before.before.before.before.before.before.before.requires.1)
+put-text-requires c κs = omega (arith, simp length-append at c.requires.1)
 
-put-options-requires : tie.Need-put-options-requires
+put-options-requires : tie.Need-put_options-listed-requires
 unfolding cut_text ascii
-put-options-requires c κs = (search rules, omega (arith, simp length-append at c.before.before.before.before.before.before.before.before.before.before.before.before.requires.1))
+put-options-requires c κs = (search rules, omega (arith, simp length-append at c.requires.1))
 
-put-titled-requires-2 : tie.Need-put-titled-requires-2
+put-titled-requires-2 : tie.Need-put_titled-stepped-requires
 unfolding cut_text ascii
-put-titled-requires-2 c κs = omega (arith, simp length-append at c.before.before.before.before.before.before.before.before.before.before.before.before.before.before.before.before.before.requires.1)
+put-titled-requires-2 c κs = omega (arith, simp length-append at c.requires.1)
 
-put-text-requires-2 : tie.Need-put-text-requires-2
+put-text-requires-2 : tie.Need-put_text-ended-requires
 unfolding cut_text ascii
-put-text-requires-2 c κs = omega (arith, simp length-append at c.before.before.before.before.before.before.before.before.before.before.before.before.before.before.before.before.before.before.before.before.before.before.requires.1)
+put-text-requires-2 c κs = omega (arith, simp length-append at c.requires.1)
 
-put-verdict-requires : tie.Need-put-verdict-requires
+put-verdict-requires : tie.Need-put_verdict-requires
 unfolding cut_text ascii
-put-verdict-requires c κs = (search rules, omega (arith, simp length-append at c.before.before.before.before.before.before.before.before.before.before.before.before.before.before.before.before.before.before.before.before.before.before.before.before.before.before.requires.1))
+put-verdict-requires c κs = (search rules, omega (arith, simp length-append at c.requires.1))
 
 returns : tie.Need-returns
 unfolding cut_text ascii
 returns c =
-    let v = c.before.before in
-    let e = v.before.before.before.before in
-    let s = e.before.before.before.before.before in
-    let l = s.before.before.before.before.before in
-    let b = l.before.before.before.before in
-    let n = b.before.before.before.before.before in
-    wrote_then n.put-titled.ensures
-    (wrote_then b.put-text.ensures
-    (wrote_then l.put-options.ensures
-    (wrote_then s.put-titled2.ensures (wrote_then e.put-text2.ensures v.put-verdict.ensures))))
+    let v = c in
+    let e = v in
+    let s = e in
+    let l = s in
+    let b = l in
+    let n = b in
+    wrote_then n.put_titled-counted.ensures
+    (wrote_then b.put_text-begun.ensures
+    (wrote_then l.put_options-listed.ensures
+    (wrote_then s.put_titled-stepped.ensures (wrote_then e.put_text-ended.ensures v.put_verdict.ensures))))
 
-pub put-cut-spec : {M : Type 1} → statement M
-put-cut-spec =
+pub put_cut_spec : {M : Type 1} → statement M
+put_cut_spec =
     tie.close
     (tie.spec
-    (λ c. search rules)
     put-titled-requires
-    (λ c. search rules)
     put-text-requires
     put-options-requires
-    (λ c. search rules)
     put-titled-requires-2
-    (λ c. search rules)
     put-text-requires-2
     put-verdict-requires
     (λ c. search rules)

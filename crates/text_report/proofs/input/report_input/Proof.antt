@@ -7,19 +7,19 @@ use Rattle.text_report.proofs.Limit.{limit_is}
 use Rattle.text_report.proofs.input.report_input.Statement.{statement}
 use Rattle.text_report.proofs.input.report_input.Tie as tie
 
-slice-aggregate-report : tie.Need-slice-aggregate-report
+slice-aggregate-report : tie.Need-slice_bounds-report-end
 slice-aggregate-report c = sym (length-take-le _ _ (omega arith))
 
-returns : tie.Need-returns
+returns : tie.Need-returns-then-count-lt-INPUT
 returns c = (omega (arith, limit_is), c.report.ensures)
 
-returns-2 : tie.Need-returns-2
+returns-2 : tie.Need-returns
 returns-2 c =
-    let s = c.before.before.before in
-    (omega (arith, limit_is), rw (take_all s.args.count s.args.t1 (omega arith)) c.report2.ensures)
+    let s = c in
+    (omega (arith, limit_is), rw (take_all s.args.count s.args.input (omega arith)) c.report-2.ensures)
 
-pub report-input-spec : {M : Type 1} → statement M
-report-input-spec =
+pub report_input_spec : {M : Type 1} → statement M
+report_input_spec =
     tie.close
     (tie.spec
     (λ c. search rules)

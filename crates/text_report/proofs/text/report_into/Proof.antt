@@ -12,23 +12,23 @@ use Rattle.text_report.proofs.text.report_into.Statement.{statement}
 use Rattle.text_report.proofs.text.report_into.Tie as tie
 
 -- Bytes, by the types of what was cut.
-leaders-fit : (c : tie.After-cut-parts) (k : ℕ) → Fits w8 (get_or c.cut_parts.result.head.leaders k 0)
+leaders-fit : (c : tie.After-cut_parts) (k : ℕ) → Fits w8 (get_or c.cut_parts.result.head.leaders k 0)
 leaders-fit c k = search rules
 
-values-fit : (c : tie.After-cut-parts) (k : ℕ) → Fits w8 (get_or c.cut_parts.result.solution k 0)
+values-fit : (c : tie.After-cut_parts) (k : ℕ) → Fits w8 (get_or c.cut_parts.result.solution k 0)
 values-fit c k = search rules
 
 written-requires : tie.Need-written-requires
 written-requires c κs =
-    let cut = c.before in (
+    let cut = c in (
       refl,
-      printable-answer _ (λ k. omega (arith, cut.before.before.before.shared-slice-known.given k)) cut.cut_parts.result _ cut.cut_parts.ensures
-          (λ k. (leaders-fit cut k).fits) (λ k. (values-fit cut k).fits),
+      printable-answer _ (λ k. omega (arith, cut.shared_slice_known-1.given k)) cut.cut_parts.result _ cut.cut_parts.ensures
+          (λ k. (leaders-fit c.before k).fits) (λ k. (values-fit c.before k).fits),
     )
 
 returns : tie.Need-returns
 unfolding text_of
-returns c = rw (sym c.before.before.cut_parts.ensures) (c.written.ensures _)
+returns c = rw (sym c.cut_parts.ensures) (c.written.ensures _)
 
-pub report-into-spec : {M : Type 1} → statement M
-report-into-spec = tie.close (tie.spec (λ c κs. search rules) written-requires returns)
+pub report_into_spec : {M : Type 1} → statement M
+report_into_spec = tie.close (tie.spec (λ c κs. search rules) written-requires returns)

@@ -8,37 +8,37 @@ use Rattle.text_report.proofs.Answer.{accepted-text, refused-text}
 use Rattle.text_report.proofs.text.written.Statement.{statement}
 use Rattle.text_report.proofs.text.written.Tie as tie
 
-put-refusal-requires : tie.Need-put-refusal-requires
+put-refusal-requires : tie.Need-put_refusal-requires
 put-refusal-requires c κs =
-    let t = c.before.before.before in
-    let s = t.before.before in
+    let t = c in
+    let s = t in
     rw s.requires.0
-    (omega (arith, rw (refused-text s.args.cut _ t.enum-told2.given.1 c.before.read_number.ensures c.read-place.ensures) at (text-fits _ (s.requires.1 []))))
+    (omega (arith, rw (refused-text s.args.cut _ t.in_default.is c.read_number.ensures c.read_place.ensures) at (text-fits _ (s.requires.1 []))))
 
-returns : tie.Need-returns
+returns : tie.Need-returns-in_default
 returns c = λ rows.
-    let p = c.before in
-    let t = p.before.before.before in
-    let s = t.before.before in
-    let text = refused-text s.args.cut rows t.enum-told2.given.1 p.before.read_number.ensures p.read-place.ensures in
-    rw text (printed 512 (rw text at (text-fits _ (s.requires.1 rows))) (rw s.requires.0 at c.put-refusal.ensures))
+    let p = c in
+    let t = p in
+    let s = t in
+    let text = refused-text s.args.cut rows t.in_default.is p.read_number.ensures p.read_place.ensures in
+    rw text (printed 512 (rw text at (text-fits _ (s.requires.1 rows))) (rw s.requires.0 at c.put_refusal.ensures))
 
-put-cut-requires : tie.Need-put-cut-requires
+put-cut-requires : tie.Need-put_cut-requires
 unfolding cut_parts_told
 put-cut-requires c κs =
-    let t = c.before.before.before.before.before.before.before.before in
-    let s = t.before.before in
-    ((s.requires.1 []).options_le, rw s.requires.0 (omega (arith, rw (accepted-text s.args.cut _ t.enum_told.given.1) at (text-fits _ (s.requires.1 [])))))
+    let t = c in
+    let s = t in
+    ((s.requires.1 []).options_le, rw s.requires.0 (omega (arith, rw (accepted-text s.args.cut _ t.in-Accepted.is) at (text-fits _ (s.requires.1 [])))))
 
-returns-2 : tie.Need-returns-2
+returns-2 : tie.Need-returns
 returns-2 c = λ rows.
-    let t = c.before.before.before.before.before.before.before.before.before in
-    let s = t.before.before in
-    let text = accepted-text s.args.cut rows t.enum_told.given.1 in
-    rw text (printed 512 (rw text at (text-fits _ (s.requires.1 rows))) (rw s.requires.0 at c.put-cut.ensures))
+    let t = c in
+    let s = t in
+    let text = accepted-text s.args.cut rows t.in-Accepted.is in
+    rw text (printed 512 (rw text at (text-fits _ (s.requires.1 rows))) (rw s.requires.0 at c.put_cut.ensures))
 
-pub written-spec : {M : Type 1} → statement M
-written-spec =
+pub written_spec : {M : Type 1} → statement M
+written_spec =
     tie.close
     (tie.spec
     (λ c. search rules)
