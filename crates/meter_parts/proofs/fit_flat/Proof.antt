@@ -11,47 +11,47 @@ use Rattle.meter_parts.proofs.fit_flat.Tie as tie
 shaped : (c : tie.Start) → Shaped (state_of c.args.head c.args.rows.now)
 shaped c = record { head_shaped = search shape; rows_shaped = c.requires.0 }
 
-returns : tie.Need-returns
+returns : tie.Need-returns-in_default
 returns c =
-    let m = c.before in
-    let a = m.before.before.before in
-    let q = a.before.before.before in
-    c.turned-away.ensures _
-    ∙ refused-fit (shaped q.before) q.before.requires.1 q.page-nine.ensures _ a.add_parts.ensures m.enum-told2.given.1
+    let m = c in
+    let a = m in
+    let q = a in
+    c.turned_away.ensures _
+    ∙ refused-fit (shaped c.before.before.before.before.before.before.before) q.requires.1 q.page_nine-table.ensures _ a.add_parts-added.ensures m.in_default.is
 
-reduce-sound-requires : tie.Need-reduce-sound-requires
+reduce-sound-requires : tie.Need-reduce_sound-cut-requires
 reduce-sound-requires c κs =
-    let m = c.before in
-    let a = m.before.before.before in
-    let q = a.before.before.before in
-    let h = shaped q.before in
-    let e = m.enum_told.given.1 in (
-      (limited-shaped h q.before.requires.1 q.page-nine.ensures _ a.add_parts.ensures e).rows_shaped,
-      limited-sound h q.before.requires.1 q.page-nine.ensures _ a.add_parts.ensures e,
+    let m = c in
+    let a = m in
+    let q = a in
+    let h = shaped c.before.before.before.before.before.before.before in
+    let e = m.in-Done.is in (
+      (limited-shaped h q.requires.1 q.page_nine-table.ensures _ a.add_parts-added.ensures e).rows_shaped,
+      limited-sound h q.requires.1 q.page_nine-table.ensures _ a.add_parts-added.ensures e,
     )
 
-verdict-of-requires : tie.Need-verdict-of-requires
+verdict-of-requires : tie.Need-verdict_of-shown-requires
 verdict-of-requires c κs =
-    let r = c.before.before in
-    let m = r.before.before in
-    let a = m.before.before.before in
-    let q = a.before.before.before in
-    left-sound (shaped q.before) q.before.requires.1 q.page-nine.ensures _ a.add_parts.ensures m.enum_told.given.1
-    r.reduce-sound.ensures
+    let r = c in
+    let m = r in
+    let a = m in
+    let q = a in
+    left-sound (shaped c.before.before.before.before.before.before.before.before.before) q.requires.1 q.page_nine-table.ensures _ a.add_parts-added.ensures m.in-Done.is
+    r.reduce_sound-cut.ensures
 
-returns-2 : tie.Need-returns-2
+returns-2 : tie.Need-returns
 unfolding fit_told
 returns-2 c =
-    let v = c.before in
-    let r = v.before.before.before in
-    let m = r.before.before in
-    let a = m.before.before.before in
-    let q = a.before.before.before in
-    done-fit (shaped q.before) q.before.requires.1 q.page-nine.ensures _ a.add_parts.ensures m.enum_told.given.1
-    r.reduce-sound.ensures v.verdict-of.ensures
+    let v = c in
+    let r = v in
+    let m = r in
+    let a = m in
+    let q = a in
+    done-fit (shaped c.before.before.before.before.before.before.before.before.before.before.before) q.requires.1 q.page_nine-table.ensures _ a.add_parts-added.ensures m.in-Done.is
+    r.reduce_sound-cut.ensures v.verdict_of-shown.ensures
 
-pub fit-flat-spec : {M : Type 1} → statement M
-fit-flat-spec =
+pub fit_flat_spec : {M : Type 1} → statement M
+fit_flat_spec =
     tie.close
     (tie.spec
     (λ c κs. search rules)

@@ -6,23 +6,23 @@ use Rattle.meter.proofs.Fitted.{refuses-unsound, refuses-not-flat, fitted-away}
 use Rattle.meter_parts.proofs.fit_parts.Statement.{statement}
 use Rattle.meter_parts.proofs.fit_parts.Tie as tie
 
-fit-flat-requires : tie.Need-fit-flat-requires
-fit-flat-requires c κs = let t = c.before.before.before in (c.before.whole.ensures, sym t.before.is-flat-meter.ensures ∙ t.if1.true)
+fit-flat-requires : tie.Need-fit_flat-requires
+fit-flat-requires c κs = let t = c in (c.whole.ensures, sym t.is_flat_meter.ensures ∙ t.if-is_flat_meter.true)
 
-returns-2 : tie.Need-returns-2
+returns-2 : tie.Need-returns-then-sound_parts
 returns-2 c =
-    let s = c.before in
-    let e = s.before.before.before in
-    c.turned-away.ensures _
-    ∙ sym (fitted-away _ 25 (refuses-not-flat _ (sym s.before.sound-parts.ensures ∙ s.if2.true) (sym e.before.is-flat-meter.ensures ∙ e.if1.false)) (omega arith))
+    let s = c in
+    let e = s in
+    c.turned_away.ensures _
+    ∙ sym (fitted-away _ 25 (refuses-not-flat _ (sym s.sound_parts.ensures ∙ s.if-sound_parts.true) (sym e.is_flat_meter.ensures ∙ e.if-is_flat_meter.false)) (omega arith))
 
-returns-3 : tie.Need-returns-3
+returns-3 : tie.Need-returns
 returns-3 c =
-    let s = c.before in
-    c.turned-away2.ensures _ ∙ sym (fitted-away _ 9 (refuses-unsound _ (sym s.before.sound-parts.ensures ∙ s.if2.false)) (omega arith))
+    let s = c in
+    c.turned_away-2.ensures _ ∙ sym (fitted-away _ 9 (refuses-unsound _ (sym s.sound_parts.ensures ∙ s.if-sound_parts.false)) (omega arith))
 
-pub fit-parts-spec : {M : Type 1} → statement M
-fit-parts-spec =
+pub fit_parts_spec : {M : Type 1} → statement M
+fit_parts_spec =
     tie.close
     (tie.spec
     (λ c κs. search rules)

@@ -10,5 +10,5 @@ returns : tie.Need-returns
 unfolding fit_told turned_away outcome_number verdict_told
 returns c rows = refl
 
-pub turned-away-spec : {M : Type 1} → statement M
-turned-away-spec = tie.close (tie.spec returns)
+pub turned_away_spec : {M : Type 1} → statement M
+turned_away_spec = tie.close (tie.spec returns)

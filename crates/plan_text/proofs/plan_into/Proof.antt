@@ -5,10 +5,10 @@ use Rattle.plan_text.proofs.plan_into.Statement.{statement}
 use Rattle.plan_text.proofs.plan_into.Tie as tie
 
 returns : tie.Need-returns
-returns c = text-printed c.put-text-of.ensures.1 c.put-text-of.ensures.0
+returns c = text-printed c.put_text_of.ensures.1 c.put_text_of.ensures.0
 
-pub plan-into-spec : {M : Type 1} → statement M
-plan-into-spec =
+pub plan_into_spec : {M : Type 1} → statement M
+plan_into_spec =
     tie.close
     (tie.spec
     (λ c κs. search rules)

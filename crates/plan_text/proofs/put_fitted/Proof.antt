@@ -11,20 +11,20 @@ use Rattle.plan_text.proofs.put_fitted.Tie as tie
 ready : (c : tie.Start) → Ready (state_of c.args.head c.args.rows.now)
 ready c = record { is_shaped = record { head_shaped = search shape; rows_shaped = c.requires.0 }; is_sound = c.requires.1 }
 
-returns : tie.Need-returns
-returns c = rw (fitted-not _ _ (not-true c.before.before.before.before.before.before.before.args.page9 c.before.before.before.before.before.if1.true)) c.before.before.put_last.ensures
+returns : tie.Need-returns-then-not-page9
+returns c = rw (fitted-not _ _ (not-true c.args.page9 c.if-not-page9.true)) c.put_last.ensures
 
-returns-2 : tie.Need-returns-2
-returns-2 c = let a = c.before.before.before.before.before.before.before in rw (fitted-refused _ _ (not-false _ c.before.before.before.before.before.before.before.before.before.if1.false) a.Fit-Parts.result _ a.Fit-Parts.ensures c.before.before.before.before.before.outcome.given.1) c.before.before.Put-refused.ensures
+returns-2 : tie.Need-returns-in-Refused
+returns-2 c = let a = c in rw (fitted-refused _ _ (c.if-not-page9.false) a.fit_parts-fit.result _ a.fit_parts-fit.ensures c.in-Refused.is) c.put_refused.ensures
 
-put-last-requires-2 : tie.Need-put-last-requires-2
-put-last-requires-2 c κs = let a = c.before.before.before.before in let r = fit-ready _ _ (not-false c.before.before.before.before.before.before.before.before.args.page9 c.before.before.before.before.before.before.if1.false) a.Fit-Parts.result _ a.Fit-Parts.ensures c.before.before.enum_told.given.1 (ready c.before.before.before.before.before.before.before.before) in (r.is_shaped.rows_shaped, r.is_sound)
+put-last-requires-2 : tie.Need-put_last-requires-2
+put-last-requires-2 c κs = let a = c in let r = fit-ready _ _ (not-false c.args.page9 c.if-not-page9.false) a.fit_parts-fit.result _ a.fit_parts-fit.ensures c.in_default.is (ready c.before.before.before.before.before.before.before.before) in (r.is_shaped.rows_shaped, r.is_sound)
 
-returns-3 : tie.Need-returns-3
-returns-3 c = let a = c.before.before.before.before.before.before.before in rw (fitted-is _ _ (not-false _ c.before.before.before.before.before.before.before.before.before.if1.false) a.Fit-Parts.result _ a.Fit-Parts.ensures c.before.before.before.before.before.enum_told.given.1) c.before.before.put-last2.ensures
+returns-3 : tie.Need-returns
+returns-3 c = let a = c in rw (fitted-is _ _ (c.if-not-page9.false) a.fit_parts-fit.result _ a.fit_parts-fit.ensures c.in_default.is) c.put_last-2.ensures
 
-pub put-fitted-spec : {M : Type 1} → statement M
-put-fitted-spec =
+pub put_fitted_spec : {M : Type 1} → statement M
+put_fitted_spec =
     tie.close
     (tie.spec
     (λ c κs. search rules)

@@ -11,14 +11,14 @@ use Rattle.plan_text.proofs.put_last.Tie as tie
 ready : (c : tie.Start) → Ready (state_of c.args.head c.args.rows.now)
 ready c = record { is_shaped = record { head_shaped = search shape; rows_shaped = c.requires.0 }; is_sound = c.requires.1 }
 
-put-plan-requires : tie.Need-put-plan-requires
-put-plan-requires c κs = let a = c.before.before.before.before in ap sound_state (last-is _ a.reduce-parts.result c.before.before.trim-parts.result a.reduce-parts.ensures c.before.before.trim-parts.ensures) ∙ (last-ready _ (ready c.before.before.before.before.before.before.before)).is_sound
+put-plan-requires : tie.Need-put_plan-requires
+put-plan-requires c κs = let a = c in ap sound_state (last-is _ a.reduce_parts-reduced.result c.trim_parts-trimmed.result a.reduce_parts-reduced.ensures c.trim_parts-trimmed.ensures) ∙ (last-ready _ (ready c.before.before.before.before.before.before.before.before)).is_sound
 
 returns : tie.Need-returns
-returns c = let a = c.before.before.before.before.before.before.before in let p = c.before.before.put-plan.ensures in rw (sym (last-is _ a.reduce-parts.result c.before.before.before.before.before.trim-parts.result a.reduce-parts.ensures c.before.before.before.before.before.trim-parts.ensures)) (p.0, let l = p.1 in omega arith)
+returns c = let a = c in let p = c.put_plan.ensures in rw (sym (last-is _ a.reduce_parts-reduced.result c.trim_parts-trimmed.result a.reduce_parts-reduced.ensures c.trim_parts-trimmed.ensures)) (p.0, let l = p.1 in omega arith)
 
-pub put-last-spec : {M : Type 1} → statement M
-put-last-spec =
+pub put_last_spec : {M : Type 1} → statement M
+put_last_spec =
     tie.close
     (tie.spec
     (λ c κs. search rules)

@@ -7,14 +7,13 @@ use Rattle.plan_text.proofs.put_refused.Tie as tie
 
 returns : tie.Need-returns
 unfolding ascii
-returns c = (refused-put _ c.before.before.before.before.before.before.before.put-refusal.ensures c.before.before.put-text.ensures, refused-le c.before.before.before.before.before.before.before.before.before.before.args.cause)
+returns c = (refused-put _ c.put_refusal-said.ensures c.put_text.ensures, refused-le c.args.cause)
 
-pub put-refused-spec : {M : Type 1} → statement M
-put-refused-spec =
+pub put_refused_spec : {M : Type 1} → statement M
+put_refused_spec =
     tie.close
     (tie.spec
     (λ c κs. search rules)
-    (λ c. search rules)
     (λ c κs. search rules)
     (λ c. search rules)
     returns)

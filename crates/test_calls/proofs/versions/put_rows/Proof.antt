@@ -9,8 +9,8 @@ invariant-loop to₀ bytes count from₀ at₀ counter₀ to from at counter = U
 abbrev decreases-loop : tie.decreases-loop
 decreases-loop to₀ bytes count from₀ at₀ counter₀ to from at counter = count - counter
 
-pub put-rows-spec : {M : Type 1} → statement M
-put-rows-spec =
+pub put_rows_spec : {M : Type 1} → statement M
+put_rows_spec =
     tie.close
     (tie.spec invariant-loop decreases-loop (λ c. search rules) (λ c κs. search rules) (λ c. search rules) (λ c κs. search rules)
     (λ c κs. search rules) (λ c κs. search rules) (λ c. search rules) (λ c. search rules) (λ c. search rules)

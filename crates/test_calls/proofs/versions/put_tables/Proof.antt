@@ -9,8 +9,8 @@ invariant-loop to₀ bytes end tables places₀ counter₀ to places counter = U
 abbrev decreases-loop : tie.decreases-loop
 decreases-loop to₀ bytes end tables places₀ counter₀ to places counter = tables - counter
 
-pub put-tables-spec : {M : Type 1} → statement M
-put-tables-spec =
+pub put_tables_spec : {M : Type 1} → statement M
+put_tables_spec =
     tie.close
     (tie.spec invariant-loop decreases-loop (λ c κs. search rules) (λ c κs. search rules) (λ c κs. search rules)
     (λ c. search rules) (λ c. search rules) (λ c κs. search rules) (λ c. search rules) (λ c. search rules)

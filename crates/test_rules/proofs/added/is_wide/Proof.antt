@@ -3,14 +3,14 @@ use Rattle.std.proofs.Common.{◌-◌, rules}
 use Rattle.test_rules.proofs.added.is_wide.Statement.{statement}
 use Rattle.test_rules.proofs.added.is_wide.Tie as tie
 
-abbrev invariant-loop : tie.invariant-loop
+abbrev invariant-loop : tie.invariant-loop-c
 invariant-loop rows size count c₀ c = Unit
 
-abbrev decreases-loop : tie.decreases-loop
+abbrev decreases-loop : tie.decreases-loop-c
 decreases-loop rows size count c₀ c = count - c
 
-pub is-wide-spec : {M : Type 1} → statement M
-is-wide-spec =
+pub is_wide_spec : {M : Type 1} → statement M
+is_wide_spec =
     tie.close
     (tie.spec invariant-loop decreases-loop (λ c. search rules) (λ c κs. search rules) (λ c. search rules) (λ c κs. search rules)
     (λ c. search rules) (λ c. search rules) (λ c. search rules) (λ c. search rules) (λ c. search rules))

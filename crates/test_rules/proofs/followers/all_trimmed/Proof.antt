@@ -3,13 +3,13 @@ use Rattle.std.proofs.Common.{◌-◌, rules}
 use Rattle.test_rules.proofs.followers.all_trimmed.Statement.{statement}
 use Rattle.test_rules.proofs.followers.all_trimmed.Tie as tie
 
-abbrev invariant-loop : tie.invariant-loop
+abbrev invariant-loop : tie.invariant-loop-x
 invariant-loop domains leaders rows after₀ x₀ after x = Unit
 
-abbrev decreases-loop : tie.decreases-loop
+abbrev decreases-loop : tie.decreases-loop-x
 decreases-loop domains leaders rows after₀ x₀ after x = 16 - x
 
-pub all-trimmed-spec : {M : Type 1} → statement M
-all-trimmed-spec =
+pub all_trimmed_spec : {M : Type 1} → statement M
+all_trimmed_spec =
     tie.close
     (tie.spec invariant-loop decreases-loop (λ c. search rules) (λ c κs. search rules) (λ c κs. search rules) (λ c κs. search rules) (λ c. search rules) (λ c. search rules) (λ c. search rules) (λ c. search rules) (λ c. search rules) (λ c. search rules))

@@ -3,14 +3,14 @@ use Rattle.std.proofs.Common.{◌-◌, rules}
 use Rattle.test_rules.proofs.followers.dead_from.Statement.{statement}
 use Rattle.test_rules.proofs.followers.dead_from.Tie as tie
 
-abbrev invariant-loop : tie.invariant-loop
+abbrev invariant-loop : tie.invariant-loop-k
 invariant-loop start state sizes domains leaders k₀ k = Unit
 
-abbrev decreases-loop : tie.decreases-loop
+abbrev decreases-loop : tie.decreases-loop-k
 decreases-loop start state sizes domains leaders k₀ k = 512 - k
 
-pub dead-from-spec : {M : Type 1} → statement M
-dead-from-spec =
+pub dead_from_spec : {M : Type 1} → statement M
+dead_from_spec =
     tie.close
     (tie.spec invariant-loop decreases-loop (λ c. search rules) (λ c κs. search rules) (λ c κs. search rules) (λ c κs. search rules)
     (λ c. search rules) (λ c. search rules) (λ c. search rules) (λ c. search rules) (λ c. search rules))

@@ -9,7 +9,7 @@ invariant-loop leader after₀ counter₀ after counter = Unit
 abbrev decreases-loop : tie.decreases-loop
 decreases-loop leader after₀ counter₀ after counter = 16 - counter
 
-pub led-spec : {M : Type 1} → statement M
-led-spec =
+pub led_spec : {M : Type 1} → statement M
+led_spec =
     tie.close
     (tie.spec invariant-loop decreases-loop (λ c. search rules) (λ c κs. search rules) (λ c. search rules) (λ c κs. search rules) (λ c. search rules) (λ c. search rules) (λ c. search rules) (λ c. search rules))

@@ -9,7 +9,7 @@ invariant-loop after₀ counter₀ after counter = Unit
 abbrev decreases-loop : tie.decreases-loop
 decreases-loop after₀ counter₀ after counter = 16 - counter
 
-pub alternated-spec : {M : Type 1} → statement M
-alternated-spec =
+pub alternated_spec : {M : Type 1} → statement M
+alternated_spec =
     tie.close
     (tie.spec invariant-loop decreases-loop (λ c. search rules) (λ c κs. search rules) (λ c κs. search rules) (λ c. search rules) (λ c. search rules) (λ c. search rules) (λ c. search rules) (λ c. search rules))

@@ -9,7 +9,7 @@ invariant-loop after₀ counter₀ after counter = Unit
 abbrev decreases-loop : tie.decreases-loop
 decreases-loop after₀ counter₀ after counter = 512 - counter
 
-pub largest-spec : {M : Type 1} → statement M
-largest-spec =
+pub largest_spec : {M : Type 1} → statement M
+largest_spec =
     tie.close
     (tie.spec invariant-loop decreases-loop (λ c. search rules) (λ c κs. search rules) (λ c κs. search rules) (λ c. search rules) (λ c. search rules) (λ c. search rules) (λ c. search rules) (λ c. search rules))

@@ -9,7 +9,7 @@ invariant-loop edges i reached₀ counter₀ reached counter = Unit
 abbrev decreases-loop : tie.decreases-loop
 decreases-loop edges i reached₀ counter₀ reached counter = 15 - counter
 
-pub reached-from-spec : {M : Type 1} → statement M
-reached-from-spec =
+pub reached_from_spec : {M : Type 1} → statement M
+reached_from_spec =
     tie.close
     (tie.spec invariant-loop decreases-loop (λ c κs. search rules) (λ c. search rules) (λ c κs. search rules) (λ c. search rules) (λ c. search rules) (λ c. search rules) (λ c. search rules))

@@ -3,14 +3,14 @@ use Rattle.std.proofs.Common.{◌-◌, rules}
 use Rattle.test_rules.proofs.refusals.legal_from.Statement.{statement}
 use Rattle.test_rules.proofs.refusals.legal_from.Tie as tie
 
-abbrev invariant-loop : tie.invariant-loop
+abbrev invariant-loop : tie.invariant-loop-k
 invariant-loop start state domains stated free k₀ k = Unit
 
-abbrev decreases-loop : tie.decreases-loop
+abbrev decreases-loop : tie.decreases-loop-k
 decreases-loop start state domains stated free k₀ k = 256 - k
 
-pub legal-from-spec : {M : Type 1} → statement M
-legal-from-spec =
+pub legal_from_spec : {M : Type 1} → statement M
+legal_from_spec =
     tie.close
     (tie.spec invariant-loop decreases-loop (λ c κs. search rules) (λ c. search rules) (λ c κs. search rules) (λ c κs. search rules)
     (λ c. search rules) (λ c. search rules) (λ c. search rules) (λ c. search rules) (λ c. search rules)

@@ -9,8 +9,8 @@ invariant-loop after₀ counter₀ after counter = Unit
 abbrev decreases-loop : tie.decreases-loop
 decreases-loop after₀ counter₀ after counter = 16 - counter
 
-pub reduced-spec : {M : Type 1} → statement M
-reduced-spec =
+pub reduced_spec : {M : Type 1} → statement M
+reduced_spec =
     tie.close
     (tie.spec invariant-loop decreases-loop (λ c. search rules) (λ c κs. search rules) (λ c κs. search rules) (λ c. search rules)
     (λ c. search rules) (λ c. search rules) (λ c. search rules))

@@ -3,10 +3,10 @@ use Rattle.std.proofs.Common.{◌-◌, rules}
 use Rattle.test_rules.proofs.unions.pick.Statement.{statement}
 use Rattle.test_rules.proofs.unions.pick.Tie as tie
 
-abbrev invariant-loop : tie.invariant-loop
+abbrev invariant-loop : tie.invariant-loop-a
 invariant-loop list number values₀ left₀ a₀ values left a = Unit
 
-abbrev decreases-loop : tie.decreases-loop
+abbrev decreases-loop : tie.decreases-loop-a
 decreases-loop list number values₀ left₀ a₀ values left a = 32 - a
 
 pub pick_spec : {M : Type 1} → statement M

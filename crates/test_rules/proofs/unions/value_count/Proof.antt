@@ -3,13 +3,13 @@ use Rattle.std.proofs.Common.{◌-◌, rules}
 use Rattle.test_rules.proofs.unions.value_count.Statement.{statement}
 use Rattle.test_rules.proofs.unions.value_count.Tie as tie
 
-abbrev invariant-loop : tie.invariant-loop
+abbrev invariant-loop : tie.invariant-loop-i
 invariant-loop free lists count₀ i₀ count i = Unit
 
-abbrev decreases-loop : tie.decreases-loop
+abbrev decreases-loop : tie.decreases-loop-i
 decreases-loop free lists count₀ i₀ count i = 16 - i
 
-pub value-count-spec : {M : Type 1} → statement M
-value-count-spec =
+pub value_count_spec : {M : Type 1} → statement M
+value_count_spec =
     tie.close
     (tie.spec invariant-loop decreases-loop (λ c. search rules) (λ c κs. search rules) (λ c κs. search rules) (λ c κs. search rules) (λ c κs. search rules) (λ c. search rules) (λ c. search rules) (λ c. search rules) (λ c. search rules))
