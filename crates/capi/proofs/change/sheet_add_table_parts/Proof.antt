@@ -7,16 +7,16 @@ use Rattle.capi_lent.proofs.Laws.{left_as}
 use Rattle.capi.proofs.change.sheet_add_table_parts.Statement.{statement}
 use Rattle.capi.proofs.change.sheet_add_table_parts.Tie as tie
 
-shaped : (c : tie.After-head-of) → HeadShaped c.head_of.result
+shaped : (c : tie.After-head_of) → HeadShaped c.head_of.result
 shaped c = search shape
 
 returns : tie.Need-returns
 returns c =
-    let a = c.before.before.before.before in
-    let h = a.before.before in
-    let g = h.before.before.before.before.before.args in
-    left_as (rw h.head_of.ensures at a.add_parts.ensures) c.left.ensures
-    (call_same _ (rw h.head_of.ensures at (shaped h)) _) (call_back _ _)
+    let a = c in
+    let h = a in
+    let g = h.args in
+    left_as (rw h.head_of.ensures at a.add_parts-worked.ensures) c.left.ensures
+    (call_same _ (rw h.head_of.ensures at (shaped c.before.before.before.before.before.before)) _) (call_back _ _)
 
-pub sheet-add-table-parts-spec : {M : Type 1} → statement M
-sheet-add-table-parts-spec = tie.close (tie.spec (λ c κs. search rules) (λ c κs. search rules) (λ c κs. search rules) returns)
+pub sheet_add_table_parts_spec : {M : Type 1} → statement M
+sheet_add_table_parts_spec = tie.close (tie.spec (λ c κs. search rules) (λ c κs. search rules) (λ c κs. search rules) returns)

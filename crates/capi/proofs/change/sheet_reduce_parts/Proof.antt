@@ -7,15 +7,15 @@ use Rattle.capi_lent.proofs.Laws.{left_as}
 use Rattle.capi.proofs.change.sheet_reduce_parts.Statement.{statement}
 use Rattle.capi.proofs.change.sheet_reduce_parts.Tie as tie
 
-shaped : (c : tie.After-head-of) → HeadShaped c.head_of.result
+shaped : (c : tie.After-head_of) → HeadShaped c.head_of.result
 shaped c = search shape
 
 returns : tie.Need-returns
 returns c =
-    let a = c.before.before.before.before in
-    let h = a.before.before in
-    left_as (rw h.head_of.ensures at a.reduce-parts.ensures) c.left.ensures
-    (call_same _ (rw h.head_of.ensures at (shaped h)) _) (call_back _ _)
+    let a = c in
+    let h = a in
+    left_as (rw h.head_of.ensures at a.reduce_parts-worked.ensures) c.left.ensures
+    (call_same _ (rw h.head_of.ensures at (shaped c.before.before.before.before.before.before)) _) (call_back _ _)
 
-pub sheet-reduce-parts-spec : {M : Type 1} → statement M
-sheet-reduce-parts-spec = tie.close (tie.spec (λ c κs. search rules) (λ c κs. search rules) (λ c κs. search rules) returns)
+pub sheet_reduce_parts_spec : {M : Type 1} → statement M
+sheet_reduce_parts_spec = tie.close (tie.spec (λ c κs. search rules) (λ c κs. search rules) (λ c κs. search rules) returns)

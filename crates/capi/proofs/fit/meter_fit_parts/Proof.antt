@@ -10,22 +10,22 @@ use Rattle.capi.proofs.PageNine.{fit-stored}
 use Rattle.capi.proofs.fit.meter_fit_parts.Statement.{statement}
 use Rattle.capi.proofs.fit.meter_fit_parts.Tie as tie
 
-shaped : (c : tie.After-head-of) → HeadShaped c.head_of.result
+shaped : (c : tie.After-head_of) → HeadShaped c.head_of.result
 shaped c = search shape
 
 returns : tie.Need-returns
 unfolding fit_told
 returns c =
-    let l = c.before.before in
-    let f = l.before.before.before.before.before in
-    let h = f.before.before in
-    let told = rw h.head_of.ensures at f.Fit-Parts.ensures in (
-      c.verdict-told.ensures ∙ ap (λ (t : MeterTold). verdict_out t.verdict) told,
-      fit-stored _ f.Fit-Parts.result (rw h.head_of.ensures at (shaped h)) told l.put-made.ensures,
+    let l = c in
+    let f = l in
+    let h = f in
+    let told = rw h.head_of.ensures at f.fit_parts-fit.ensures in (
+      c.verdict_told.ensures ∙ ap (λ (t : MeterTold). verdict_out t.verdict) told,
+      fit-stored _ f.fit_parts-fit.result (rw h.head_of.ensures at (shaped c.before.before.before.before.before.before.before.before.before)) told l.put_made.ensures,
     )
 
-pub meter-fit-parts-spec : {M : Type 1} → statement M
-meter-fit-parts-spec =
+pub meter_fit_parts_spec : {M : Type 1} → statement M
+meter_fit_parts_spec =
     tie.close
     (tie.spec
     (λ c κs. search rules)

@@ -6,9 +6,9 @@ use Rattle.capi.proofs.look.sheet_find_order_parts.Tie as tie
 
 returns : tie.Need-returns
 returns c =
-    let d = c.before.before.before in
-    let h = d.before.before in
-    (c.outcome-number.ensures ∙ rw h.head_of.ensures at d.find-order-parts.ensures.0, rw h.head_of.ensures at d.find-order-parts.ensures.1)
+    let d = c in
+    let h = d in
+    (c.outcome_number.ensures ∙ rw h.head_of-head.ensures at d.find_order_parts.ensures.0, rw h.head_of-head.ensures at d.find_order_parts.ensures.1)
 
-pub sheet-find-order-parts-spec : {M : Type 1} → statement M
-sheet-find-order-parts-spec = tie.close (tie.spec (λ c κs. search rules) (λ c κs. search rules) (λ c κs. search rules) (λ c. search rules) returns)
+pub sheet_find_order_parts_spec : {M : Type 1} → statement M
+sheet_find_order_parts_spec = tie.close (tie.spec (λ c κs. search rules) (λ c κs. search rules) (λ c κs. search rules) (λ c. search rules) returns)

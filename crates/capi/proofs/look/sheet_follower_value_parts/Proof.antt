@@ -7,8 +7,8 @@ use Rattle.capi.proofs.look.sheet_follower_value_parts.Tie as tie
 
 returns : tie.Need-returns
 returns c =
-    let t = c.before in
-    c.value-told.ensures ∙ ap value_out (rw t.before.head_of.ensures at t.follower-value-parts.ensures)
+    let t = c in
+    c.value_told.ensures ∙ ap value_out (rw t.head_of-head.ensures at t.follower_value_parts.ensures)
 
-pub sheet-follower-value-parts-spec : {M : Type 1} → statement M
-sheet-follower-value-parts-spec = tie.close (tie.spec (λ c κs. search rules) (λ c κs. search rules) (λ c κs. search rules) returns)
+pub sheet_follower_value_parts_spec : {M : Type 1} → statement M
+sheet_follower_value_parts_spec = tie.close (tie.spec (λ c κs. search rules) (λ c κs. search rules) (λ c κs. search rules) returns)

@@ -7,8 +7,8 @@ use Rattle.capi.proofs.look.sheet_search_parts.Tie as tie
 
 returns : tie.Need-returns
 returns c =
-    let v = c.before.before in
-    c.verdict-told.ensures ∙ ap verdict_out (rw v.before.head_of.ensures at v.search-parts.ensures)
+    let v = c in
+    c.verdict_told.ensures ∙ ap verdict_out (rw v.head_of-head.ensures at v.search_parts-answer.ensures)
 
-pub sheet-search-parts-spec : {M : Type 1} → statement M
-sheet-search-parts-spec = tie.close (tie.spec (λ c κs. search rules) (λ c κs. search rules) (λ c κs. search rules) returns)
+pub sheet_search_parts_spec : {M : Type 1} → statement M
+sheet_search_parts_spec = tie.close (tie.spec (λ c κs. search rules) (λ c κs. search rules) (λ c κs. search rules) returns)

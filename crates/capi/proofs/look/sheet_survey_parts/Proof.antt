@@ -7,8 +7,8 @@ use Rattle.capi.proofs.look.sheet_survey_parts.Tie as tie
 
 returns : tie.Need-returns
 returns c =
-    let v = c.before in
-    c.survey-told.ensures ∙ ap survey_out (rw v.before.head_of.ensures at v.survey-parts.ensures)
+    let v = c in
+    c.survey_told.ensures ∙ ap survey_out (rw v.head_of-head.ensures at v.survey_parts.ensures)
 
-pub sheet-survey-parts-spec : {M : Type 1} → statement M
-sheet-survey-parts-spec = tie.close (tie.spec (λ c κs. search rules) (λ c κs. search rules) (λ c κs. search rules) returns)
+pub sheet_survey_parts_spec : {M : Type 1} → statement M
+sheet_survey_parts_spec = tie.close (tie.spec (λ c κs. search rules) (λ c κs. search rules) (λ c κs. search rules) returns)

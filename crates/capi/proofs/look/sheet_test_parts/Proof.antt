@@ -7,8 +7,8 @@ use Rattle.capi.proofs.look.sheet_test_parts.Tie as tie
 
 returns : tie.Need-returns
 returns c =
-    let t = c.before in
-    c.tested.ensures ∙ ap tested_out (rw t.before.head_of.ensures at t.test_parts.ensures)
+    let t = c in
+    c.tested.ensures ∙ ap tested_out (rw t.head_of-head.ensures at t.test_parts.ensures)
 
-pub sheet-test-parts-spec : {M : Type 1} → statement M
-sheet-test-parts-spec = tie.close (tie.spec (λ c κs. search rules) (λ c κs. search rules) (λ c κs. search rules) returns)
+pub sheet_test_parts_spec : {M : Type 1} → statement M
+sheet_test_parts_spec = tie.close (tie.spec (λ c κs. search rules) (λ c κs. search rules) (λ c κs. search rules) returns)

@@ -7,8 +7,8 @@ use Rattle.capi.proofs.look.sheet_verdict_parts.Tie as tie
 
 returns : tie.Need-returns
 returns c =
-    let v = c.before.before in
-    c.verdict-told.ensures ∙ ap verdict_out (rw v.before.head_of.ensures at v.verdict-parts.ensures)
+    let v = c in
+    c.verdict_told.ensures ∙ ap verdict_out (rw v.head_of-head.ensures at v.verdict_parts-answer.ensures)
 
-pub sheet-verdict-parts-spec : {M : Type 1} → statement M
-sheet-verdict-parts-spec = tie.close (tie.spec (λ c κs. search rules) (λ c κs. search rules) (λ c κs. search rules) returns)
+pub sheet_verdict_parts_spec : {M : Type 1} → statement M
+sheet_verdict_parts_spec = tie.close (tie.spec (λ c κs. search rules) (λ c κs. search rules) (λ c κs. search rules) returns)

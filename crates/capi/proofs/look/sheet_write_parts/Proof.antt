@@ -7,9 +7,9 @@ use Rattle.capi.proofs.look.sheet_write_parts.Tie as tie
 
 returns : tie.Need-returns
 returns c =
-    let d = c.before.before.before in
-    let h = d.before.before in
-    (c.written.ensures ∙ ap written_out (rw h.head_of.ensures at d.write-parts.ensures.0), rw h.head_of.ensures at d.write-parts.ensures.1)
+    let d = c in
+    let h = d in
+    (c.written.ensures ∙ ap written_out (rw h.head_of-head.ensures at d.write_parts.ensures.0), rw h.head_of-head.ensures at d.write_parts.ensures.1)
 
-pub sheet-write-parts-spec : {M : Type 1} → statement M
-sheet-write-parts-spec = tie.close (tie.spec (λ c κs. search rules) (λ c κs. search rules) (λ c κs. search rules) (λ c. search rules) returns)
+pub sheet_write_parts_spec : {M : Type 1} → statement M
+sheet_write_parts_spec = tie.close (tie.spec (λ c κs. search rules) (λ c κs. search rules) (λ c κs. search rules) (λ c. search rules) returns)

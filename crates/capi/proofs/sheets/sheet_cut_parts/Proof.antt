@@ -12,11 +12,11 @@ use Rattle.capi.proofs.sheets.sheet_cut_parts.Tie as tie
 returns : tie.Need-returns
 unfolding cut_parts_told
 returns c =
-    let p = c.before.before in
-    let r = p.before.before.before.before.before.before.before in (
-      c.cut-told.ensures _ ∙ ap cut_out r.cut_parts.ensures,
-      ap (λ (h : Head). state_of h r.cut_parts.new.1.0) p.put-head.ensures ∙ ap (λ (t : CutTold). t.state) r.cut_parts.ensures,
+    let p = c in
+    let r = p in (
+      c.cut_told.ensures _ ∙ ap cut_out r.cut_parts-cut.ensures,
+      ap (λ (h : Head). state_of h r.cut_parts-cut.new.rows) p.put_head.ensures ∙ ap (λ (t : CutTold). t.state) r.cut_parts-cut.ensures,
     )
 
-pub sheet-cut-parts-spec : {M : Type 1} → statement M
-sheet-cut-parts-spec = tie.close (tie.spec (λ c κs. search rules) (λ c κs. search rules) (λ c κs. search rules) (λ c κs. search rules) returns)
+pub sheet_cut_parts_spec : {M : Type 1} → statement M
+sheet_cut_parts_spec = tie.close (tie.spec (λ c κs. search rules) (λ c κs. search rules) (λ c κs. search rules) (λ c κs. search rules) returns)

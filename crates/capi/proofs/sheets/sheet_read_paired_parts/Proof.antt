@@ -12,11 +12,11 @@ use Rattle.capi.proofs.sheets.sheet_read_paired_parts.Tie as tie
 returns : tie.Need-returns
 unfolding read_parts_told
 returns c =
-    let p = c.before in
-    let r = p.before.before.before.before.before.before.before in (
-      c.read_told.ensures _ ∙ ap read_out r.read-paired-parts.ensures,
-      ap (λ (h : Head). state_of h r.read-paired-parts.new.1.0) p.put-head.ensures ∙ ap (λ (t : ReadTold). t.state) r.read-paired-parts.ensures,
+    let p = c in
+    let r = p in (
+      c.read_told.ensures _ ∙ ap read_out r.read_paired_parts-read.ensures,
+      ap (λ (h : Head). state_of h r.read_paired_parts-read.new.rows) p.put_head.ensures ∙ ap (λ (t : ReadTold). t.state) r.read_paired_parts-read.ensures,
     )
 
-pub sheet-read-paired-parts-spec : {M : Type 1} → statement M
-sheet-read-paired-parts-spec = tie.close (tie.spec (λ c κs. search rules) (λ c κs. search rules) (λ c κs. search rules) (λ c κs. search rules) returns)
+pub sheet_read_paired_parts_spec : {M : Type 1} → statement M
+sheet_read_paired_parts_spec = tie.close (tie.spec (λ c κs. search rules) (λ c κs. search rules) (λ c κs. search rules) (λ c κs. search rules) returns)

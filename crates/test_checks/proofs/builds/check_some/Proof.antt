@@ -9,8 +9,8 @@ invariant-loop bytes tables state times after₀ counter₀ after counter = Unit
 abbrev decreases-loop : tie.decreases-loop
 decreases-loop bytes tables state times after₀ counter₀ after counter = times - counter
 
-pub check-some-spec : {M : Type 1} → statement M
-check-some-spec =
+pub check_some_spec : {M : Type 1} → statement M
+check_some_spec =
     tie.close
     (tie.spec invariant-loop decreases-loop (λ c. search rules) (λ c κs. search rules) (λ c. search rules) (λ c. search rules)
     (λ c. search rules) (λ c. search rules))

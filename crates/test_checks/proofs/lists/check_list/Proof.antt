@@ -9,8 +9,8 @@ invariant-loop calls run₀ counter₀ run counter = Unit
 abbrev decreases-loop : tie.decreases-loop
 decreases-loop calls run₀ counter₀ run counter = calls - counter
 
-pub check-list-spec : {M : Type 1} → statement M
-check-list-spec =
+pub check_list_spec : {M : Type 1} → statement M
+check_list_spec =
     tie.close
     (tie.spec invariant-loop decreases-loop (λ c κs. search rules) (λ c. search rules) (λ c κs. search rules) (λ c. search rules)
     (λ c. search rules) (λ c. search rules) (λ c. search rules))

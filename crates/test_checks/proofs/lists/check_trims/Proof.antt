@@ -9,7 +9,7 @@ invariant-loop calls run₀ counter₀ run counter = Unit
 abbrev decreases-loop : tie.decreases-loop
 decreases-loop calls run₀ counter₀ run counter = calls - counter
 
-pub check-trims-spec : {M : Type 1} → statement M
-check-trims-spec =
+pub check_trims_spec : {M : Type 1} → statement M
+check_trims_spec =
     tie.close
     (tie.spec invariant-loop decreases-loop (λ c κs. search rules) (λ c. search rules) (λ c κs. search rules) (λ c. search rules) (λ c. search rules) (λ c. search rules) (λ c κs. search rules) (λ c. search rules))

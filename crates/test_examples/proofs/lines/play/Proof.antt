@@ -9,8 +9,8 @@ invariant-loop list length after₀ at₀ counter₀ after at counter = Unit
 abbrev decreases-loop : tie.decreases-loop
 decreases-loop list length after₀ at₀ counter₀ after at counter = length - counter
 
-pub play-spec : {M : Type 1} → statement M
-play-spec =
+pub play_spec : {M : Type 1} → statement M
+play_spec =
     tie.close
     (tie.spec invariant-loop decreases-loop (λ c. search rules) (λ c κs. search rules) (λ c κs. search rules) (λ c κs. search rules)
     (λ c κs. search rules) (λ c κs. search rules) (λ c κs. search rules) (λ c κs. search rules) (λ c. search rules)

@@ -3,14 +3,14 @@ use Rattle.std.proofs.Common.{◌-◌, rules}
 use Rattle.test_year.proofs.entries.rows_of.Statement.{statement}
 use Rattle.test_year.proofs.entries.rows_of.Tie as tie
 
-abbrev invariant-loop : tie.invariant-loop
+abbrev invariant-loop : tie.invariant-loop-c
 invariant-loop count size seed₀ rows₀ c₀ seed rows c = Unit
 
-abbrev decreases-loop : tie.decreases-loop
+abbrev decreases-loop : tie.decreases-loop-c
 decreases-loop count size seed₀ rows₀ c₀ seed rows c = 32 - c
 
-pub rows-of-spec : {M : Type 1} → statement M
-rows-of-spec =
+pub rows_of_spec : {M : Type 1} → statement M
+rows_of_spec =
     tie.close
     (tie.spec invariant-loop decreases-loop
     (λ c. search rules) (λ c κs. search rules) (λ c. search rules) (λ c. search rules) (λ c. search rules)

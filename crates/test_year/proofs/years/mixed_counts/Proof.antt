@@ -3,14 +3,14 @@ use Rattle.std.proofs.Common.{◌-◌, rules}
 use Rattle.test_year.proofs.years.mixed_counts.Statement.{statement}
 use Rattle.test_year.proofs.years.mixed_counts.Tie as tie
 
-abbrev invariant-loop : tie.invariant-loop
+abbrev invariant-loop : tie.invariant-loop-i
 invariant-loop from counts word₀ i₀ word i = Unit
 
-abbrev decreases-loop : tie.decreases-loop
+abbrev decreases-loop : tie.decreases-loop-i
 decreases-loop from counts word₀ i₀ word i = 512 - i
 
-pub mixed-counts-spec : {M : Type 1} → statement M
-mixed-counts-spec =
+pub mixed_counts_spec : {M : Type 1} → statement M
+mixed_counts_spec =
     tie.close
     (tie.spec invariant-loop decreases-loop
     (λ c. search rules) (λ c. search rules) (λ c. search rules) (λ c κs. search rules) (λ c. search rules)

@@ -9,8 +9,8 @@ invariant-loop bytes lines year₀ counter₀ year counter = Unit
 abbrev decreases-loop : tie.decreases-loop
 decreases-loop bytes lines year₀ counter₀ year counter = lines - counter
 
-pub run-lines-spec : {M : Type 1} → statement M
-run-lines-spec =
+pub run_lines_spec : {M : Type 1} → statement M
+run_lines_spec =
     tie.close
     (tie.spec invariant-loop decreases-loop (λ c. search rules) (λ c κs. search rules) (λ c. search rules) (λ c. search rules)
     (λ c. search rules) (λ c. search rules))
