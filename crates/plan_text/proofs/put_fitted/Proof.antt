@@ -12,13 +12,13 @@ ready : (c : tie.Start) → Ready (state_of c.args.head c.args.rows.now)
 ready c = record { is_shaped = record { head_shaped = search shape; rows_shaped = c.requires.0 }; is_sound = c.requires.1 }
 
 returns : tie.Need-returns-then-not-page9
-returns c = rw (fitted-not _ _ (not-true c.args.page9 c.if-not-page9.true)) c.put_last.ensures
+returns c = rw (fitted-not _ _ (c.if-not-page9.true)) c.put_last.ensures
 
 returns-2 : tie.Need-returns-in-Refused
 returns-2 c = let a = c in rw (fitted-refused _ _ (c.if-not-page9.false) a.fit_parts-fit.result _ a.fit_parts-fit.ensures c.in-Refused.is) c.put_refused.ensures
 
 put-last-requires-2 : tie.Need-put_last-requires-2
-put-last-requires-2 c κs = let a = c in let r = fit-ready _ _ (not-false c.args.page9 c.if-not-page9.false) a.fit_parts-fit.result _ a.fit_parts-fit.ensures c.in_default.is (ready c.before.before.before.before.before.before.before.before) in (r.is_shaped.rows_shaped, r.is_sound)
+put-last-requires-2 c κs = let a = c in let r = fit-ready _ _ (c.if-not-page9.false) a.fit_parts-fit.result _ a.fit_parts-fit.ensures c.in_default.is (ready c.before.before.before.before.before.before.before.before) in (r.is_shaped.rows_shaped, r.is_sound)
 
 returns-3 : tie.Need-returns
 returns-3 c = let a = c in rw (fitted-is _ _ (c.if-not-page9.false) a.fit_parts-fit.result _ a.fit_parts-fit.ensures c.in_default.is) c.put_last-2.ensures

@@ -44,7 +44,7 @@ module _ (c : tie.Else-not-test_agrees) where
   is-solution : test_agrees (tested state (take state.n values)) ≡ true
   is-solution = sym (c.test_agrees.ensures ∙ ap test_agrees c.test_parts-answer.ensures) ∙ c.if-not-test_agrees.false
 
-  inside : (o : ℕ) → o < state.n → spot state.sizes-1 o (get_or values o 0) < 512
+  inside : (o : ℕ) → o < state.n → spot state.sizes o (get_or values o 0) < 512
   inside o l = spot_in start.args.head (sized start) o (get_or values o 0) l (value_in state start.requires.0 start.args.counts.now (take state.n values) start.args.amount values agree is-solution o l)
 
 array-share-prefix-values : tie.Need-slice_bounds-values-end
@@ -65,7 +65,7 @@ returns c =
     (sym (c.test_agrees.ensures ∙ ap test_agrees c.test_parts-answer.ensures) ∙ c.if-not-test_agrees.true))
 
 lowest-requires : tie.Need-lowest-o-requires
-lowest-requires c κs = let e = c.before.before in (n_most (start e), inside e)
+lowest-requires c κs = let e = c.before in (n_most (start e), inside e)
 
 bin-of-requires : tie.Need-bin_of-requires
 bin-of-requires c κs =
@@ -76,20 +76,20 @@ bin-of-requires c κs =
 returns-2 : tie.Need-returns-then-o-n
 returns-2 c =
     let l = c in
-    let e = l.before.before.before in
+    let e = l.before.before.before.before in
     let a = (start e).args in
     called-as refl
-    (c.bin_of.ensures ∙ ap (λ (k : ℕ). bin_of_place (k, get_or (values e) l.lowest-o.result 0) (get_or a.counts.now (spot (state e).sizes-1 l.lowest-o.result (get_or (values e) l.lowest-o.result 0)) 0)) (add-one l.lowest-o.result))
+    (c.bin_of.ensures ∙ ap (λ (k : ℕ). bin_of_place (k, get_or (values e) l.lowest-o.result 0) (get_or a.counts.now (spot (state e).sizes l.lowest-o.result (get_or (values e) l.lowest-o.result 0)) 0)) (add-one l.lowest-o.result))
     (too-low (state e) (start e).requires.0 a.counts.now (take (state e).n (values e)) a.amount (values e) (agree e) (is-solution e) l.lowest-o.result l.lowest-o.ensures c.if-o-n.true)
 
 draw-requires : tie.Need-draw-requires
-draw-requires c κs = let e = c.before.before.before.before.before in (n_most (start e), inside e)
+draw-requires c κs = let e = c.before.before.before.before in (n_most (start e), inside e)
 
 returns-3 : tie.Need-returns
 returns-3 c =
     let d = c in
     let l = d in
-    let e = l.before.before.before in
+    let e = l.before.before.before.before.before.before in
     let a = (start e).args in
     called-as d.draw.ensures c.no_bin-2.ensures
     (taken (state e) (start e).requires.0 a.counts.now (take (state e).n (values e)) a.amount (values e) (agree e) (is-solution e) l.lowest-o.result l.lowest-o.ensures

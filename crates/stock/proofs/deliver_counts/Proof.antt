@@ -35,10 +35,10 @@ module _ (c : tie.Else-not-has_value) where
   to : start.args.variable ≤ head.n
   to = value-to (state_of head []) _ _ (is-value [])
 
-  below : start.args.value < get_or head.sizes-1 (start.args.variable - 1) 0
+  below : start.args.value < get_or head.sizes (start.args.variable - 1) 0
   below = value-below (state_of head []) _ _ (is-value [])
 
-  inside : spot head.sizes-1 (start.args.variable - 1) start.args.value < 512
+  inside : spot head.sizes (start.args.variable - 1) start.args.value < 512
   inside = spot_in head start.requires.0 (start.args.variable - 1) start.args.value (omega (arith, from, to)) below
 
 at-array : (c : tie.After-spot-at) → c.spot-at.result < 512
@@ -64,7 +64,7 @@ element-copy-out-count c = at-array c.before
 returns-2 : tie.Need-returns-then-amount-count
 returns-2 c = λ rows t.
     let p = c in
-    let e = p.before.before in
+    let e = p.before.before.before.before.before in
     let a = (start e).args in
     too_many _ t _ _ _ _ (is-value e rows)
     (le-leb _ _ (subst (λ (k : ℕ). 2 ^ 32 ≤ get_or a.counts.now k 0 + a.amount) p.spot-at.ensures (beyond a.amount _ (search rules) c.if-amount-count.true)))
@@ -79,7 +79,7 @@ returns-3 : tie.Need-returns
 unfolding changed_at
 returns-3 c = λ rows t.
     let p = c in
-    let e = p.before.before in
+    let e = p.before.before.before.before.before in
     let a = (start e).args in
     subst (λ (k : ℕ). CountsDelivered (state_of a.head rows) a.counts.now (set a.counts.now k (get_or a.counts.now k 0 + a.amount)) a.variable a.value a.amount 0)
     (sym p.spot-at.ensures)

@@ -3,10 +3,10 @@ use Rattle.std.proofs.Common.{◌-◌, rules}
 use Rattle.test_trial.proofs.series.run.Statement.{statement}
 use Rattle.test_trial.proofs.series.run.Tie as tie
 
-abbrev invariant-loop : tie.invariant-loop
+abbrev invariant-loop : tie.invariant-loop-family
 invariant-loop seed after₀ family₀ after family = Unit
 
-abbrev decreases-loop : tie.decreases-loop
+abbrev decreases-loop : tie.decreases-loop-family
 decreases-loop seed after₀ family₀ after family = 12 - family
 
 pub run_spec : {M : Type 1} → statement M

@@ -9,8 +9,8 @@ invariant-loop family times after₀ counter₀ after counter = Unit
 abbrev decreases-loop : tie.decreases-loop
 decreases-loop family times after₀ counter₀ after counter = times - counter
 
-pub run-family-spec : {M : Type 1} → statement M
-run-family-spec =
+pub run_family_spec : {M : Type 1} → statement M
+run_family_spec =
     tie.close
     (tie.spec invariant-loop decreases-loop (λ c. search rules) (λ c κs. search rules) (λ c. search rules) (λ c. search rules)
     (λ c. search rules) (λ c. search rules))

@@ -3,10 +3,10 @@ use Rattle.std.proofs.Common.{◌-◌, rules}
 use Rattle.test_trial.proofs.trials.run.Statement.{statement}
 use Rattle.test_trial.proofs.trials.run.Tie as tie
 
-abbrev invariant-loop : tie.invariant-loop
+abbrev invariant-loop : tie.invariant-loop-kind
 invariant-loop after₀ kind₀ after kind = Unit
 
-abbrev decreases-loop : tie.decreases-loop
+abbrev decreases-loop : tie.decreases-loop-kind
 decreases-loop after₀ kind₀ after kind = 14 - kind
 
 pub run_spec : {M : Type 1} → statement M

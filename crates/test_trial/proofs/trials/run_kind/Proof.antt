@@ -9,8 +9,8 @@ invariant-loop kind times after₀ counter₀ after counter = Unit
 abbrev decreases-loop : tie.decreases-loop
 decreases-loop kind times after₀ counter₀ after counter = times - counter
 
-pub run-kind-spec : {M : Type 1} → statement M
-run-kind-spec =
+pub run_kind_spec : {M : Type 1} → statement M
+run_kind_spec =
     tie.close
     (tie.spec invariant-loop decreases-loop (λ c. search rules) (λ c κs. search rules) (λ c. search rules) (λ c. search rules)
     (λ c. search rules) (λ c. search rules))
