@@ -3,6 +3,6 @@
 
 mod plan;
 mod rulings;
-mod survey;
+mod surveys;
 
 pub use plan::put_plan;

@@ -7,7 +7,7 @@ ghost use Rattle.text_put.specs.Put.{Put};
 ghost use Rattle.plan_state.specs.Plan.{condition_lines, state_text};
 
 use crate::rulings::{put_begin, put_rulings};
-use crate::survey::{no_build, put_survey};
+use crate::surveys::{no_build, put_survey};
 use head::{Head, Rows};
 use plan_ifs::put_ifs;
 use state_survey::{SurveyAnswer, survey_parts};

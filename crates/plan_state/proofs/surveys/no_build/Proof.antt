@@ -1,8 +1,8 @@
 -- A refusal says nothing; else by the count.
 use borrow.Author.Rules.{rules}
 use Rattle.plan_state.proofs.Laws.{some-build, counted-builds}
-use Rattle.plan_state.proofs.survey.no_build.Statement.{statement}
-use Rattle.plan_state.proofs.survey.no_build.Tie as tie
+use Rattle.plan_state.proofs.surveys.no_build.Statement.{statement}
+use Rattle.plan_state.proofs.surveys.no_build.Tie as tie
 
 returns : tie.Need-returns-in_default
 returns c = some-build _ c.in_default.is

@@ -1,8 +1,8 @@
 -- Either case of the survey.
 use borrow.Author.Rules.{rules}
 use Rattle.plan_state.proofs.Laws.{survey-done, survey-refused, maybe-le}
-use Rattle.plan_state.proofs.survey.put_survey.Statement.{statement}
-use Rattle.plan_state.proofs.survey.put_survey.Tie as tie
+use Rattle.plan_state.proofs.surveys.put_survey.Statement.{statement}
+use Rattle.plan_state.proofs.surveys.put_survey.Tie as tie
 
 put-maybe-requires : tie.Need-put_maybe-requires
 put-maybe-requires c κs = (c.requires.0, c.requires.1)

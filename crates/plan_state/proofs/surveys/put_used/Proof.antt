@@ -4,8 +4,8 @@ use mir.Val.{Fits}
 use borrow.Author.Rules.{rules}
 use Rattle.text_lines.specs.Text.{ascii}
 use Rattle.plan_state.proofs.Laws.{used-put, used_le}
-use Rattle.plan_state.proofs.survey.put_used.Statement.{statement}
-use Rattle.plan_state.proofs.survey.put_used.Tie as tie
+use Rattle.plan_state.proofs.surveys.put_used.Statement.{statement}
+use Rattle.plan_state.proofs.surveys.put_used.Tie as tie
 
 count_fits : (c : tie.Start) → Fits w64 c.args.survey.count
 count_fits c = search rules

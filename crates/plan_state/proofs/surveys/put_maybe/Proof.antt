@@ -2,8 +2,8 @@
 use borrow.Author.Rules.{rules}
 use Rattle.text_lines.specs.Text.{ascii}
 use Rattle.plan_state.proofs.Laws.{maybe-put}
-use Rattle.plan_state.proofs.survey.put_maybe.Statement.{statement}
-use Rattle.plan_state.proofs.survey.put_maybe.Tie as tie
+use Rattle.plan_state.proofs.surveys.put_maybe.Statement.{statement}
+use Rattle.plan_state.proofs.surveys.put_maybe.Tie as tie
 
 returns : tie.Need-returns
 unfolding ascii
