@@ -1,8 +1,8 @@
 /* live [FILE]: reads a sheet from a file or from standard input, reduces it, and prints its live options with their lists.
  * Exit status: 0 printed; 1 the sheet is refused; 2 the input cannot be read or the output not be written.
  *
- * Build, in the repository, after `rt staticlib capi`:
- *     cc -O2 -Iinclude examples/live.c target/staticlib/libcapi.a -o target/live
+ * Build, in the repository, after `rt lib` in crates/capi:
+ *     mkdir -p target && cc -O2 -Iinclude examples/live.c crates/capi/out/libcapi.a -o target/live
  */
 #include <stdio.h>
 

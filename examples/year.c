@@ -8,8 +8,8 @@
  *     call-off NUMBER VALUE VALUE ..  a call-off of the build that has these values, one for each option
  * What is left is printed as such records, so that it can open the next list.
  *
- * Build, in the repository, after `rt staticlib capi`:
- *     cc -O2 -Iinclude examples/year.c target/staticlib/libcapi.a -o target/year
+ * Build, in the repository, after `rt lib` in crates/capi:
+ *     mkdir -p target && cc -O2 -Iinclude examples/year.c crates/capi/out/libcapi.a -o target/year
  */
 #include <stdio.h>
 #include <string.h>

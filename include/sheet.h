@@ -34,8 +34,9 @@
  * Threads. The library has no global state: calls on different states and buffers may run at the same time. So may calls that only
  * look at a state, those that take a const one, on one and the same: they store nothing in it.
  *
- * Platform. x86-64 Linux, any such processor. `rt staticlib capi` writes target/staticlib/libcapi.a, which is
- * position-independent and needs nothing but memcpy and memset of the C library; ./install copies it as libsheet.a.
+ * Platform. x86-64 Linux, any processor of level x86-64-v2, which has SSE4.2 and POPCNT. `rt lib` in crates/capi writes
+ * crates/capi/out/libcapi.a, which is position-independent and needs nothing but memcpy and memset of the C library; ./install copies
+ * it as libsheet.a.
  */
 #ifndef SHEET_H
 #define SHEET_H

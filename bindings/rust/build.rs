@@ -1,4 +1,4 @@
-//! Links the proved library: of the folder that SHEET_LIB_DIR names, as it was installed, or else as `rt staticlib capi` writes it here.
+//! Links the proved library: of the folder that SHEET_LIB_DIR names, as it was installed, or else as `rt lib` in crates/capi writes it here.
 use std::env;
 use std::path::{Path, PathBuf};
 
@@ -6,12 +6,12 @@ fn main() {
     println!("cargo:rerun-if-env-changed=SHEET_LIB_DIR");
     // asked when it runs, so that a copy of the repository links its own library
     let here = env::var("CARGO_MANIFEST_DIR").expect("cargo names the folder");
-    let folder = env::var_os("SHEET_LIB_DIR").map_or_else(|| Path::new(&here).join("../../target/staticlib"), PathBuf::from);
+    let folder = env::var_os("SHEET_LIB_DIR").map_or_else(|| Path::new(&here).join("../../crates/capi/out"), PathBuf::from);
     let path = |name: &&str| folder.join(format!("lib{name}.a"));
     let name = ["sheet", "capi"].into_iter().find(|name| path(name).exists());
     let name = name.unwrap_or_else(|| {
         panic!(
-            "no libsheet.a or libcapi.a in {}: run `rt staticlib capi` first, or set SHEET_LIB_DIR",
+            "no libsheet.a or libcapi.a in {}: run `rt lib` in crates/capi first, or set SHEET_LIB_DIR",
             folder.display()
         )
     });
