@@ -25,56 +25,56 @@ small : (c : tie.Start) (k : ℕ) → get_or c.args.l.cells k 0 < 2 ^ 32
 small c = let A : Array 17 (2 ^ 32) c.args.l.cells = search shape in A.element_lt
 
 -- Past the second test the line is counted and has no fault.
-module _ (c : tie.Else2) where
+module _ (c : tie.Else-l-ne0) where
   abbrev start : tie.Start
   start = c.before.before.before
 
   no_fault : fault_of start.args.line start.args.l ≡ 0
-  no_fault = fault-own start.args.line start.args.l c.before.before.if1.false ∙ c.if2.false
+  no_fault = fault-own start.args.line start.args.l c.if-line-gt4294967295.false ∙ c.if-l-ne0.false
 
   its_place : place_of start.args.line start.args.l ≡ start.args.l.place
-  its_place = place-own start.args.line start.args.l c.before.before.if1.false
+  its_place = place-own start.args.line start.args.l c.if-line-gt4294967295.false
 
-returns : tie.Need-returns
+returns : tie.Need-returns-then-line-gt4294967295
 returns c =
     let s = c.before.before in
-    let past = c.before.if1.true in
-    faulted (state s) s.args.line s.args.l (small s) c.fault-answer.result 108 1 (fault_past _ _ past) (place-past _ _ past) (λ z. omega (arith, z)) c.fault-answer.ensures
+    let past = c.if-line-gt4294967295.true in
+    faulted (state s) s.args.line s.args.l (small c.before.before) c.fault_answer.result 108 1 (fault_past _ _ past) (place-past _ _ past) (λ z. omega (arith, z)) c.fault_answer.ensures
     s.args.counts.now s.args.ins.now s.args.outs.now
 
-returns-2 : tie.Need-returns-2
+returns-2 : tie.Need-returns-then-l-ne0
 returns-2 c =
-    let e = c.before.before.before in
-    let s = e.before in
-    faulted (state s) s.args.line s.args.l (small s) c.fault-answer2.result s.args.l.fault s.args.l.place (fault-own _ _ e.if1.false) (place-own _ _ e.if1.false) c.before.if2.true
-    c.fault-answer2.ensures s.args.counts.now s.args.ins.now s.args.outs.now
+    let e = c in
+    let s = e.before.before.before.before in
+    faulted (state s) s.args.line s.args.l (small c.before.before.before.before) c.fault_answer-then-l-ne0.result s.args.l.fault s.args.l.place (fault-own _ _ e.if-line-gt4294967295.false) (place-own _ _ e.if-line-gt4294967295.false) c.if-l-ne0.true
+    c.fault_answer-then-l-ne0.ensures s.args.counts.now s.args.ins.now s.args.outs.now
 
-cast-deliver : tie.Need-overflow-cast-deliver
+cast-deliver : tie.Need-overflow_cast-cells
 cast-deliver c = let l = small c.before.before.before.before.before.before.before.before 0 in search rules
 
-cast-deliver-2 : tie.Need-overflow-cast-deliver-2
+cast-deliver-2 : tie.Need-overflow_cast-cells-then-l-eq1
 cast-deliver-2 c = let l = small c.before.before.before.before.before.before.before.before 1 in search rules
 
-returns-3 : tie.Need-returns-3
+returns-3 : tie.Need-returns-then-l-eq1
 returns-3 c =
-    let n = c.before in
-    let d = n.before in
-    let t = d.before.before.before in
-    let e = t.before.before.before in
+    let n = c in
+    let d = n in
+    let t = d in
+    let e = t.before.before.before.before.before.before.before.before in
     let s = start e in
-    called (state s) s.args.line s.args.l (small s) c.call-answer.result s.args.l.place (no_fault e) (its_place e) d.deliver.result no_bin
-    (c.call-answer.ensures ∙ (λ i. record { fault = 0; place = s.args.l.place; number = d.deliver.result; low = n.no-bin.ensures i }))
-    s.args.counts.now _ s.args.ins.now _ s.args.outs.now s.args.outs.now (entered-as (sym (is-delivery s.args.l t.if3.true)) (d.deliver.ensures s.args.outs.now))
+    called (state s) s.args.line s.args.l (small s) c.call_answer.result s.args.l.place (no_fault e) (its_place e) d.deliver-number.result no_bin
+    (c.call_answer.ensures ∙ (λ i. record { fault = 0; place = s.args.l.place; number = d.deliver-number.result; low = n.no_bin.ensures i }))
+    s.args.counts.now _ s.args.ins.now _ s.args.outs.now s.args.outs.now (entered-as (sym (is-delivery s.args.l t.if-l-eq1.true)) (d.deliver-number.ensures s.args.outs.now))
 
-returns-4 : tie.Need-returns-4
+returns-4 : tie.Need-returns
 returns-4 c =
-    let d = c.before in
-    let t = d.before.before.before in
-    let e = t.before.before.before in
+    let d = c in
+    let t = d in
+    let e = t.before.before.before.before.before.before.before.before in
     let s = start e in
-    called (state s) s.args.line s.args.l (small s) c.call-answer2.result s.args.l.place (no_fault e) (its_place e) d.call-off-line.result.number d.call-off-line.result.low
-    c.call-answer2.ensures s.args.counts.now _ s.args.ins.now s.args.ins.now s.args.outs.now _
-    (entered-as (sym (is-call-off s.args.l t.if3.false)) (d.call-off-line.ensures s.args.ins.now))
+    called (state s) s.args.line s.args.l (small s) c.call_answer-2.result s.args.l.place (no_fault e) (its_place e) d.call_off_line-drawn.result.number d.call_off_line-drawn.result.low
+    c.call_answer-2.ensures s.args.counts.now _ s.args.ins.now s.args.ins.now s.args.outs.now _
+    (entered-as (sym (is-call-off s.args.l t.if-l-eq1.false)) (d.call_off_line-drawn.ensures s.args.ins.now))
 
 pub enter_spec : {M : Type 1} → statement M
 enter_spec =

@@ -10,10 +10,10 @@ use borrow.Author.Rules.{rules}
 use Rattle.year_entries.proofs.value_bytes.Statement.{statement}
 use Rattle.year_entries.proofs.value_bytes.Tie as tie
 
-abbrev invariant-loop : tie.invariant-loop
+abbrev invariant-loop : tie.invariant-loop-o
 invariant-loop n cells values₀ o₀ values o = (o ≤ n) × (length values ≡ 16) × ((k : ℕ) → k < o → get_or values k 0 ≡ get_or cells (k + 1) 0)
 
-abbrev decreases-loop : tie.decreases-loop
+abbrev decreases-loop : tie.decreases-loop-o
 decreases-loop n cells values₀ o₀ values o = n - o
 
 more : (cells values : List ℕ) (o : ℕ) → o < length values → ((k : ℕ) → k < o → get_or values k 0 ≡ get_or cells (k + 1) 0)
@@ -21,22 +21,22 @@ more : (cells values : List ℕ) (o : ℕ) → o < length values → ((k : ℕ) 
 more cells values o room h =
     below_more _ o (λ k l. get_or-set_other values o k _ 0 (λ e. omega (arith, e, l)) ∙ h k l) (get_or-set_same values o _ 0 room)
 
-loop-holds : tie.Need-loop-init invariant-loop decreases-loop
+loop-holds : tie.Need-loop-o-init invariant-loop decreases-loop
 loop-holds c = (omega arith, search rules, λ k l. absurd (let x : ⊥ = omega arith in x))
 
-cast-values : tie.Need-overflow-cast-values invariant-loop decreases-loop
-cast-values c = let h = c.before.before.requires.1 c.before.loop.o (omega arith) in search rules
+cast-values : tie.Need-overflow_cast-values invariant-loop decreases-loop
+cast-values c = let h = c.requires.1 c.loop-o.o (omega arith) in search rules
 
-loop-again : tie.Need-loop-preserved invariant-loop decreases-loop
+loop-again : tie.Need-loop-o-preserved invariant-loop decreases-loop
 loop-again c =
-    let l = c.before.loop in
-    (omega arith, length-set l.values l.o _ ∙ l.invariant.1, more c.before.before.args.t2 l.values l.o (omega arith) l.invariant.2)
+    let l = c.loop-o in
+    (omega arith, length-set l.values l.o _ ∙ l.invariant.1, more c.args.cells l.values l.o (omega arith) l.invariant.2)
 
 returns : tie.Need-returns invariant-loop decreases-loop
-returns c = let e : c.before.loop.o ≡ c.before.before.args.n = omega arith in rw e at c.before.loop.invariant.2
+returns c = let e : c.loop-o.o ≡ c.args.n = omega arith in rw e at c.loop-o.invariant.2
 
-pub value-bytes-spec : {M : Type 1} → statement M
-value-bytes-spec =
+pub value_bytes_spec : {M : Type 1} → statement M
+value_bytes_spec =
     tie.close
     (tie.spec
     invariant-loop

@@ -14,31 +14,31 @@ use borrow.Author.Rules.{rules}
 use Rattle.year_entries.proofs.values_below.Statement.{statement}
 use Rattle.year_entries.proofs.values_below.Tie as tie
 
-abbrev invariant-loop : tie.invariant-loop
+abbrev invariant-loop : tie.invariant-loop-o
 invariant-loop n sizes cells o₀ o = (o ≤ n) × ((k : ℕ) → k < o → ltb (get_or cells (k + 1) 0) (get_or sizes k 0) ≡ true)
 
-abbrev decreases-loop : tie.decreases-loop
+abbrev decreases-loop : tie.decreases-loop-o
 decreases-loop n sizes cells o₀ o = n - o
 
-loop-holds : tie.Need-loop-init invariant-loop decreases-loop
+loop-holds : tie.Need-loop-o-init invariant-loop decreases-loop
 loop-holds c = (omega arith, λ k l. absurd (let x : ⊥ = omega arith in x))
 
-returns : tie.Need-returns invariant-loop decreases-loop
+returns : tie.Need-returns-then-cells-o invariant-loop decreases-loop
 returns c =
-    let l = c.before.before in
-    sym (not-true→false _ (λ t. clash (every-e l.before.args.n _ t l.loop.o (omega arith)) (le-ltb _ _ c.if1.true)))
+    let l = c in
+    sym (not-true→false _ (λ t. clash (every-e l.args.n _ t l.loop-o.o (omega arith)) (le-ltb _ _ c.if-cells-o.true)))
 
-loop-again : tie.Need-loop-preserved invariant-loop decreases-loop
-loop-again c = (omega arith, below_more _ _ c.before.before.loop.invariant.1 (lt-ltb _ _ c.if1.false))
+loop-again : tie.Need-loop-o-preserved invariant-loop decreases-loop
+loop-again c = (omega arith, below_more _ _ c.loop-o.invariant.1 (lt-ltb _ _ c.if-cells-o.false))
 
-returns-2 : tie.Need-returns-2 invariant-loop decreases-loop
+returns-2 : tie.Need-returns invariant-loop decreases-loop
 returns-2 c =
-    let l = c.before in
-    let e : l.loop.o ≡ l.before.args.n = omega arith in
-    sym (every-i l.before.args.n _ (rw e at l.loop.invariant.1))
+    let l = c in
+    let e : l.loop-o.o ≡ l.args.n = omega arith in
+    sym (every-i l.args.n _ (rw e at l.loop-o.invariant.1))
 
-pub values-below-spec : {M : Type 1} → statement M
-values-below-spec =
+pub values_below_spec : {M : Type 1} → statement M
+values_below_spec =
     tie.close
     (tie.spec
     invariant-loop
