@@ -6,14 +6,14 @@ use borrow.Author.Rules.{rules}
 use Rattle.year_act.proofs.amount.Statement.{statement}
 use Rattle.year_act.proofs.amount.Tie as tie
 
-returns : tie.Need-returns
-returns c = sym (ap amount_of (is-delivery c.before.before.before.args.l c.if1.true))
+returns : tie.Need-returns-then-l-eq1
+returns c = sym (ap amount_of (is-delivery c.args.l c.if-l-eq1.true))
 
-returns-2 : tie.Need-returns-2
-returns-2 c = sym (ap amount_of (is-call-off c.before.before.before.args.l c.if1.false))
+returns-2 : tie.Need-returns
+returns-2 c = sym (ap amount_of (is-call-off c.args.l c.if-l-eq1.false))
 
-pub amount-spec : {M : Type 1} → statement M
-amount-spec =
+pub amount_spec : {M : Type 1} → statement M
+amount_spec =
     tie.close
     (tie.spec
     (λ c. search rules)

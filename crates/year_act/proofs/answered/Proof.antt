@@ -6,16 +6,16 @@ use Rattle.year_act.specs.Kept.{answered_by}
 use Rattle.year_act.proofs.answered.Statement.{statement}
 use Rattle.year_act.proofs.answered.Tie as tie
 
-returns : tie.Need-returns
+returns : tie.Need-returns-then-a-ne0
 unfolding answered_by
-returns c = sym (and-fails _ _ (ne_eqb _ 0 c.if1.true))
+returns c = sym (and-fails _ _ (ne_eqb _ 0 c.if-a-ne0.true))
 
-returns-2 : tie.Need-returns-2
+returns-2 : tie.Need-returns
 unfolding answered_by
-returns-2 c = sym (and-holds _ _ (eq-eqb _ 0 c.before.if1.false))
+returns-2 c = sym (and-holds _ _ (eq-eqb _ 0 c.if-a-ne0.false))
 
-pub answered-spec : {M : Type 1} → statement M
-answered-spec =
+pub answered_spec : {M : Type 1} → statement M
+answered_spec =
     tie.close
     (tie.spec
     returns

@@ -6,13 +6,13 @@ use borrow.Author.Rules.{rules}
 use Rattle.year_act.proofs.counted.Statement.{statement}
 use Rattle.year_act.proofs.counted.Tie as tie
 
-returns : tie.Need-returns
+returns : tie.Need-returns-then-more
 unfolding counted_if
-returns c = c.plus.ensures ∙ sym (if-true _ _ _ c.before.if1.true)
+returns c = c.plus.ensures ∙ sym (if-true _ _ _ c.if-more.true)
 
-returns-2 : tie.Need-returns-2
+returns-2 : tie.Need-returns
 unfolding counted_if
-returns-2 c = sym (if-false _ _ _ c.if1.false)
+returns-2 c = sym (if-false _ _ _ c.if-more.false)
 
 pub counted_spec : {M : Type 1} → statement M
 counted_spec =

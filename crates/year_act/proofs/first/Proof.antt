@@ -8,19 +8,19 @@ use borrow.Author.Rules.{rules}
 use Rattle.year_act.proofs.first.Statement.{statement}
 use Rattle.year_act.proofs.first.Tie as tie
 
-returns : tie.Need-returns
+returns : tie.Need-returns-then-not-answered
 unfolding noted_of
-returns c = sym (if-false _ _ _ (and-fails _ _ (sym c.before.answered.ensures ∙ not-true _ c.if1.true)))
+returns c = sym (if-false _ _ _ (and-fails _ _ (sym c.answered.ensures ∙ c.if-not-answered.true)))
 
-returns-2 : tie.Need-returns-2
+returns-2 : tie.Need-returns-then-e-ne0
 unfolding noted_of
-returns-2 c = sym (if-false _ _ _ (ap (and _) (ne_eqb _ 0 c.if2.true) ∙ and-false _))
+returns-2 c = sym (if-false _ _ _ (ap (and _) (ne_eqb _ 0 c.if-e-ne0.true) ∙ and-false _))
 
-returns-3 : tie.Need-returns-3
+returns-3 : tie.Need-returns
 unfolding noted_of
 returns-3 c =
-    let k = c.before.before.before in
-    sym (if-true _ _ _ (and_i _ _ (sym k.before.answered.ensures ∙ not-false _ k.if1.false) (eq-eqb _ 0 c.before.if2.false)))
+    let k = c in
+    sym (if-true _ _ _ (and_i _ _ (sym k.answered.ensures ∙ k.if-not-answered.false) (eq-eqb _ 0 c.if-e-ne0.false)))
 
 pub first_spec : {M : Type 1} → statement M
 first_spec =

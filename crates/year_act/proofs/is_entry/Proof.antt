@@ -16,16 +16,16 @@ second true true e = refl
 second true false e = refl
 second false k e = clash {b = false} e refl
 
-returns : tie.Need-returns
+returns : tie.Need-returns-then-l-ne0
 unfolding is_entry
-returns c = sym (or_l _ _ (not-i _ (ne_eqb _ 0 c.if1.true)))
+returns c = sym (or_l _ _ (not-i _ (ne_eqb _ 0 c.if-l-ne0.true)))
 
-returns-2 : tie.Need-returns-2
+returns-2 : tie.Need-returns
 unfolding is_entry
-returns-2 c = let l = c.before.before.before.args.l in second (eqb l.fault 0) (eqb l.kind 0) (eq-eqb _ 0 c.before.if1.false)
+returns-2 c = let l = c.args.l in second (eqb l.fault 0) (eqb l.kind 0) (eq-eqb _ 0 c.if-l-ne0.false)
 
-pub is-entry-spec : {M : Type 1} → statement M
-is-entry-spec =
+pub is_entry_spec : {M : Type 1} → statement M
+is_entry_spec =
     tie.close
     (tie.spec
     returns

@@ -8,5 +8,5 @@ returns : tie.Need-returns
 unfolding new_entries
 returns c = refl
 
-pub new-entries-spec : {M : Type 1} → statement M
-new-entries-spec = tie.close (tie.spec returns)
+pub new_entries_spec : {M : Type 1} → statement M
+new_entries_spec = tie.close (tie.spec returns)

@@ -10,37 +10,37 @@ use borrow.Author.Rules.{rules}
 use Rattle.year_act.proofs.note_short.Statement.{statement}
 use Rattle.year_act.proofs.note_short.Tie as tie
 
-is-29 : (c : tie.Then1) → answered_by 29 c.before.before.args.a ≡ true
-is-29 c = sym c.before.answered.ensures ∙ c.if1.true
+is-29 : (c : tie.Then-answered) → answered_by 29 c.args.a ≡ true
+is-29 c = sym c.answered.ensures ∙ c.if-answered.true
 
-sub-spot : tie.Need-overflow-sub-spot
-sub-spot c = let k = c.before.before in k.before.before.requires.from_1 (is-29 k)
+sub-spot : tie.Need-overflow_sub-low
+sub-spot c = let k = c in k.requires.from_1 (is-29 c.before.before)
 
-spot-requires : tie.Need-spot-requires
+spot-requires : tie.Need-spot-at-requires
 spot-requires c κs =
-    let k = c.before.before.before in
-    let h = k.before.before.requires.to_16 (is-29 k) in
+    let k = c in
+    let h = k.requires.to_16 (is-29 c.before.before.before) in
     (omega (arith, h), search rules)
 
-add-at-requires : tie.Need-add-at-requires
+add-at-requires : tie.Need-add_at-requires
 add-at-requires c κs =
-    let p = c.before in
-    let k = p.before.before.before.before in
-    let h = k.before.before.requires.inside (is-29 k) in
-    omega (arith, p.spot.ensures, h)
+    let p = c in
+    let k = p in
+    let h = k.requires.inside (is-29 c.before.before.before.before.before) in
+    omega (arith, p.spot-at.ensures, h)
 
-returns : tie.Need-returns
+returns : tie.Need-returns-then-answered
 returns c =
-    let p = c.before.before in
-    let k = p.before.before.before.before in
-    let a = k.before.before.args in
-    c.add_at.ensures ∙ ap (changed_at (plus 1) a.shorts.now) p.spot.ensures ∙ sym (if-true _ _ _ (is-29 k))
+    let p = c in
+    let k = p in
+    let a = k.args in
+    c.add_at.ensures ∙ ap (changed_at (plus 1) a.shorts.now) p.spot-at.ensures ∙ sym (if-true _ _ _ (is-29 c.before.before.before.before.before.before))
 
-returns-2 : tie.Need-returns-2
-returns-2 c = sym (if-false _ _ _ (sym c.before.answered.ensures ∙ c.if1.false))
+returns-2 : tie.Need-returns-else-answered
+returns-2 c = sym (if-false _ _ _ (sym c.answered.ensures ∙ c.if-answered.false))
 
-pub note-short-spec : {M : Type 1} → statement M
-note-short-spec =
+pub note_short_spec : {M : Type 1} → statement M
+note_short_spec =
     tie.close
     (tie.spec
     (λ c κs. search rules)

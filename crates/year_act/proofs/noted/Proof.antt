@@ -18,22 +18,22 @@ not_is false = refl
 returns : tie.Need-returns
 unfolding noted_of
 returns c =
-    let k3 = c.before.before in
-    let k2 = k3.before.before in
-    let k1 = k2.before.before in
-    let f = k1.before.before.before in
-    let e = f.before.args.e in
+    let k3 = c in
+    let k2 = k3 in
+    let k1 = k2 in
+    let f = k1 in
+    let e = f.args.e in
     λ i. record {
       line = e.line + 1;
-      ok = (k1.counted.ensures ∙ ap (λ (b : Bool). counted_if b e.ok) k1.before.answered.ensures) i;
-      r28 = (k2.counted2.ensures ∙ ap (λ (b : Bool). counted_if b e.r28) k2.before.answered2.ensures) i;
-      r29 = (k3.counted3.ensures ∙ ap (λ (b : Bool). counted_if b e.r29) k3.before.answered3.ensures) i;
-      text = (c.counted4.ensures ∙ ap (λ (b : Bool). counted_if b e.text) (not_is (eqb f.before.args.a.fault 0))) i;
-      first = f.first.ensures i;
+      ok = (k1.counted.ensures ∙ ap (λ (b : Bool). counted_if b e.ok) k1.answered.ensures) i;
+      r28 = (k2.counted-2.ensures ∙ ap (λ (b : Bool). counted_if b e.r28) k2.answered-2.ensures) i;
+      r29 = (k3.counted-3.ensures ∙ ap (λ (b : Bool). counted_if b e.r29) k3.answered-3.ensures) i;
+      text = (c.counted-4.ensures ∙ ap (λ (b : Bool). counted_if b e.text) (not_is (eqb f.args.a.fault 0))) i;
+      first = f.first-short.ensures i;
     }
 
-pub noted-spec : {M : Type 1} → statement M
-noted-spec =
+pub noted_spec : {M : Type 1} → statement M
+noted_spec =
     tie.close
     (tie.spec
     (λ c κs. search rules)

@@ -21,14 +21,14 @@ unfolding passed_of
 past e l = λ i.
     record { line = sym (if-false (leb e.line 4294967295) (e.line + 1) e.line (lt-leb e.line 4294967295 l)) i; ok = e.ok; r28 = e.r28; r29 = e.r29; text = e.text; first = e.first }
 
-returns : tie.Need-returns
-returns c = on c.before.before.before.before.args.e c.before.before.if1.true
+returns : tie.Need-returns-then-e-le4294967295
+returns c = on c.args.e c.if-e-le4294967295.true
 
-returns-2 : tie.Need-returns-2
-returns-2 c = past c.before.before.args.e c.if1.false
+returns-2 : tie.Need-returns
+returns-2 c = past c.args.e c.if-e-le4294967295.false
 
-pub passed-spec : {M : Type 1} → statement M
-passed-spec =
+pub passed_spec : {M : Type 1} → statement M
+passed_spec =
     tie.close
     (tie.spec
     (λ c. search rules)

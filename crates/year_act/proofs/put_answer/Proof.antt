@@ -13,48 +13,48 @@ use Rattle.year_act.proofs.put_answer.Tie as tie
 not-0 : {k : ℕ} → k ≡ 29 → k ≡ 0 → ⊥
 not-0 e z = omega (arith, e, z)
 
-returns : tie.Need-returns
+returns : tie.Need-returns-then-a-ne0
 unfolding answer_text
-returns c = put-text (sym (if-false _ _ _ (ne_eqb _ 0 c.before.before.before.before.if1.true))) c.before.before.put-fault.ensures
+returns c = put-text (sym (if-false _ _ _ (ne_eqb _ 0 c.if-a-ne0.true))) c.put_fault.ensures
 
-returns-2 : tie.Need-returns-2
+returns-2 : tie.Need-returns-then-a-eq29
 unfolding answer_text
 returns-2 c =
-    let k = c.before.before.before.before.before in
+    let k = c in
     put-text
-    (sym (if-true _ _ _ (eq-eqb _ 0 k.before.before.if1.false) ∙ if-false _ _ _ (ne_eqb _ 0 (not-0 k.if2.true)) ∙ if-true _ _ _ (eq-eqb _ 29 k.if2.true)))
-    c.before.before.put-too-low.ensures
+    (sym (if-true _ _ _ (eq-eqb _ 0 k.if-a-ne0.false) ∙ if-false _ _ _ (ne_eqb _ 0 (not-0 k.if-a-eq29.true)) ∙ if-true _ _ _ (eq-eqb _ 29 k.if-a-eq29.true)))
+    c.put_too_low.ensures
 
-returns-3 : tie.Need-returns-3
+returns-3 : tie.Need-returns-then-a-ne0-2
 unfolding answer_text
 returns-3 c =
-    let k = c.before.before.before.before in
-    let j = k.before.before in
+    let k = c in
+    let j = k in
     put-text
-    (sym (if-true _ _ _ (eq-eqb _ 0 j.before.before.if1.false) ∙ if-false _ _ _ (ne_eqb _ 0 k.if3.true) ∙ if-false _ _ _ (ne_eqb _ 29 j.if2.false)))
-    c.before.before.put-not-in-stock.ensures
+    (sym (if-true _ _ _ (eq-eqb _ 0 j.if-a-ne0.false) ∙ if-false _ _ _ (ne_eqb _ 0 k.if-a-ne0-2.true) ∙ if-false _ _ _ (ne_eqb _ 29 j.if-a-eq29.false)))
+    c.put_not_in_stock.ensures
 
-returns-4 : tie.Need-returns-4
+returns-4 : tie.Need-returns-then-quiet
 unfolding answer_text
 returns-4 c =
-    let k = c.before in
-    let f = k.before.before.before.before in
+    let k = c in
+    let f = k in
     put-text
-    (sym (if-true _ _ _ (eq-eqb _ 0 f.if1.false) ∙ if-true _ _ _ (eq-eqb _ 0 k.if3.false) ∙ if-true _ _ _ c.if4.true))
+    (sym (if-true _ _ _ (eq-eqb _ 0 f.if-a-ne0.false) ∙ if-true _ _ _ (eq-eqb _ 0 k.if-a-ne0-2.false) ∙ if-true _ _ _ c.if-quiet.true))
     (put-none _ _)
 
-returns-5 : tie.Need-returns-5
+returns-5 : tie.Need-returns
 unfolding answer_text
 returns-5 c =
-    let q = c.before.before.before.before in
-    let k = q.before in
-    let f = k.before.before.before.before in
+    let q = c in
+    let k = q in
+    let f = k in
     put-text
-    (sym (if-true _ _ _ (eq-eqb _ 0 f.if1.false) ∙ if-true _ _ _ (eq-eqb _ 0 k.if3.false) ∙ if-false _ _ _ q.if4.false))
-    c.before.before.put-ok.ensures
+    (sym (if-true _ _ _ (eq-eqb _ 0 f.if-a-ne0.false) ∙ if-true _ _ _ (eq-eqb _ 0 k.if-a-ne0-2.false) ∙ if-false _ _ _ q.if-quiet.false))
+    c.put_ok.ensures
 
-pub put-answer-spec : {M : Type 1} → statement M
-put-answer-spec =
+pub put_answer_spec : {M : Type 1} → statement M
+put_answer_spec =
     tie.close
     (tie.spec
     (λ c κs. search rules)

@@ -11,36 +11,36 @@ use Rattle.year_end.proofs.Laws.{same-each, all-bins}
 use Rattle.year_end.proofs.put_bins.Statement.{statement}
 use Rattle.year_end.proofs.put_bins.Tie as tie
 
-abbrev invariant-loop : tie.invariant-loop
+abbrev invariant-loop : tie.invariant-loop-o
 invariant-loop buffer₀ at head opened ins outs counts n next₀ o₀ buffer next o =
     (n ≡ head.n) × (o ≤ n)
     × Put buffer₀ buffer (each (λ (k : ℕ). each (λ (v : ℕ). bin_of head.sizes opened ins outs counts (suc k, v)) (get_or head.sizes k 0)) o) at next
 
-abbrev decreases-loop : tie.decreases-loop
+abbrev decreases-loop : tie.decreases-loop-o
 decreases-loop buffer₀ at head opened ins outs counts n next₀ o₀ buffer next o = n - o
 
-loop-holds : tie.Need-loop-init invariant-loop decreases-loop
+loop-holds : tie.Need-loop-o-init invariant-loop decreases-loop
 loop-holds c = (search rules, search rules, each_none _ _ _)
 
-put-variable-requires : tie.Need-put-variable-requires invariant-loop decreases-loop
+put-variable-requires : tie.Need-put_variable-next-requires invariant-loop decreases-loop
 put-variable-requires c κs =
-    let l = c.before.before in
-    let s = l.before.before in
-    (s.requires, omega (arith, l.loop.invariant.0))
+    let l = c in
+    let s = l in
+    (s.requires, omega (arith, l.loop-o.invariant.0))
 
-loop-again : tie.Need-loop-preserved invariant-loop decreases-loop
+loop-again : tie.Need-loop-o-preserved invariant-loop decreases-loop
 loop-again c =
-    let p = c.before.before in
-    let l = p.before.before.before in
-    (l.loop.invariant.0, search rules, each_more _ l.loop.o l.loop.invariant.2 p.put-variable.ensures)
+    let p = c in
+    let l = p in
+    (l.loop-o.invariant.0, search rules, each_more _ l.loop-o.o l.loop-o.invariant.2 p.put_variable-next.ensures)
 
 returns : tie.Need-returns invariant-loop decreases-loop
 returns c =
-    let l = c.before in
-    all-bins _ _ _ (same-each _ l.loop.o _ (omega (arith, l.loop.invariant.0)) l.loop.invariant.2)
+    let l = c in
+    all-bins _ _ _ (same-each _ l.loop-o.o _ (omega (arith, l.loop-o.invariant.0)) l.loop-o.invariant.2)
 
-pub put-bins-spec : {M : Type 1} → statement M
-put-bins-spec =
+pub put_bins_spec : {M : Type 1} → statement M
+put_bins_spec =
     tie.close
     (tie.spec
     invariant-loop

@@ -8,10 +8,10 @@ use Rattle.year_end.proofs.put_rest.Tie as tie
 returns : tie.Need-returns
 unfolding rest_by
 returns c =
-    let e = c.before.before in
-    let q = e.before.before.before.before in
-    let p = q.before.before.before.before in
-    put_then p.put-first-text.ensures (put_then q.put-shorts.ensures e.put-counts.ensures)
+    let e = c in
+    let q = e in
+    let p = q in
+    put_then p.put_first_text-firsts.ensures (put_then q.put_shorts-short.ensures e.put_counts.ensures)
 
-pub put-rest-spec : {M : Type 1} → statement M
-put-rest-spec = tie.close (tie.spec (λ c κs. search rules) (λ c κs. search rules) (λ c κs. search rules) (λ c. search rules) returns)
+pub put_rest_spec : {M : Type 1} → statement M
+put_rest_spec = tie.close (tie.spec (λ c κs. search rules) (λ c κs. search rules) (λ c κs. search rules) (λ c. search rules) returns)

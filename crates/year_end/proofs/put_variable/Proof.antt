@@ -11,40 +11,40 @@ use Rattle.year_end.proofs.Laws.{same-each}
 use Rattle.year_end.proofs.put_variable.Statement.{statement}
 use Rattle.year_end.proofs.put_variable.Tie as tie
 
-abbrev invariant-loop : tie.invariant-loop
+abbrev invariant-loop : tie.invariant-loop-v
 invariant-loop buffer₀ at head o opened ins outs counts most next₀ v₀ buffer next v =
     (most ≡ get_or head.sizes o 0) × (v ≤ most) × Put buffer₀ buffer (each (λ (k : ℕ). bin_of head.sizes opened ins outs counts (suc o, k)) v) at next
 
-abbrev decreases-loop : tie.decreases-loop
+abbrev decreases-loop : tie.decreases-loop-v
 decreases-loop buffer₀ at head o opened ins outs counts most next₀ v₀ buffer next v = most - v
 
-loop-holds : tie.Need-loop-init invariant-loop decreases-loop
-loop-holds c = (c.wide.ensures, search rules, each_none _ _ _)
+loop-holds : tie.Need-loop-v-init invariant-loop decreases-loop
+loop-holds c = (c.wide-most.ensures, search rules, each_none _ _ _)
 
-put-one-requires : tie.Need-put-one-requires invariant-loop decreases-loop
+put-one-requires : tie.Need-put_one-next-requires invariant-loop decreases-loop
 put-one-requires c κs =
-    let l = c.before.before in
-    let s = l.before.before.before.before in
-    (s.requires.0, s.requires.1, omega (arith, l.loop.invariant.0))
+    let l = c in
+    let s = l in
+    (s.requires.0, s.requires.1, omega (arith, l.loop-v.invariant.0))
 
-loop-again : tie.Need-loop-preserved invariant-loop decreases-loop
+loop-again : tie.Need-loop-v-preserved invariant-loop decreases-loop
 loop-again c =
-    let p = c.before.before in
-    let l = p.before.before.before in
-    (l.loop.invariant.0, search rules, each_more _ l.loop.v l.loop.invariant.2 p.put_one.ensures)
+    let p = c in
+    let l = p in
+    (l.loop-v.invariant.0, search rules, each_more _ l.loop-v.v l.loop-v.invariant.2 p.put_one-next.ensures)
 
 returns : tie.Need-returns invariant-loop decreases-loop
 returns c =
-    let l = c.before in
-    same-each _ l.loop.v _ (omega (arith, l.loop.invariant.0)) l.loop.invariant.2
+    let l = c in
+    same-each _ l.loop-v.v _ (omega (arith, l.loop-v.invariant.0)) l.loop-v.invariant.2
 
-pub put-variable-spec : {M : Type 1} → statement M
-put-variable-spec =
+pub put_variable_spec : {M : Type 1} → statement M
+put_variable_spec =
     tie.close
     (tie.spec
     invariant-loop
     decreases-loop
-    (λ c. let s = c.before.before in omega (arith, s.requires.1, s.requires.0.n_most))
+    (λ c. let s = c in omega (arith, s.requires.1, s.requires.0.n_most))
     (λ c κs. search rules)
     loop-holds
     put-one-requires

@@ -51,7 +51,7 @@ many c = sym c.value_count.ensures ∙ c.if-value_count-n.false
 returns : tie.Need-returns-then-value_count-n
 returns c =
     let v = c in
-    let s = v.before in
+    let s = v.before.before.before in
     none c.before.before.before (wrong-count s.args.count s.args.cells (state s) s.requires.0 (shaped c.before.before.before) (λ e. c.if-value_count-n.true (v.value_count.ensures ∙ e))) _ c.no_bin.ensures
 
 values-below-requires : tie.Need-values_below-requires
@@ -61,7 +61,7 @@ returns-2 : tie.Need-returns-then-not-values_below
 returns-2 c =
     let b = c in
     let e = b in
-    let s = e.before.before in
+    let s = e.before.before.before.before.before.before in
     none c.before.before.before.before.before.before (wrong-value s.args.count s.args.cells (state s) s.requires.0 (many c.before.before.before.before) (sym b.values_below.ensures ∙ c.if-not-values_below.true)) _ c.no_bin-then-not-values_below.ensures
 
 value-bytes-requires : tie.Need-value_bytes-values-requires

@@ -62,7 +62,7 @@ add-at-requires c κs = let l = inside c.before.before.before in omega (arith, c
 returns : tie.Need-returns-then-number-eq0
 returns c =
     let p = c in
-    let e = p.before.before.before in
+    let e = p.before.before.before.before in
     let s = start e in
     delivery-entered (state s) s.args.counts.now _ s.args.ins.now _ _ _ _ _ (e.deliver_counts-number.ensures s.args.rows.now s.requires.0)
     (subst (Summed (state s) (moved e.deliver_counts-number.result delivered_to (delivery s.args.variable s.args.value s.args.amount)) s.args.ins.now)

@@ -45,7 +45,7 @@ returns c =
 returns-2 : tie.Need-returns-then-l-ne0
 returns-2 c =
     let e = c in
-    let s = e.before in
+    let s = e.before.before.before.before in
     faulted (state s) s.args.line s.args.l (small c.before.before.before.before) c.fault_answer-then-l-ne0.result s.args.l.fault s.args.l.place (fault-own _ _ e.if-line-gt4294967295.false) (place-own _ _ e.if-line-gt4294967295.false) c.if-l-ne0.true
     c.fault_answer-then-l-ne0.ensures s.args.counts.now s.args.ins.now s.args.outs.now
 
@@ -60,7 +60,7 @@ returns-3 c =
     let n = c in
     let d = n in
     let t = d in
-    let e = t.before.before.before in
+    let e = t.before.before.before.before.before.before.before.before in
     let s = start e in
     called (state s) s.args.line s.args.l (small s) c.call_answer.result s.args.l.place (no_fault e) (its_place e) d.deliver-number.result no_bin
     (c.call_answer.ensures ∙ (λ i. record { fault = 0; place = s.args.l.place; number = d.deliver-number.result; low = n.no_bin.ensures i }))
@@ -70,7 +70,7 @@ returns-4 : tie.Need-returns
 returns-4 c =
     let d = c in
     let t = d in
-    let e = t.before.before.before in
+    let e = t.before.before.before.before.before.before.before.before in
     let s = start e in
     called (state s) s.args.line s.args.l (small s) c.call_answer-2.result s.args.l.place (no_fault e) (its_place e) d.call_off_line-drawn.result.number d.call_off_line-drawn.result.low
     c.call_answer-2.ensures s.args.counts.now _ s.args.ins.now s.args.ins.now s.args.outs.now _

@@ -17,7 +17,7 @@ use Rattle.year_feed.proofs.Held.{moved_on}
 use Rattle.year_feed.proofs.feed.Statement.{statement}
 use Rattle.year_feed.proofs.feed.Tie as tie
 
-abbrev invariant-loop : tie.invariant-loop
+abbrev invariant-loop : tie.invariant-loop-next
 invariant-loop head rows counts₀ ins₀ outs₀ shorts₀ bytes from quiet text₀ most on₀ next₀ length₀ counts ins outs shorts text on next len =
     (from ≤ next)
     × (from ≤ length bytes → next ≤ length bytes)
@@ -28,65 +28,65 @@ invariant-loop head rows counts₀ ins₀ outs₀ shorts₀ bytes from quiet tex
     × Put text₀ text (texts (year_program (state_of head rows) quiet) z (between from next bytes)) 0 len)
     × (length text ≡ length text₀)
 
-abbrev decreases-loop : tie.decreases-loop
+abbrev decreases-loop : tie.decreases-loop-next
 decreases-loop head rows counts₀ ins₀ outs₀ shorts₀ bytes from quiet text₀ most on₀ next₀ length₀ counts ins outs shorts text on next len = length bytes - next
 
-loop-holds : tie.Need-loop-init invariant-loop decreases-loop
+loop-holds : tie.Need-loop-next-init invariant-loop decreases-loop
 unfolding after texts
 loop-holds c =
-    let s = c.before.before.before in
+    let s = c in
     let a = s.args in
     (search rules, (λ h. h), (λ e. refl), s.requires.1, (λ z H. (rw (between_none a.from a.bytes.now) H, rw (between_none a.from a.bytes.now) (put-none _ _))), refl)
 
 -- In the loop a byte is left.
-below : (n : tie.In-loop invariant-loop decreases-loop) → n.before.loop.next < length n.before.before.before.before.before.args.bytes.now
+below : (n : tie.In-loop-next invariant-loop decreases-loop) → n.loop-next.next < length n.args.bytes.now
 below n = omega arith
 
-fits : (n : tie.In-loop invariant-loop decreases-loop) → n.before.loop.next + 1 < 2 ^ 64
+fits : (n : tie.In-loop-next invariant-loop decreases-loop) → n.loop-next.next + 1 < 2 ^ 64
 fits n = omega arith
 
-returns : tie.Need-returns invariant-loop decreases-loop
+returns : tie.Need-returns-then-most-length invariant-loop decreases-loop
 returns c =
-    let l = c.before.before in
-    let i = l.loop.invariant in
+    let l = c in
+    let i = l.loop-next.invariant in
     record {
       whole = i.3;
       goes = i.0;
       ends = i.1;
-      moves = λ h. moved_on _ _ _ _ i.0 i.2 c.if1.true;
+      moves = λ h. moved_on _ _ _ _ i.0 i.2 c.if-most-length.true;
       year_is = λ z H. (i.4 z H).0;
       text_is = λ z H. (i.4 z H).1;
     }
 
-take-byte-requires : tie.Need-take-byte-requires invariant-loop decreases-loop
-take-byte-requires c κs = let l = c.before.before.before.before.before.before.before.before in (l.before.before.before.before.requires.0, l.loop.invariant.3)
+take-byte-requires : tie.Need-take_byte-took-requires invariant-loop decreases-loop
+take-byte-requires c κs = let l = c in (l.requires.0, l.loop-next.invariant.3)
 
-loop-again : tie.Need-loop-preserved invariant-loop decreases-loop
+loop-again : tie.Need-loop-next-preserved invariant-loop decreases-loop
 loop-again c =
-    let t = c.before.before.before in
-    let l = t.before.before.before.before.before.before.before.before.before in
-    let s = l.before.before.before.before in
+    let t = c in
+    let l = t in
+    let s = l in
     let a = s.args in
-    let i = l.loop.invariant in
+    let i = l.loop-next.invariant in
     let P = year_program (state_of a.head a.rows.now) a.quiet in
-    let g = t.take-byte.ensures in
-    let h : a.from ≤ l.loop.next = i.0 in
-    let k : l.loop.next < length a.bytes.now = below t.before.before.before.before.before.before.before.before in (
-      (let e : a.from ≤ l.loop.next + 1 = omega (arith, h) in e),
+    let g = t.take_byte-took.ensures in
+    let h : a.from ≤ l.loop-next.next = i.0 in
+    let k : l.loop-next.next < length a.bytes.now = below c.before.before.before.before.before.before.before.before.before.before.before in (
+      (let e : a.from ≤ l.loop-next.next + 1 = omega (arith, h) in e),
       (λ x. omega (arith, k)),
       (λ e. absurd (let no : ⊥ = omega (arith, h, e) in no)),
       g.whole,
       (λ z H. let I = i.4 z H in (
-        rw (after_more P z a.from l.loop.next a.bytes.now h k) (g.year_is (after P z (between a.from l.loop.next a.bytes.now)) I.0),
-        rw (texts-more P z a.from l.loop.next a.bytes.now h k) (put_then I.1 (g.text_is (after P z (between a.from l.loop.next a.bytes.now)) I.0)),
+        rw (after_more P z a.from l.loop-next.next a.bytes.now h k) (g.year_is (after P z (between a.from l.loop-next.next a.bytes.now)) I.0),
+        rw (texts-more P z a.from l.loop-next.next a.bytes.now h k) (put_then I.1 (g.text_is (after P z (between a.from l.loop-next.next a.bytes.now)) I.0)),
       )),
-      c.before.before.text.given ∙ i.5,
+      c.text-1.given ∙ i.5,
     )
 
-returns-2 : tie.Need-returns-2 invariant-loop decreases-loop
+returns-2 : tie.Need-returns invariant-loop decreases-loop
 returns-2 c =
-    let l = c.before in
-    let i = l.loop.invariant in
+    let l = c in
+    let i = l.loop-next.invariant in
     record {
       whole = i.3;
       goes = i.0;
@@ -96,20 +96,20 @@ returns-2 c =
       text_is = λ z H. (i.4 z H).1;
     }
 
-pub feed-spec : {M : Type 1} → statement M
-feed-spec =
+pub feed_spec : {M : Type 1} → statement M
+feed_spec =
     tie.close
     (tie.spec
     invariant-loop
     decreases-loop
     (λ c κs. search rules)
     loop-holds
-    (λ c. c.before.before.loop.invariant.5)
+    (λ c. c.loop-next.invariant.5)
     returns
     (λ c. search rules)
     take-byte-requires
     (λ c. let h = fits c.before.before.before.before.before.before.before.before.before.before.before in omega (arith, h))
     (λ c. let h = below c.before.before.before.before.before.before.before.before.before.before.before in omega (arith, h))
     loop-again
-    (λ c. c.before.loop.invariant.5)
+    (λ c. c.loop-next.invariant.5)
     returns-2)

@@ -15,41 +15,41 @@ use Rattle.year_feed.proofs.take_byte.Tie as tie
 abbrev state : tie.Start → State
 state c = state_of c.args.head c.args.rows.now
 
-returns : tie.Need-returns
+returns : tie.Need-returns-then-byte-ne10
 returns c =
-    let t = c.before in
-    let s = t.before.before.before.before in
+    let t = c in
+    let s = t.before.before.before.before.before in
     let a = s.args in
-    let n = ne_eqb a.byte 10 t.if1.true in
+    let n = ne_eqb a.byte 10 t.if-byte-ne10.true in
     record {
       whole = s.requires.1;
       year_is = λ z H. rw (moved-is (state s) a.quiet z a.byte n)
-          (record { seen_is = c.step.ensures ∙ ap (λ (x : Scan). step x a.byte) H.seen_is; begun_is = refl; kept = H.kept });
+          (record { seen_is = c.step-scan.ensures ∙ ap (λ (x : Scan). step x a.byte) H.seen_is; begun_is = refl; kept = H.kept });
       text_is = λ z H. put-text (sym (quiet_is (state s) a.quiet z a.byte n)) (put-none _ _);
     }
 
-returns-2 : tie.Need-returns-2
+returns-2 : tie.Need-returns
 returns-2 c =
-    let o = c.before in
-    let g = o.before.before.before in
-    let f = g.before.before.before.before.before.before in
-    let e = f.before in
-    let s = e.before.before.before.before in
+    let o = c in
+    let g = o in
+    let f = g in
+    let e = f in
+    let s = e.before.before.before.before.before.before.before.before.before.before.before.before.before.before.before in
     let a = s.args in
-    let n = eq-eqb a.byte 10 e.if1.false in
-    let L = g.act.ensures in
+    let n = eq-eqb a.byte 10 e.if-byte-ne10.false in
+    let L = g.act-acted.ensures in
     record {
       whole = L.whole;
       year_is = λ z H.
-          let q : f.finish.result ≡ finish z.seen = f.finish.ensures ∙ ap finish H.seen_is in
-          rw (ended_is (state s) a.quiet z a.byte n) (record { seen_is = o.opening.ensures; begun_is = refl; kept = rw q at (L.year_is z.state H.kept) });
+          let q : f.finish-line.result ≡ finish z.seen = f.finish-line.ensures ∙ ap finish H.seen_is in
+          rw (ended_is (state s) a.quiet z a.byte n) (record { seen_is = o.opening-scan.ensures; begun_is = refl; kept = rw q at (L.year_is z.state H.kept) });
       text_is = λ z H.
-          let q : f.finish.result ≡ finish z.seen = f.finish.ensures ∙ ap finish H.seen_is in
+          let q : f.finish-line.result ≡ finish z.seen = f.finish-line.ensures ∙ ap finish H.seen_is in
           put-text (sym (answer-is (state s) a.quiet z a.byte n)) (rw q at (L.text_is z.state H.kept));
     }
 
-pub take-byte-spec : {M : Type 1} → statement M
-take-byte-spec =
+pub take_byte_spec : {M : Type 1} → statement M
+take_byte_spec =
     tie.close
     (tie.spec
     (λ c κs. search rules)
