@@ -1,4 +1,5 @@
 -- The loop's invariant: the whole is the steps taken and the rounds of the present head and rows. Each round but the last takes a free variable.
+use mathlib.Core.Path.{◌≡◌}
 use native.Mathlib.Omega.{arith}
 use borrow.Author.Rules.{rules}
 use Rattle.network.specs.Reduction.{free_count}
@@ -28,18 +29,6 @@ reduce-sound-requires c κs =
     let s = round-sound A t.trim_live-trimmed.ensures in
     search rules
 
-returns : tie.Need-returns-then-same_lists invariant-loop decreases-loop
-returns c =
-    let e = c in
-    let t = e in
-    round-none t.loop-steps.invariant t.trim_live-trimmed.ensures (e.same_lists.ensures c.if-same_lists.true) e.if-steps-ne0.true
-
-returns-2 : tie.Need-returns-then-round-eq0 invariant-loop decreases-loop
-returns-2 c =
-    let d = c in
-    let t = d in
-    round-last t.loop-steps.invariant t.trim_live-trimmed.ensures d.reduce_sound-round.ensures c.if-round-eq0.true
-
 add-steps : tie.Need-overflow_add-steps invariant-loop decreases-loop
 add-steps c =
     let d = c in
@@ -48,16 +37,24 @@ add-steps c =
 
 loop-less : tie.Need-loop-steps-smaller invariant-loop decreases-loop
 loop-less c =
-    let d = c in
-    let t = d in
-    round-less t.loop-steps.invariant t.trim_live-trimmed.ensures d.reduce_sound-round.ensures c.if-round-eq0.false
+    let took : c.reduce_sound-round.result.steps ≡ 0 → ⊥ = omega arith in
+    round-less c.loop-steps.invariant c.trim_live-trimmed.ensures c.reduce_sound-round.ensures took
 
 loop-again : tie.Need-loop-steps-preserved invariant-loop decreases-loop
 loop-again c =
-    let d = c in
-    let t = d in
-    round-more t.loop-steps.invariant t.trim_live-trimmed.ensures d.reduce_sound-round.ensures c.if-round-eq0.false
+    let took : c.reduce_sound-round.result.steps ≡ 0 → ⊥ = omega arith in
+    round-more c.loop-steps.invariant c.trim_live-trimmed.ensures c.reduce_sound-round.ensures took
 
 pub alternate_sound_spec : {M : Type 1} → statement M
 alternate_sound_spec =
-    tie.close (tie.spec invariant-loop decreases-loop loop-holds trim-live-requires (λ c κs. search rules) returns reduce-sound-requires returns-2 add-steps loop-less loop-again)
+    tie.close
+    (tie.spec invariant-loop decreases-loop loop-holds trim-live-requires
+    (λ c κs. search rules)
+    (λ c.
+    let some : c.loop-steps.steps ≡ 0 → ⊥ = omega arith in
+    round-none c.loop-steps.invariant c.trim_live-trimmed.ensures (c.same_lists.ensures (search rules)) some)
+    reduce-sound-requires
+    (λ c.
+    let none : c.reduce_sound-round.result.steps ≡ 0 = omega arith in
+    round-last c.loop-steps.invariant c.trim_live-trimmed.ensures c.reduce_sound-round.ensures none)
+    add-steps loop-less loop-again)
