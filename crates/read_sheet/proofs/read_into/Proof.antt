@@ -31,17 +31,13 @@ returns-3 c =
     let version = c in
     into-body _ (right-length c.before.before.before.before.before.before.before) version2 (version2-found _ version.if-version-eq2.true) c.read_body-then-version-eq2.ensures
 
-returns-4 : tie.Need-returns-then-version-eq3
-unfolding version3
-returns-4 c =
-    let version = c in
-    into-body _ (right-length c.before.before.before.before.before.before.before.before) version3 (version3-found _ version.if-version-eq3.true) c.read_body-then-version-eq3.ensures
-
 returns-5 : tie.Need-returns
 returns-5 c =
-    into-wrong-version _ (right-length c.before.before.before.before) c.if-version-eq1.false c.if-version-eq2.false c.if-version-eq3.false
+    let right : wrong_length c.args.bytes.now ≡ false = sym c.wrong_length.ensures ∙ c.if-wrong_length.false in
+    into-wrong-version _ right c.if-version-eq1.false c.if-version-eq2.false (search rules)
 
 pub read_into_spec : {M : Type 1} → statement M
+unfolding version3
 read_into_spec =
     tie.close
     (tie.spec
@@ -53,5 +49,7 @@ read_into_spec =
     (λ c κs. search rules)
     returns-3
     (λ c κs. search rules)
-    returns-4
+    (λ c.
+    let right : wrong_length c.args.bytes.now ≡ false = sym c.wrong_length.ensures ∙ c.if-wrong_length.false in
+    into-body _ right version3 (version3-found _ (search rules)) (search rules))
     returns-5)

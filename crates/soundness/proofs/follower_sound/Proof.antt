@@ -14,14 +14,10 @@ returns : tie.Need-returns-then-n-l
 unfolding follower_fits
 returns c = sym (and-fails _ _ (le-ltb _ _ c.if-n-l.true))
 
-returns-2 : tie.Need-returns-then-leaders-l-ne0
-unfolding follower_fits
-returns-2 c = sym (and-holds _ _ (lt-ltb _ _ c.if-n-l.false) ∙ and-fails _ _ (ne_eqb _ _ c.if-leaders-l-ne0.true))
-
 returns-3 : tie.Need-returns-then-stated-single
 unfolding follower_fits
 returns-3 c =
-    sym (and-holds _ _ (lt-ltb _ _ c.if-n-l.false) ∙ and-holds _ _ (eq-eqb _ _ c.if-leaders-l-ne0.false)
+    sym (and-holds _ _ (lt-ltb _ _ c.if-n-l.false) ∙ and-holds _ _ (eq-eqb _ _ (search rules))
     ∙ and-fails _ _ (ne_eqb _ _ (λ e. c.if-stated-single.true (e ∙ sym c.single.ensures))))
 
 partners-within-requires : tie.Need-partners_within-requires
@@ -36,7 +32,7 @@ partners-within-requires c κs =
 returns-4 : tie.Need-returns-then-not-partners_within
 returns-4 c =
     let passed = c in
-    sym (follower-tied _ _ _ _ _ _ _ passed.if-n-l.false passed.if-leaders-l-ne0.false
+    sym (follower-tied _ _ _ _ _ _ _ passed.if-n-l.false (search rules)
     (passed.if-stated-single.false ∙ passed.single.ensures)
     ∙ and-fails _ _ (sym c.partners_within.ensures ∙ c.if-not-partners_within.true))
 
@@ -53,17 +49,18 @@ returns-5 : tie.Need-returns
 returns-5 c =
     let passed = c in
     c.trimmed_to.ensures
-    ∙ sym (follower-tied _ _ _ _ _ _ _ passed.if-n-l.false passed.if-leaders-l-ne0.false
+    ∙ sym (follower-tied _ _ _ _ _ _ _ passed.if-n-l.false (search rules)
     (passed.if-stated-single.false ∙ passed.single.ensures)
     ∙ and-holds _ _ (sym c.partners_within.ensures ∙ c.if-not-partners_within.false))
 
 pub follower_sound_spec : {M : Type 1} → statement M
+unfolding follower_fits
 follower_sound_spec =
     tie.close
     (tie.spec
     returns
     (λ c. search rules)
-    returns-2
+    (λ c. sym (and-holds _ _ (lt-ltb _ _ c.if-n-l.false) ∙ and-fails _ _ (ne_eqb _ _ (search rules))))
     (λ c κs. search rules)
     returns-3
     (λ c. search rules)

@@ -12,26 +12,23 @@ use Rattle.soundness_head.proofs.head_sound.Tie as tie
 returns : tie.Need-returns-then-n-lt1
 returns c = head-none _ c.if-n-lt1.true
 
-returns-2 : tie.Need-returns-then-n-gt-VARIABLES
-returns-2 c = head-many _ (omega arith) (omega arith)
-
 returns-3 : tie.Need-returns-then-not-sizes_sound
 returns-3 c =
     let n = c in
-    head-sizes _ n.if-n-lt1.false n.if-n-gt-VARIABLES.false (sym c.sizes_sound.ensures ∙ c.if-not-sizes_sound.true)
+    head-sizes _ n.if-n-lt1.false (omega arith) (sym c.sizes_sound.ensures ∙ c.if-not-sizes_sound.true)
 
 domains-sound-requires : tie.Need-domains_sound-requires
 domains-sound-requires c κs =
     let sized = c in
     let n = sized in
     let A : HeadShaped n.args.head = search shape in
-    size-le _ A n.if-n-gt-VARIABLES.false (sym sized.sizes_sound.ensures ∙ sized.if-not-sizes_sound.false)
+    size-le _ A (omega arith) (sym sized.sizes_sound.ensures ∙ sized.if-not-sizes_sound.false)
 
 returns-4 : tie.Need-returns-then-not-domains_sound
 returns-4 c =
     let sized = c in
     let n = sized in
-    head-domains _ n.if-n-lt1.false n.if-n-gt-VARIABLES.false (sym sized.sizes_sound.ensures ∙ sized.if-not-sizes_sound.false)
+    head-domains _ n.if-n-lt1.false (omega arith) (sym sized.sizes_sound.ensures ∙ sized.if-not-sizes_sound.false)
     (sym c.domains_sound.ensures ∙ c.if-not-domains_sound.true)
 
 returns-5 : tie.Need-returns
@@ -40,7 +37,7 @@ returns-5 c =
     let sized = inside in
     let n = sized in
     c.pairs_sound.ensures
-    ∙ head-pairs _ n.if-n-lt1.false n.if-n-gt-VARIABLES.false (sym sized.sizes_sound.ensures ∙ sized.if-not-sizes_sound.false)
+    ∙ head-pairs _ n.if-n-lt1.false (omega arith) (sym sized.sizes_sound.ensures ∙ sized.if-not-sizes_sound.false)
     (sym inside.domains_sound.ensures ∙ inside.if-not-domains_sound.false)
 
 pub head_sound_spec : {M : Type 1} → statement M
@@ -48,7 +45,7 @@ head_sound_spec =
     tie.close
     (tie.spec
     returns
-    returns-2
+    (λ c. head-many _ (omega arith) (omega arith))
     (λ c κs. search rules)
     returns-3
     domains-sound-requires

@@ -26,39 +26,35 @@ is_sound c = sym c.sound_parts.ensures ∙ c.if-not-sound_parts.false
 product-requires : tie.Need-product-requires
 product-requires c κs = held-n _ _ (is_sound c)
 
-returns-2 : tie.Need-returns-then-product-gt-MOST_CHOICES
-unfolding verdict_told
-returns-2 c =
-    let p = c in
-    let t = is_sound c.before.before in
-    sym (search-refuses _ 23 (search-own _ t ∙ product-refused _ _ (p.product.ensures _ t) c.if-product-gt-MOST_CHOICES.true) (omega arith))
-
--- and past the second nothing refuses.
-accepts : (c : tie.Else-product-gt-MOST_CHOICES) → let s = c.args in search_number (state_of s.head s.rows.now) ≡ 0
-accepts c =
-    let t = is_sound c.before.before in
-    search-own _ t ∙ product-accepted _ _ (c.product.ensures _ t) (omega (arith, c.if-product-gt-MOST_CHOICES.false))
+-- and past the second nothing refuses: `accepts` says so in each of the last two.
 
 returns-3 : tie.Need-returns-then-not-found
 unfolding verdict_told
 returns-3 c =
-    let f = c in
-    told_none _ (accepts c.before.before.before.before) _ f.search_sound-found.ensures (not-true _ c.if-not-found.true)
+    let t : sound_in c.args.head c.args.rows.now ≡ true = sym c.sound_parts.ensures ∙ c.if-not-sound_parts.false in
+    let accepts : search_number (state_of c.args.head c.args.rows.now) ≡ 0 =
+    search-own _ t ∙ product-accepted _ _ (c.product.ensures _ t) (omega arith) in
+    told_none _ accepts _ c.search_sound-found.ensures (not-true _ c.if-not-found.true)
 
 returns-4 : tie.Need-returns
 unfolding verdict_told
 returns-4 c =
-    let f = c in
-    told-found _ (accepts c.before.before.before.before) _ f.search_sound-found.ensures (not-false _ c.if-not-found.false)
+    let t : sound_in c.args.head c.args.rows.now ≡ true = sym c.sound_parts.ensures ∙ c.if-not-sound_parts.false in
+    let accepts : search_number (state_of c.args.head c.args.rows.now) ≡ 0 =
+    search-own _ t ∙ product-accepted _ _ (c.product.ensures _ t) (omega arith) in
+    told-found _ accepts _ c.search_sound-found.ensures (not-false _ c.if-not-found.false)
 
 pub search_parts_spec : {M : Type 1} → statement M
+unfolding verdict_told
 search_parts_spec =
     tie.close
     (tie.spec
     (λ c κs. search rules)
     returns
     product-requires
-    returns-2
-    (λ c κs. is_sound c.before.before)
+    (λ c.
+    let t : sound_in c.args.head c.args.rows.now ≡ true = sym c.sound_parts.ensures ∙ c.if-not-sound_parts.false in
+    sym (search-refuses _ 23 (search-own _ t ∙ product-refused _ _ (c.product.ensures _ t) (omega arith)) (omega arith)))
+    (λ c κs. sym c.sound_parts.ensures ∙ c.if-not-sound_parts.false)
     returns-3
     returns-4)

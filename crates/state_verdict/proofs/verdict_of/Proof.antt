@@ -32,39 +32,28 @@ returns c =
 free-apart-requires : tie.Need-free_apart-requires
 free-apart-requires c κs = held-n _ _ (start c.before.before.before).requires
 
-returns-2 : tie.Need-returns-then-not-free_apart
-unfolding verdict_told
-returns-2 c =
-    let e = c in
-    let s = start c.before.before.before.before.before in
-    told-open _ (shaped s) s.requires (left c.before.before.before.before) (sym c.free_apart.ensures ∙ c.if-not-free_apart.true)
-
--- Past the second no two free variables are stated together.
-abbrev first : tie.Else-not-free_apart → tie.Else-not-domains_open
-first c = c.before.before.before.before
-
 lowest-solution-requires : tie.Need-lowest_solution-requires
 lowest-solution-requires c κs =
-    let e = first c.before.before in
-    let s = start e.before in
-    lowest-led _ (shaped s) s.requires (left e)
+    let A : HeadShaped c.args.head = search shape in
+    lowest-led _ A c.requires (sym c.domains_open.ensures ∙ c.if-not-domains_open.false)
 
 returns-3 : tie.Need-returns
 unfolding verdict_told
 returns-3 c =
-    let f = c in
-    let e = first c.before.before.before in
-    let s = start e.before in
-    told-built _ (shaped s) s.requires (left e) _ (search rules)
-    (sym f.free_apart.ensures ∙ f.if-not-free_apart.false) c.lowest_solution.ensures
+    let A : HeadShaped c.args.head = search shape in
+    told-built _ A c.requires (sym c.domains_open.ensures ∙ c.if-not-domains_open.false) _ (search rules)
+    (sym c.free_apart.ensures ∙ search rules) c.lowest_solution.ensures
 
 pub verdict_of_spec : {M : Type 1} → statement M
+unfolding verdict_told
 verdict_of_spec =
     tie.close
     (tie.spec
     domains-open-requires
     returns
     free-apart-requires
-    returns-2
+    (λ c.
+    let A : HeadShaped c.args.head = search shape in
+    told-open _ A c.requires (sym c.domains_open.ensures ∙ c.if-not-domains_open.false) (sym c.free_apart.ensures ∙ search rules))
     lowest-solution-requires
     returns-3)

@@ -15,19 +15,21 @@ returns-2 c =
     field-fault c.args.k _ _ _ c.number-row.ensures (omega arith)
     (within-fault 32 _ _ _ (omega arith) (sym c.within.ensures ∙ c.if-not-within.true))
 
-returns-3 : tie.Need-returns-then-filled-row
-returns-3 c =
-    let test = c in
-    field-fault test.args.k _ _ _ test.number-row.ensures (omega arith)
-    (blank-fault 32 _ _ _ (omega arith) c.if-filled-row.true)
-
 returns-4 : tie.Need-returns
 returns-4 c =
     let test = c in
     field-fine test.args.k _ _ _ test.number-row.ensures refl (omega arith)
-    (within-fine 32 _ _ _ (omega arith) (sym test.within.ensures ∙ test.if-not-within.false) c.if-filled-row.false)
+    (within-fine 32 _ _ _ (omega arith) (sym test.within.ensures ∙ test.if-not-within.false) (search rules))
 
 pub row_field_spec : {M : Type 1} → statement M
 row_field_spec =
     tie.close
-    (tie.spec (λ c. search rules) returns (λ c κs. search rules) (λ c κs. search rules) returns-2 returns-3 (λ c. search rules) returns-4)
+    (tie.spec
+    (λ c. search rules)
+    returns
+    (λ c κs. search rules)
+    (λ c κs. search rules)
+    returns-2
+    (λ c. field-fault c.args.k _ _ _ c.number-row.ensures (omega arith) (blank-fault 32 _ _ _ (omega arith) (search rules)))
+    (λ c. search rules)
+    returns-4)
