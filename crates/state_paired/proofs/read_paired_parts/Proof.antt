@@ -1,5 +1,5 @@
 -- A refusal is handed on; of an accepted sheet the walk says whether it is of the profile.
-use mathlib.Core.Path.{sym, ◌∙◌}
+use mathlib.Core.Path.{◌≡◌, sym, ◌∙◌}
 use native.Mathlib.Omega.{arith}
 use borrow.Author.Rules.{rules}
 use Rattle.read_paired.specs.Accepted.{Accepted}
@@ -17,17 +17,6 @@ taken c = let r = c.read_parts-read in walked _ r.result _ r.ensures c.in_defaul
 unpaired-place-requires : tie.Need-unpaired_place-place-requires
 unpaired-place-requires c κs = let A = taken c in search rules
 
-returns-2 : tie.Need-returns-then-place-eq0
-returns-2 c =
-    let w = c in
-    let r = w.read_parts-read in
-    kept _ r.result _ r.ensures (taken c.before.before) (sym w.unpaired_place-place.ensures ∙ c.if-place-eq0.true)
-
-returns-3 : tie.Need-returns
-returns-3 c =
-    let w = c in
-    c.refused.ensures ∙ turned-away _ (taken c.before.before.before.before) w.unpaired_place-place.ensures (λ z. omega (arith, c.if-place-eq0.false))
-
 pub read_paired_parts_spec : {M : Type 1} → statement M
 read_paired_parts_spec =
     tie.close
@@ -37,6 +26,14 @@ read_paired_parts_spec =
     returns
     (λ c. search rules)
     unpaired-place-requires
-    returns-2
+    (λ c.
+    let r = c.read_parts-read in
+    let u = c.unpaired_place-place in
+    let none : u.result ≡ 0 = omega arith in
+    kept _ r.result _ r.ensures (walked _ r.result _ r.ensures c.in_default.is) (sym u.ensures ∙ none))
     (λ c κs. search rules)
-    returns-3)
+    (λ c.
+    let r = c.read_parts-read in
+    let u = c.unpaired_place-place in
+    c.refused.ensures
+    ∙ turned-away _ (walked _ r.result _ r.ensures c.in_default.is) u.ensures (λ z. let x : ⊥ = omega arith in x)))
