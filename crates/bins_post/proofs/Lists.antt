@@ -1,15 +1,24 @@
 -- Lists, for a loop that goes over one element after the other.
---     upto f i xs    xs with f done to its first i elements.        upto_zero, upto-at, upto_next, upto_all
+--     next_is        the rest from i on is element i and the rest from i + 1 on
+--     upto f i xs    xs with f done to its first i elements.        upto_zero, upto-length, upto-at, upto_next, upto_all
 use mathlib.Core.Path.{◌≡◌, refl, sym, ap, ◌∙◌}
 use Prim.Native.Nat.{ℕ, zero, suc, ◌+◌, ◌<◌, ◌≤◌}
 use native.Mathlib.Nat.{add-zero, add-suc, not-suc-le-zero, le_of_suc-le-suc}
 use mathlib.Core.List.{List, [], ◌∷◌, map}
-use lib.ListN.{length, get_or, set}
+use lib.ListN.{length, get_or, set, drop}
 
-one_more : (i : ℕ) → i + 1 ≡ suc i
+pub one_more : (i : ℕ) → i + 1 ≡ suc i
 one_more i = add-suc i zero ∙ ap suc (add-zero i)
 
 module _ {A : Type 0} where
+  next-suc : (xs : List A) (i : ℕ) (d : A) → i < length xs → drop i xs ≡ get_or xs i d ∷ drop (suc i) xs
+  next-suc [] i d l = absurd (not-suc-le-zero l)
+  next-suc (x ∷ xs) zero d l = refl
+  next-suc (x ∷ xs) (suc i) d l = next-suc xs i d (le_of_suc-le-suc l)
+
+  pub next_is : (xs : List A) (i : ℕ) (d : A) → i < length xs → drop i xs ≡ get_or xs i d ∷ drop (i + 1) xs
+  next_is xs i d l = next-suc xs i d l ∙ ap (λ (k : ℕ). get_or xs i d ∷ drop k xs) (sym (one_more i))
+
   module _ (f : A → A) where
     abbrev pub upto : ℕ → List A → List A
     upto i [] = []
@@ -19,6 +28,11 @@ module _ {A : Type 0} where
     pub upto_zero : (xs : List A) → upto 0 xs ≡ xs
     upto_zero [] = refl
     upto_zero (x ∷ xs) = refl
+
+    pub upto-length : (i : ℕ) (xs : List A) → length (upto i xs) ≡ length xs
+    upto-length i [] = refl
+    upto-length zero (x ∷ xs) = refl
+    upto-length (suc i) (x ∷ xs) = ap suc (upto-length i xs)
 
     pub upto-at : (i : ℕ) (xs : List A) (d : A) → get_or (upto i xs) i d ≡ get_or xs i d
     upto-at i [] d = refl
