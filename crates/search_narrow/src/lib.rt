@@ -1,4 +1,4 @@
-// A value that a variable takes narrows the domains of those that are still to be chosen: the search and the survey share this.
+// A value that a variable takes narrows the domains of those that are still to be chosen: for the survey. The search has its own.
 #![tactic(auto)]
 
 ghost use Rattle.std.specs.Prelude.{true, ◌≡◌, ℕ, ◌<◌, length};
