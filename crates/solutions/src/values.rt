@@ -5,6 +5,7 @@ ghost use Rattle.words.specs.Word.{width, has};
 ghost use Rattle.pairs.specs.Pairs.{variables, allows_of};
 ghost use Rattle.solutions.specs.Choices.{values_below, value_kept, values_kept, among_kept, pairs_kept, Mirrored, partner_of, completed_value, Led, Completed, LeaderReady, free_word};
 
+use folds::{every, gather};
 use pairs::{Rows, VARIABLES};
 use words::WIDTH;
 
@@ -13,11 +14,7 @@ pub fn values_below(n: usize, sizes: &[u8; VARIABLES], values: &[u8]) -> bool
     requires { (n ≤ variables) × (n ≤ length values.now) }
     ensures { result ≡ values_below n sizes.now values.now }
 {
-    let mut all = true;
-    for i in 0..n {
-        all &= values[i] < sizes[i];
-    }
-    all
+    every(n, |i| values[i] < sizes[i])
 }
 
 // A number is a member. Numbers run past the bits of a word, members do not.
@@ -56,11 +53,7 @@ pub fn values_kept<'a>(
     requires { (n ≤ variables) × (n ≤ length values.now) }
     ensures { result ≡ values_kept n leaders.now domains.now values.now }
 {
-    let mut all = true;
-    for i in 0..n {
-        all &= value_kept(leaders[i], domains[i], values[i]);
-    }
-    all
+    every(n, |i| value_kept(leaders[i], domains[i], values[i]))
 }
 
 // The free variables, as a word.
@@ -68,11 +61,7 @@ pub fn free_variables(n: usize, leaders: &[u8; VARIABLES]) -> u32
     requires { n ≤ variables }
     ensures { result ≡ free_word n leaders.now }
 {
-    let mut free: u32 = 0;
-    for i in 0..n {
-        free |= ((leaders[i] == 0) as u32) << i;
-    }
-    free
+    gather(n, |i| leaders[i] == 0)
 }
 
 // Value `a` of `i` goes with value `b` of the higher `j`: it is a member of the row of `a`.
@@ -95,13 +84,10 @@ fn among_kept(leader: u8, among: u32, rows: &Rows, values: &[u8], i: usize) -> b
     if leader != 0 {
         return true;
     }
-    let mut rest = among;
-    while rest != 0 {
-        let j = words::lowest(rest);
+    for j in words::members(among) {
         if !row_allows(rows, i, j, values[i], values[j]) {
             return false;
         }
-        rest = words::dropped(rest);
     }
     true
 }

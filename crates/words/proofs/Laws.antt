@@ -372,3 +372,12 @@ crowded-dropped w x {d} h n e =
     (λ t. let z : count w (has d) ≡ 0 = rw (eqb-true d 0 t) (count-zero w) in rw t (sym (lt-leb 2 (count w (has x)) (omega arith))))
     (λ t. some-e w _ (nonempty w d (rw e (word_lt w _)) (eqb-false d 0 t)) λ u l m.
     rw t (sym (le-leb 2 (count w (has x)) (omega (arith, count-pos w (has d) u l m)))))
+
+-- Without its lowest member a word has one member fewer.
+pub dropped-less : (w x : ℕ) {d : ℕ} → x < 2 ^ w → (x ≡ 0 → ⊥) → d ≡ word w (λ (u : ℕ). and (has x u) (not (eqb u (first w (has x)))))
+    → count w (has d) < count w (has x)
+dropped-less w x {d} h n e =
+    let low = first_some w (has x) (nonempty w x h n) in
+    let less = count-without w (has x) (first w (has x)) low (first_passes w (has x) low) in
+    let same : count w (has d) ≡ count w (λ (u : ℕ). and (has x u) (not (eqb u (first w (has x))))) = count-cong w _ _ (has-ruled w _ e) in
+    omega arith

@@ -5,6 +5,8 @@ ghost use Rattle.std.specs.Prelude.{◌≡◌, ℕ, ◌<◌, ◌≤◌, eqb, leb
 ghost use Rattle.bounded.specs.Bool.{and, or, implies, not};
 ghost use Rattle.bounded.specs.Fold.{every, count, first};
 ghost use Rattle.words.specs.Word.{width, has, word};
+ghost use Rattle.words.specs.Walked.{Takes};
+ghost use Rattle.std.specs.Iterator.{at_most};
 
 // The bits of a word.
 pub const WIDTH: usize = 32;
@@ -99,4 +101,34 @@ pub fn crowded(x: u32) -> bool
         return false;
     }
     dropped(x) != 0
+}
+
+// The members of a word one by one, the lowest first.
+#[derive(Clone, Copy)]
+pub struct Walk {
+    // Those that are still to come.
+    pub left: u32,
+}
+
+impl Iterator for Walk {
+    type Item = usize;
+
+    ghost next_gives = { Takes };
+
+    ghost remaining = { λ s. at_most (count width (has s.left)) };
+
+    fn next(&mut self) -> Option<usize> {
+        if self.left == 0 {
+            return None;
+        }
+        let v = lowest(self.left);
+        self.left = dropped(self.left);
+        Some(v)
+    }
+}
+
+pub fn members(x: u32) -> Walk
+    ensures { result.left ≡ x }
+{
+    Walk { left: x }
 }
