@@ -54,6 +54,13 @@ pub enum Cause {
     NotPaired,
 }
 
+// Why the bytes of a sheet are refused, and at which of them.
+#[derive(Clone, Copy)]
+pub struct Refusal {
+    pub cause: Cause,
+    pub place: usize,
+}
+
 // The number of the table of causes.
 pub fn number(cause: Cause) -> u8
     ensures { result ≡ number_of cause }
