@@ -1,164 +1,132 @@
 // What a call answers besides states and buffers, and document 01's numbers for each case.
 #![tactic(auto)]
 
-ghost use Rattle.std.specs.Prelude.{List, ◌≡◌, ℕ};
-ghost use Rattle.answers.specs.Answers.{number_read, read_place, outcome_number, write_told, test_told, test_number, test_agrees, value_told, verdict_told, verdict_number, verdict_kind};
+ghost use Rattle.std.specs.Prelude.{◌≡◌};
+ghost use Rattle.answers.specs.Answers.{refused_with, number_read, read_place, outcome_number, write_told, test_told, test_number, test_agrees, value_told, verdict_told, verdict_number, verdict_kind, verdict_solution};
 
-use cause::Cause;
+use cause::{Cause, Refusal};
 
-#[derive(Clone, Copy)]
-pub enum ReadOutcome {
-    Accepted,
-    // Why not, and at which byte.
-    Refused(Cause, usize),
-}
-
-// A step, a reduction or a completion.
-#[derive(Clone, Copy)]
-pub enum Outcome {
-    Done,
-    Refused(Cause),
-}
-
-#[derive(Clone, Copy)]
-pub enum WriteAnswer {
-    // How many bytes were written.
-    Length(usize),
-    Refused(Cause),
-}
-
-#[derive(Clone, Copy)]
-pub enum TestAnswer {
-    Yes,
-    No,
-    Refused(Cause),
-}
-
-// The value of a follower at a value of its leader.
-#[derive(Clone, Copy)]
-pub enum ValueAnswer {
-    Value(u8),
-    Refused(Cause),
-}
-
-#[derive(Clone, Copy)]
+// What a verdict or a search says.
+#[derive(Clone, Copy, Debug, PartialEq, Eq)]
 pub enum Verdict {
     None,
-    Built,
+    // The solution shown, zero past n.
+    Built([u8; 16]),
     Open,
-    Refused(Cause),
-}
-
-#[derive(Clone, Copy)]
-pub struct VerdictAnswer {
-    pub verdict: Verdict,
-    // The solution shown, zero past n; all zero unless the verdict is Built.
-    pub solution: [u8; 16],
 }
 
 // The number that refuses, or 0.
-pub fn read_number(outcome: ReadOutcome) -> u8
+#[tactic(auto, unfolding(crate::specs::Answers::refused_with))]
+fn refused_with<T: Copy>(answer: Result<T, Cause>) -> u8
+    ensures { result ≡ refused_with answer }
+{
+    match answer {
+        Ok(_) => 0,
+        Err(cause) => cause::number(cause),
+    }
+}
+
+// Reading: the number that refuses, or 0.
+#[tactic(auto, unfolding(crate::specs::Answers::number_read))]
+pub fn read_number(outcome: Result<(), Refusal>) -> u8
     ensures { result ≡ number_read outcome }
 {
     match outcome {
-        ReadOutcome::Accepted => 0,
-        ReadOutcome::Refused(cause, _) => cause::number(cause),
+        Ok(()) => 0,
+        Err(refusal) => cause::number(refusal.cause),
     }
 }
 
-pub fn read_place(outcome: ReadOutcome) -> usize
+#[tactic(auto, unfolding(crate::specs::Answers::read_place))]
+pub fn read_place(outcome: Result<(), Refusal>) -> usize
     ensures { result ≡ read_place outcome }
 {
     match outcome {
-        ReadOutcome::Accepted => 0,
-        ReadOutcome::Refused(_, place) => place,
+        Ok(()) => 0,
+        Err(refusal) => refusal.place,
     }
 }
 
-pub fn write_number(answer: WriteAnswer) -> u8
-    ensures { result ≡ (write_told answer).number }
+// A step, a reduction or a completion.
+#[tactic(auto, unfolding(crate::specs::Answers::refused_with, crate::specs::Answers::outcome_number))]
+pub fn outcome_number(outcome: Result<(), Cause>) -> u8
+    ensures { result ≡ outcome_number outcome }
 {
-    match answer {
-        WriteAnswer::Length(_) => 0,
-        WriteAnswer::Refused(cause) => cause::number(cause),
-    }
+    refused_with(outcome)
 }
 
-pub fn write_length(answer: WriteAnswer) -> usize
-    ensures { result ≡ (write_told answer).length }
+// Writing, which answers how many bytes were written.
+#[tactic(auto, unfolding(crate::specs::Answers::refused_with, crate::specs::Answers::write_told))]
+pub fn write_number(written: Result<usize, Cause>) -> u8
+    ensures { result ≡ (write_told written).number }
 {
-    match answer {
-        WriteAnswer::Length(length) => length,
-        WriteAnswer::Refused(_) => 0,
-    }
+    refused_with(written)
 }
 
-pub fn value_number(answer: ValueAnswer) -> u8
-    ensures { result ≡ (value_told answer).number }
+#[tactic(auto, unfolding(crate::specs::Answers::write_told))]
+pub fn write_length(written: Result<usize, Cause>) -> usize
+    ensures { result ≡ (write_told written).length }
 {
-    match answer {
-        ValueAnswer::Value(_) => 0,
-        ValueAnswer::Refused(cause) => cause::number(cause),
-    }
+    written.unwrap_or(0)
+}
+
+// The value of a follower at a value of its leader.
+#[tactic(auto, unfolding(crate::specs::Answers::refused_with, crate::specs::Answers::value_told))]
+pub fn value_number(value: Result<u8, Cause>) -> u8
+    ensures { result ≡ (value_told value).number }
+{
+    refused_with(value)
 }
 
 // Beside a refusal it is 0.
-pub fn value_answered(answer: ValueAnswer) -> u8
-    ensures { result ≡ (value_told answer).value }
+#[tactic(auto, unfolding(crate::specs::Answers::value_told))]
+pub fn value_answered(value: Result<u8, Cause>) -> u8
+    ensures { result ≡ (value_told value).value }
 {
-    match answer {
-        ValueAnswer::Value(value) => value,
-        ValueAnswer::Refused(_) => 0,
-    }
+    value.unwrap_or(0)
 }
 
-pub fn outcome_number(outcome: Outcome) -> u8
-    ensures { result ≡ outcome_number outcome }
+// A test, which says yes or no.
+#[tactic(auto, unfolding(crate::specs::Answers::refused_with, crate::specs::Answers::test_number, crate::specs::Answers::test_told))]
+pub fn test_number(tested: Result<bool, Cause>) -> u8
+    ensures { result ≡ test_number (test_told tested) }
 {
-    match outcome {
-        Outcome::Done => 0,
-        Outcome::Refused(cause) => cause::number(cause),
-    }
+    refused_with(tested)
 }
 
-pub fn test_number(answer: TestAnswer) -> u8
-    ensures { result ≡ test_number (test_told answer) }
+#[tactic(auto, unfolding(crate::specs::Answers::test_agrees, crate::specs::Answers::test_told))]
+pub fn test_agrees(tested: Result<bool, Cause>) -> bool
+    ensures { result ≡ test_agrees (test_told tested) }
 {
-    match answer {
-        TestAnswer::Yes => 0,
-        TestAnswer::No => 0,
-        TestAnswer::Refused(cause) => cause::number(cause),
-    }
+    tested.unwrap_or(false)
 }
 
-pub fn test_agrees(answer: TestAnswer) -> bool
-    ensures { result ≡ test_agrees (test_told answer) }
+#[tactic(auto, unfolding(crate::specs::Answers::refused_with, crate::specs::Answers::verdict_number, crate::specs::Answers::verdict_told))]
+pub fn verdict_number(verdict: Result<Verdict, Cause>) -> u8
+    ensures { result ≡ verdict_number (verdict_told verdict) }
 {
-    match answer {
-        TestAnswer::Yes => true,
-        TestAnswer::No => false,
-        TestAnswer::Refused(_) => false,
-    }
+    refused_with(verdict)
 }
 
-pub fn verdict_number(verdict: Verdict) -> u8
-    ensures { (build : List ℕ) → result ≡ verdict_number (verdict_told verdict build) }
+#[tactic(auto, unfolding(crate::specs::Answers::verdict_kind, crate::specs::Answers::verdict_told, crate::specs::Answers::kind_of))]
+pub fn verdict_kind(verdict: Result<Verdict, Cause>) -> u8
+    ensures { result ≡ verdict_kind (verdict_told verdict) }
 {
     match verdict {
-        Verdict::None => 0,
-        Verdict::Built => 0,
-        Verdict::Open => 0,
-        Verdict::Refused(cause) => cause::number(cause),
+        Ok(Verdict::None) => 1,
+        Ok(Verdict::Built(_)) => 2,
+        Ok(Verdict::Open) => 3,
+        Err(_) => 0,
     }
 }
 
-pub fn verdict_kind(verdict: Verdict) -> u8
-    ensures { (build : List ℕ) → result ≡ verdict_kind (verdict_told verdict build) }
+// The solution shown; all zero unless the verdict is BUILT.
+#[tactic(auto, unfolding(crate::specs::Answers::verdict_solution, crate::specs::Answers::verdict_told))]
+pub fn verdict_solution(verdict: Result<Verdict, Cause>) -> [u8; 16]
+    ensures { result ≡ verdict_solution (verdict_told verdict) }
 {
     match verdict {
-        Verdict::None => 1,
-        Verdict::Built => 2,
-        Verdict::Open => 3,
-        Verdict::Refused(_) => 0,
+        Ok(Verdict::Built(solution)) => solution,
+        _ => [0; 16],
     }
 }

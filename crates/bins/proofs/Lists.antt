@@ -6,7 +6,6 @@ use Prim.Native.Nat.{ℕ, zero, suc, ◌<◌}
 use native.Mathlib.Nat.{not-suc-le-zero, le_of_suc-le-suc, suc-le-suc_iff}
 use native.Mathlib.Omega.{arith}
 use lib.ListN.{length, get_or}
-use Rattle.bounded.specs.Bool.{or}
 use Rattle.bounded.proofs.Bool.{clash, or_l, or_r, or_elim, or-false-l, or-false-r, or-false-i}
 use Rattle.bins.specs.declared.Bin.{Bin}
 use Rattle.bins.specs.Bins.{place, any, no_bin}

@@ -1,6 +1,6 @@
 -- What an entry as plain data finds in the bins, one record after the other, and makes of them. A reader needs none of it: `Bins` and the definitions of
 -- `state_bins` say what the calls do.
-use Rattle.std.specs.Prelude.{Bool, true, false, List, [], ◌∷◌, map, ℕ, ◌+◌, ◌-◌, ◌^◌, eqb, leb, ltb, get_or}
+use Rattle.std.specs.Prelude.{Bool, true, false, List, [], ◌∷◌, ℕ, ◌+◌, ◌-◌, ◌^◌, eqb, leb, ltb, get_or}
 use Rattle.bounded.specs.Bool.{and, or, not, if}
 use Rattle.bins.specs.declared.Bin.{Bin}
 use Rattle.bins.specs.declared.Plan.{Plan}

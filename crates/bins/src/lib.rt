@@ -2,7 +2,6 @@
 #![tactic(auto)]
 
 ghost use Rattle.std.specs.Prelude.{◌≡◌, ◌<◌, get_or};
-ghost use Rattle.bounded.specs.Bool.{or};
 ghost use Rattle.bins.specs.Bins.{is_of, of_solution};
 ghost use Rattle.bins.specs.Plans.{named, is_next, next_variable, next_value, too_high, too_low, looked_of, settled_of, count_of, moved_of};
 
@@ -39,21 +38,6 @@ pub struct Seen {
     pub low: bool,
 }
 
-fn wide(x: u8) -> usize
-    ensures { result ≡ x }
-{
-    x as usize
-}
-
-fn either(a: bool, b: bool) -> bool
-    ensures { result ≡ or a b }
-{
-    if a {
-        return true;
-    }
-    b
-}
-
 // A byte of sixteen, and 0 past them.
 fn byte(bytes: [u8; 16], i: usize) -> u8
     ensures { result ≡ get_or bytes i 0 }
@@ -68,24 +52,21 @@ fn size(p: Plan, o: usize) -> usize
     ensures { result ≡ get_or p.sizes o 0 }
 {
     let sizes = p.sizes;
-    wide(byte(sizes, o))
+    usize::from(byte(sizes, o))
 }
 
 // The bin of one value.
 fn is_of(variable: usize, value: usize, b: Bin) -> bool
     ensures { result ≡ is_of variable value b }
 {
-    if wide(b.variable) == variable {
-        return wide(b.value) == value;
-    }
-    false
+    (usize::from(b.variable) == variable) & (usize::from(b.value) == value)
 }
 
 // The bin of a value of a solution.
 fn of_solution(values: [u8; 16], b: Bin) -> bool
     ensures { result ≡ of_solution values b }
 {
-    let variable = wide(b.variable);
+    let variable = usize::from(b.variable);
     if variable < 1 {
         return false;
     }
@@ -171,18 +152,12 @@ pub fn looked(p: Plan, s: Seen, b: Bin) -> Seen
         Seen {
             variable: next_variable(p, s.variable, s.value),
             value: next_value(p, s.variable, s.value),
-            exact: s.exact,
-            high: either(s.high, high),
-            low: either(s.low, low),
+            high: s.high | high,
+            low: s.low | low,
+            ..s
         }
     } else {
-        Seen {
-            variable: s.variable,
-            value: s.value,
-            exact: false,
-            high: s.high,
-            low: s.low,
-        }
+        Seen { exact: false, ..s }
     }
 }
 
@@ -233,9 +208,8 @@ pub fn moved(p: Plan, b: Bin) -> Bin
 {
     if is_named(p, b) {
         return Bin {
-            variable: b.variable,
-            value: b.value,
             count: counted(p, b.count),
+            ..b
         };
     }
     b

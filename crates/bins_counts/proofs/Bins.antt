@@ -7,7 +7,6 @@ use native.Mathlib.Nat.{not-suc-le-zero, le_of_suc-le-suc, suc-le-suc_iff}
 use native.Mathlib.Omega.{arith}
 use lib.ListN.{length, get_or, length-map}
 use lib.Seq.{ext_get_or}
-use Rattle.bounded.specs.Bool.{if}
 use Rattle.bounded.specs.Fold.{sum}
 use Rattle.bounded.proofs.Bool.{by_cases, clash, or_elim, if-true, if-false}
 use Rattle.bins.specs.declared.Bin.{Bin}
@@ -15,7 +14,7 @@ use Rattle.bins.specs.Bins.{Place, place, no_bin, places, any, stand_at}
 use Rattle.bins.proofs.Lists.{get_d_map, any-e, any-i}
 use Rattle.bins.proofs.Places.{stand-i}
 use Rattle.bins_counts.specs.Counts.{bin_of_place, bins_at, bins_by, first_of, spot}
-use Rattle.bins_counts.proofs.Spots.{no_place, Spot, spot-at, places-length, place_at, ahead}
+use Rattle.bins_counts.proofs.Spots.{no_place, spot-at, places-length, place_at, ahead}
 
 length_at : (ps : List Place) (count : ℕ → ℕ) → length (bins_at ps count) ≡ length ps
 unfolding bins_at

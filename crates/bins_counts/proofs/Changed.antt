@@ -1,5 +1,4 @@
 -- What stands at a value's index after the values of a solution are changed.
-use mathlib.Core.Bool.{true, false}
 use mathlib.Core.List.{List}
 use mathlib.Core.Path.{◌≡◌, refl, sym, ap, ◌∙◌}
 use Prim.Native.Nat.{ℕ, zero, suc, ◌+◌, ◌≤◌, ◌<◌, ◌^◌}
@@ -8,7 +7,7 @@ use lib.Dec.{eqb, ltb}
 use lib.ListN.{length, get_or, length-set}
 use borrow.Author.Tests.{eqb-true, eqb-false, eq-eqb, ne_eqb, ltb-true, ltb-false, lt-ltb, le-ltb}
 use Rattle.bounded.specs.Bool.{and, if}
-use Rattle.bounded.proofs.Bool.{by_cases, and_i, and_l, and_r, and-fails, and-false, if-true, if-false}
+use Rattle.bounded.proofs.Bool.{by_cases, and_i, and-fails, and-false, if-true, if-false}
 use Rattle.bounded.proofs.Table.{get_d_set}
 use Rattle.bins_counts.specs.Counts.{spot, changed_at, changed_each, plus}
 use Rattle.bins_counts.proofs.Spots.{one-variable, one_value}

@@ -7,28 +7,14 @@ ghost use Rattle.bins_counts.specs.Counts.{spot, Inside, changed_at, changed_eac
 // As many as 16 variables of 32 values have.
 pub const BINS: usize = 512;
 
-fn wide(x: u8) -> usize
-    ensures { (result ≡ x) × (result < 256) }
-{
-    x as usize
-}
-
-fn long(x: u32) -> u64
-    ensures { (result ≡ x) × (result < 4294967296) }
-{
-    x as u64
-}
-
 // Where the count of a value stands, of the variable after `o` others.
 pub fn spot(sizes: [u8; 16], o: usize, value: usize) -> usize
     requires { (o ≤ 16) × (value < 4294967296) }
     ensures { result ≡ spot sizes o value }
 {
     let mut at = value;
-    let mut i = 0;
-    while i < o {
-        at = at + wide(sizes[i]);
-        i = i + 1;
+    for i in 0..o {
+        at += usize::from(sizes[i]);
     }
     at
 }
@@ -38,16 +24,13 @@ pub fn spot_of(sizes: [u8; 16], values: [u8; 16], o: usize) -> usize
     requires { o < 16 }
     ensures { result ≡ spot sizes o (get_or values o 0) }
 {
-    spot(sizes, o, wide(values[o]))
+    spot(sizes, o, usize::from(values[o]))
 }
 
 fn less(x: u32, amount: u32) -> u32
     ensures { result ≡ x - amount }
 {
-    if x < amount {
-        return 0;
-    }
-    x - amount
+    x.saturating_sub(amount)
 }
 
 fn draw_at(counts: &mut [u32; BINS], i: usize, amount: u32)
@@ -77,14 +60,12 @@ pub fn lowest(
     requires { (n ≤ 16) × Inside n sizes values }
     ensures { result ≡ lowest n sizes values counts.now amount }
 {
-    let mut o = 0;
-    while o < n {
+    for o in 0..n {
         if is_low(sizes, values, counts, amount, o) {
             return o;
         }
-        o = o + 1;
     }
-    o
+    n
 }
 
 // An amount is drawn from the count of each variable's value.
@@ -92,10 +73,8 @@ pub fn draw(n: usize, sizes: [u8; 16], values: [u8; 16], counts: &mut [u32; BINS
     requires { (n ≤ 16) × Inside n sizes values }
     ensures { counts.new ≡ changed_each (minus amount) sizes values counts.old n }
 {
-    let mut o = 0;
-    while o < n {
+    for o in 0..n {
         draw_at(counts, spot_of(sizes, values, o), amount);
-        o = o + 1;
     }
 }
 
@@ -103,11 +82,7 @@ pub fn draw(n: usize, sizes: [u8; 16], values: [u8; 16], counts: &mut [u32; BINS
 pub fn plus(x: u64, amount: u32) -> u64
     ensures { result ≡ plus amount x }
 {
-    let more = long(amount);
-    if more <= 18446744073709551615 - x {
-        return x + more;
-    }
-    18446744073709551615
+    x.saturating_add(u64::from(amount))
 }
 
 // An amount is added to the sum at an index.
@@ -118,14 +93,12 @@ pub fn add_at(sums: &mut [u64; BINS], i: usize, amount: u32)
     sums[i] = plus(sums[i], amount);
 }
 
-// An amount is added to the sum of each variable's value.
+// An amount is added to the sum of each variable's value. `draw` is alike; one generic function for both would need the definitions for numbers of any type.
 pub fn add_each(n: usize, sizes: [u8; 16], values: [u8; 16], sums: &mut [u64; BINS], amount: u32)
     requires { (n ≤ 16) × Inside n sizes values }
     ensures { sums.new ≡ changed_each (plus amount) sizes values sums.old n }
 {
-    let mut o = 0;
-    while o < n {
+    for o in 0..n {
         add_at(sums, spot_of(sizes, values, o), amount);
-        o = o + 1;
     }
 }

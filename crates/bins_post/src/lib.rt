@@ -10,7 +10,6 @@ use bins::{Bin, Plan, Seen, looked, moved, settled};
 pub fn post(bins: &mut [Bin], p: Plan) -> u8
     ensures { (result ≡ plan_number p bins.old) × (bins.new ≡ plan_bins p bins.old) }
 {
-    let n = bins.len();
     let mut s = Seen {
         variable: 0,
         value: 0,
@@ -18,17 +17,13 @@ pub fn post(bins: &mut [Bin], p: Plan) -> u8
         high: false,
         low: false,
     };
-    let mut i = 0;
-    while i < n {
-        s = looked(p, s, bins[i]);
-        i = i + 1;
+    for bin in bins.iter() {
+        s = looked(p, s, *bin);
     }
     let code = settled(p, s);
     if code == 0 {
-        i = 0;
-        while i < n {
-            bins[i] = moved(p, bins[i]);
-            i = i + 1;
+        for bin in bins.iter_mut() {
+            *bin = moved(p, *bin);
         }
     }
     code

@@ -7,9 +7,9 @@ use native.Mathlib.Omega.{arith}
 use lib.Dec.{eqb}
 use lib.ListN.{length, get_or, drop, length-map, get_or-append}
 use lib.Seq.{sets, sets-eq}
-use borrow.Author.Tests.{eqb-true, eq-eqb, eqb-false}
+use borrow.Author.Tests.{eqb-false}
 use Rattle.bounded.specs.Bool.{and}
-use Rattle.bounded.proofs.Bool.{by_cases, clash, and_l, and_r, and_i, and-holds, and-fails, if-true, if-false}
+use Rattle.bounded.proofs.Bool.{by_cases, clash, and_l, and_r, and_i, and-holds, if-true, if-false}
 use Rattle.bins.specs.declared.Bin.{Bin}
 use Rattle.bins.specs.Bins.{Place, place, places, stand_at}
 use Rattle.bins.proofs.Places.{stand-e}
@@ -18,7 +18,7 @@ use Rattle.scan.specs.declared.Line.{Line}
 use Rattle.scan.specs.Scan.{up}
 use Rattle.scan.specs.Line.{line_of}
 use Rattle.stream.specs.Lines.{lines_of}
-use Rattle.bins_text.specs.Text.{Read, stopped, counted, is_at, read_lines, read_bins, bin_of, bins_on, all_right, Accepted}
+use Rattle.bins_text.specs.Text.{Read, stopped, is_at, read_lines, read_bins, bin_of, bins_on, all_right, Accepted}
 use Rattle.bins_text.proofs.Lines.{lines-fault, lines-blank, lines-past, lines_at, lines-off}
 
 -- The records and faults by the next line.

@@ -1,20 +1,20 @@
 -- What comes next, by its index, is what stands next among the places.
 use mathlib.Core.Bool.{true, false}
-use mathlib.Core.List.{List, [], ◌∷◌}
+use mathlib.Core.List.{List}
 use mathlib.Core.Path.{◌≡◌, sym, ◌∙◌, ap}
 use Prim.Native.Nat.{ℕ, suc, ◌+◌, ◌-◌, ◌*◌, ◌≤◌, ◌<◌}
 use native.Mathlib.Omega.{arith}
-use lib.Dec.{eqb, leb, ltb}
+use lib.Dec.{eqb, leb}
 use lib.ListN.{length, get_or}
-use borrow.Author.Tests.{eqb-true, eqb-false, eq-eqb, ne_eqb, leb-true, leb-false, lt-leb, ltb-true, ltb-false, lt-ltb, le-ltb}
+use borrow.Author.Tests.{eqb-true, eqb-false, eq-eqb, ne_eqb, leb-false, lt-leb, lt-ltb}
 use Rattle.bounded.specs.Bool.{and}
 use Rattle.bounded.specs.Fold.{sum}
-use Rattle.bounded.proofs.Bool.{by_cases, bool-ext, clash, not-true→false, and_l, and_r, and_i, if-true, if-false}
+use Rattle.bounded.proofs.Bool.{by_cases, bool-ext, not-true→false, and_l, and_r, and_i, if-true, if-false}
 use Rattle.bins.specs.Bins.{Place, places}
 use Rattle.bins_counts.specs.Counts.{spot}
 use Rattle.bins_counts.proofs.Spots.{no_place, ahead, Spot, spot-at, places-length, place_at, sum-within}
 use Rattle.bins_text.specs.Text.{Sizes}
-use Rattle.bins_text.specs.Machine.{place_index, in_order, bins_count}
+use Rattle.bins_text.specs.Machine.{place_index, in_order}
 use Rattle.bins_text.proofs.Laws.{in-order-room, in-order-true}
 
 module _ (n : ℕ) (sizes : List ℕ) where

@@ -2,16 +2,16 @@
 use mathlib.Core.Bool.{Bool, true, false}
 use mathlib.Core.List.{List, [], ◌∷◌, map}
 use mathlib.Core.Path.{◌≡◌, refl, sym, ◌∙◌, ap}
-use Prim.Native.Nat.{ℕ, suc, ◌+◌, ◌-◌, ◌≤◌, ◌<◌}
+use Prim.Native.Nat.{ℕ, suc, ◌+◌, ◌≤◌, ◌<◌}
 use native.Mathlib.Numerals.{add-one}
 use native.Mathlib.Omega.{arith}
 use lib.Dec.{eqb, ltb}
 use lib.ListN.{length, get_or, set, drop, length-drop}
-use lib.Seq.{sets, drop-cons}
-use borrow.Author.Tests.{eqb-true, eqb-false, eq-eqb, ne_eqb, ltb-true, ltb-false, lt-ltb, le-ltb}
+use lib.Seq.{drop-cons}
+use borrow.Author.Tests.{eqb-false, eq-eqb, ne_eqb, ltb-false, lt-ltb, le-ltb}
 use Rattle.bounded.specs.Bool.{if, and}
 use Rattle.bounded.specs.Fold.{sum}
-use Rattle.bounded.proofs.Bool.{by_cases, clash, if-true, if-false}
+use Rattle.bounded.proofs.Bool.{by_cases, if-true, if-false}
 use Rattle.bins.specs.Bins.{Place, places}
 use Rattle.bins_counts.specs.Counts.{spot}
 use Rattle.bins_counts.proofs.Spots.{no_place, places-length}
@@ -21,7 +21,6 @@ use Rattle.scan.specs.Scan.{up, scan}
 use Rattle.scan.specs.Line.{finish, line_of}
 use Rattle.stream.specs.Lines.{lines_of}
 use Rattle.stream.specs.Program.{seen_from, seen_of, state_after}
-use Rattle.bins_text.specs.declared.Reading.{Reading}
 use Rattle.bins_text.specs.Text.{Sizes, Read, stopped, counted, is_at, read_lines, read_bins, ReadsAs}
 use Rattle.bins_text.specs.Machine.{Reads, in_order, bins_count, start_reading, refused_at, passed, taken, read_on, read_case, judged_end, at_end}
 use Rattle.bins_text.specs.Fed.{read, program}

@@ -1,5 +1,5 @@
 -- The machine as a program that takes lines, and what a call says that is handed some bytes of the text.
-use Rattle.std.specs.Prelude.{List, [], ◌≡◌, ℕ, Bool, true}
+use Rattle.std.specs.Prelude.{List, [], ℕ, true}
 use Rattle.scan.specs.declared.Scan.{Scan}
 use Rattle.scan.specs.Scan.{opening, step}
 use Rattle.scan.specs.Line.{finish}

@@ -1,6 +1,6 @@
 -- The text of the bins line by line into an array of 512 counts: what the code does. A reader needs none of it: `Text` says what is read.
 use Rattle.std.specs.Prelude.{Bool, false, List, ℕ, ◌+◌, ◌-◌, eqb, leb, ltb, get_or, set}
-use Rattle.bounded.specs.Bool.{if, and}
+use Rattle.bounded.specs.Bool.{if}
 use Rattle.bins_counts.specs.Counts.{spot}
 use Rattle.scan.specs.declared.Line.{Line}
 use Rattle.scan.specs.Scan.{up}

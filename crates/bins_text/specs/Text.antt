@@ -1,5 +1,5 @@
 -- The text of the bins: "a line `option,value,count` for each bin, in L11's order".
-use Rattle.std.specs.Prelude.{Bool, true, false, List, [], ◌∷◌, map, ◌≡◌, ℕ, ◌≤◌, eqb, get_or}
+use Rattle.std.specs.Prelude.{Bool, true, List, [], ◌∷◌, map, ◌≡◌, ℕ, ◌≤◌, eqb, get_or}
 use Rattle.std.proofs.lemmas.List.Edits.{sets}
 use Rattle.bounded.specs.Bool.{if, and}
 use Rattle.bins.specs.declared.Bin.{Bin}

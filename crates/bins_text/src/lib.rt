@@ -30,12 +30,6 @@ pub struct BinsRun {
     pub reading: Reading,
 }
 
-fn wide(x: u8) -> usize
-    ensures { result ≡ x }
-{
-    x as usize
-}
-
 // Where the count of a value stands; 512 where there is no such value.
 fn place_index(n: usize, sizes: [u8; 16], variable: usize, value: usize) -> usize
     requires { value < 4294967296 }
@@ -51,7 +45,7 @@ fn place_index(n: usize, sizes: [u8; 16], variable: usize, value: usize) -> usiz
     if 16 <= o {
         return 512;
     }
-    if wide(sizes[o]) <= value {
+    if usize::from(sizes[o]) <= value {
         return 512;
     }
     spot(sizes, o, value)
@@ -80,12 +74,7 @@ fn bins_count(n: usize, sizes: [u8; 16]) -> usize
 fn refused_at(r: Reading, number: u8, place: usize) -> Reading
     ensures { result ≡ refused_at number place r }
 {
-    Reading {
-        number,
-        line: r.line,
-        place,
-        count: r.count,
-    }
+    Reading { number, place, ..r }
 }
 
 // A line without a bin.
@@ -93,10 +82,8 @@ fn passed(r: Reading) -> Reading
     ensures { result ≡ passed r }
 {
     Reading {
-        number: r.number,
         line: up(r.line),
-        place: r.place,
-        count: r.count,
+        ..r
     }
 }
 
@@ -108,10 +95,9 @@ fn take(r: Reading, count: u32, counts: &mut [u32; BINS]) -> Reading
     let at = r.count;
     counts[at] = count;
     Reading {
-        number: r.number,
         line: up(r.line),
-        place: r.place,
         count: at + 1,
+        ..r
     }
 }
 
@@ -187,8 +173,8 @@ pub fn feed(
     ensures { at result counts.new ≡ after (program n sizes) (at run counts.old) bytes.now }
 {
     let mut now = run;
-    for i in 0..bytes.len() {
-        now = take_byte(n, sizes, now, bytes[i], counts);
+    for &byte in bytes {
+        now = take_byte(n, sizes, now, byte, counts);
     }
     now
 }

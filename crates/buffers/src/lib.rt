@@ -1,4 +1,5 @@
-// Texts written into a lent buffer. Each function returns the place past its text.
+// Texts written into a lent buffer. Each function returns the place past its text. Texts one after the other are a loop where they are written, and no `put_each`
+// as in `text_put`: room is asked for here, so that each caller would have to name, as a ghost value, the texts that its closure writes.
 #![tactic(auto)]
 
 ghost use Rattle.std.specs.Prelude.{[], ◌∷◌, ◌++◌, ◌≡◌, ◌+◌, ◌/◌, ◌%◌, ◌^◌, ◌<◌, ◌≤◌, length};
@@ -18,8 +19,8 @@ pub fn put_text(buffer: &mut [u8], at: usize, text: &[u8]) -> usize
     ensures { Wrote buffer.old buffer.new text.now at result }
 {
     let mut next = at;
-    for i in 0..text.len() {
-        next = put_byte(buffer, next, text[i]);
+    for &byte in text {
+        next = put_byte(buffer, next, byte);
     }
     next
 }

@@ -23,11 +23,11 @@ pub extern "C" fn meter_fit_parts(
         × (state_with n sizes.now lists.new leaders.new stated.new rows.new
         ≡ (fitted (state_with n sizes.now lists.old leaders.old stated.old rows.old)).state) }
 {
-    let fit = fit_parts(head_of(n, sizes, lists, leaders, stated), rows);
-    let outcome = fit.outcome;
-    let head = fit.head;
-    put_made(outcome, head, lists, leaders, stated);
-    let verdict = fit.verdict;
-    let solution = fit.solution;
-    verdict_told(verdict, solution)
+    match fit_parts(head_of(n, sizes, lists, leaders, stated), rows) {
+        Ok(fit) => {
+            put_made(fit.head, lists, leaders, stated);
+            verdict_told(Ok(fit.verdict))
+        }
+        Err(cause) => verdict_told(Err(cause)),
+    }
 }

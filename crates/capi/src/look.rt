@@ -117,10 +117,7 @@ pub extern "C" fn sheet_verdict_parts<'a>(
     ensures { result ≡ verdict_out (verdict_of (state_with n sizes.now lists.now leaders.now stated.now rows.now)) }
 {
     let head = head_of(n, sizes, lists, leaders, stated);
-    let answer = state_verdict::verdict_parts(head, rows);
-    let verdict = answer.verdict;
-    let solution = answer.solution;
-    verdict_told(verdict, solution)
+    verdict_told(state_verdict::verdict_parts(head, rows))
 }
 
 // The search: NONE, or BUILT with the first build.
@@ -136,10 +133,7 @@ pub extern "C" fn sheet_search_parts<'a>(
     ensures { result ≡ verdict_out (search_of (state_with n sizes.now lists.now leaders.now stated.now rows.now)) }
 {
     let head = head_of(n, sizes, lists, leaders, stated);
-    let answer = state_search::search_parts(head, rows);
-    let verdict = answer.verdict;
-    let solution = answer.solution;
-    verdict_told(verdict, solution)
+    verdict_told(state_search::search_parts(head, rows))
 }
 
 // The survey: how many builds there are, and which values they have.

@@ -1,7 +1,9 @@
 // The calls on the bytes of a sheet. Those that give a state store one whatever they answer: the zero state where the sheet is refused.
-ghost use Rattle.std.specs.Prelude.{◌≡◌};
+ghost use Rattle.std.specs.Prelude.{List, ◌≡◌, ℕ};
+ghost use Rattle.state.specs.View.{state_of};
 ghost use Rattle.state.specs.Read.{read_sheet, read_paired};
 ghost use Rattle.state.specs.Cut.{cut_sheet};
+ghost use Rattle.state_cut.specs.Parts.{cut_parts_told};
 ghost use Rattle.text_report.specs.Text.{text_of};
 ghost use Rattle.text_report.specs.Printed.{Printed};
 ghost use Rattle.capi_lent.specs.Lent.{state_with};
@@ -9,10 +11,11 @@ ghost use Rattle.capi_answers.specs.Answers.{read_out, cut_out};
 
 use capi_answers::{SheetCut, SheetRead, cut_told, read_told};
 use capi_lent::{put_head, zero_rows};
-use head::{Rows, VARIABLES};
-use state_cut::cut_parts;
+use cause::Refusal;
+use head::{Head, Rows, VARIABLES};
+use state_cut::{CutParts, cut_parts};
 use state_paired::read_paired_parts;
-use state_read::read_parts;
+use state_read::{head_read, read_parts, zero_head};
 use text_report::{LONGEST, report_into};
 
 // Reads a sheet's bytes into a state, whatever that held.
@@ -32,10 +35,8 @@ pub extern "C" fn sheet_read_parts(
 {
     zero_rows(rows);
     let read = read_parts(bytes, rows);
-    let head = read.head;
-    put_head(head, n, sizes, lists, leaders, stated);
-    let outcome = read.outcome;
-    read_told(outcome)
+    put_head(head_read(read), n, sizes, lists, leaders, stated);
+    read_told(read)
 }
 
 // Reads the bytes of a sheet of the paired profile into a state, whatever that held.
@@ -55,10 +56,19 @@ pub extern "C" fn sheet_read_paired_parts(
 {
     zero_rows(rows);
     let read = read_paired_parts(bytes, rows);
-    let head = read.head;
-    put_head(head, n, sizes, lists, leaders, stated);
-    let outcome = read.outcome;
-    read_told(outcome)
+    put_head(head_read(read), n, sizes, lists, leaders, stated);
+    read_told(read)
+}
+
+// The head of a cut: zero after a refusal.
+#[tactic(auto, unfolding(state_cut::specs::Parts::cut_parts_told))]
+fn head_cut(cut: Result<CutParts, Refusal>) -> Head
+    ensures { (rows : List ℕ) → state_of result rows ≡ (cut_parts_told cut rows).state }
+{
+    match cut {
+        Ok(parts) => parts.head,
+        Err(_) => zero_head(),
+    }
 }
 
 // Reads into a state, reduces it and gives the verdict.
@@ -78,12 +88,8 @@ pub extern "C" fn sheet_cut_parts(
 {
     zero_rows(rows);
     let cut = cut_parts(bytes, rows);
-    let head = cut.head;
-    put_head(head, n, sizes, lists, leaders, stated);
-    let outcome = cut.outcome;
-    let verdict = cut.verdict;
-    let solution = cut.solution;
-    cut_told(outcome, cut.steps, verdict, solution)
+    put_head(head_cut(cut), n, sizes, lists, leaders, stated);
+    cut_told(cut)
 }
 
 // The text of sheetcut for a sheet's bytes, into an array, whatever that held: how many bytes it has, zeros past them.

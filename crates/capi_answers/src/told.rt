@@ -1,16 +1,19 @@
 // Answers as structs of numbers.
-ghost use Rattle.std.specs.Prelude.{◌≡◌};
-ghost use Rattle.answers.specs.Answers.{number_read, read_place, write_told, test_told, value_told, verdict_told};
-ghost use Rattle.state.specs.declared.state.State.{State};
+ghost use Rattle.std.specs.Prelude.{List, ◌≡◌, ℕ};
+ghost use Rattle.answers.specs.Answers.{write_told, test_told, value_told, verdict_told};
+ghost use Rattle.state_read.specs.Parts.{read_parts_told};
+ghost use Rattle.state_cut.specs.Parts.{cut_parts_told};
 ghost use Rattle.state_survey.specs.Survey.{survey_told};
 ghost use Rattle.capi_answers.specs.Answers.{read_out, written_out, tested_out, value_out, verdict_out, cut_out, survey_out};
 
 use answers::{
-    ReadOutcome, TestAnswer, ValueAnswer, Verdict, WriteAnswer, outcome_number, read_number,
-    read_place, test_agrees, test_number, value_answered, value_number, verdict_kind,
-    verdict_number, write_length, write_number,
+    Verdict, test_agrees, test_number, value_answered, value_number, verdict_kind, verdict_number,
+    verdict_solution, write_length, write_number,
 };
-use state_survey::SurveyAnswer;
+use cause::{Cause, Refusal, number};
+use head::Head;
+use state_cut::CutParts;
+use survey::Surveyed;
 
 // Reading: the number that refuses, and its place.
 #[repr(C)]
@@ -77,16 +80,24 @@ pub struct SheetSurvey {
     pub count: u64,
 }
 
-pub fn read_told(outcome: ReadOutcome) -> SheetRead
-    ensures { (s : State) → result ≡ read_out (record { number = number_read outcome; place = read_place outcome; state = s }) }
+#[tactic(auto, unfolding(crate::specs::Answers::read_out, state_read::specs::Parts::read_parts_told))]
+pub fn read_told(read: Result<Head, Refusal>) -> SheetRead
+    ensures { (rows : List ℕ) → result ≡ read_out (read_parts_told read rows) }
 {
-    SheetRead {
-        number: read_number(outcome),
-        place: read_place(outcome),
+    match read {
+        Ok(_) => SheetRead {
+            number: 0,
+            place: 0,
+        },
+        Err(refusal) => SheetRead {
+            number: number(refusal.cause),
+            place: refusal.place,
+        },
     }
 }
 
-pub fn written(answer: WriteAnswer) -> SheetWritten
+#[tactic(auto, unfolding(crate::specs::Answers::written_out))]
+pub fn written(answer: Result<usize, Cause>) -> SheetWritten
     ensures { result ≡ written_out (write_told answer) }
 {
     SheetWritten {
@@ -95,7 +106,8 @@ pub fn written(answer: WriteAnswer) -> SheetWritten
     }
 }
 
-pub fn tested(answer: TestAnswer) -> SheetTested
+#[tactic(auto, unfolding(crate::specs::Answers::tested_out))]
+pub fn tested(answer: Result<bool, Cause>) -> SheetTested
     ensures { result ≡ tested_out (test_told answer) }
 {
     SheetTested {
@@ -104,7 +116,8 @@ pub fn tested(answer: TestAnswer) -> SheetTested
     }
 }
 
-pub fn value_told(answer: ValueAnswer) -> SheetValue
+#[tactic(auto, unfolding(crate::specs::Answers::value_out))]
+pub fn value_told(answer: Result<u8, Cause>) -> SheetValue
     ensures { result ≡ value_out (value_told answer) }
 {
     SheetValue {
@@ -114,42 +127,58 @@ pub fn value_told(answer: ValueAnswer) -> SheetValue
 }
 
 // What a verdict or a search tells.
-pub fn verdict_told(verdict: Verdict, solution: [u8; 16]) -> SheetVerdict
-    ensures { result ≡ verdict_out (verdict_told verdict solution) }
+#[tactic(auto, unfolding(crate::specs::Answers::verdict_out))]
+pub fn verdict_told(verdict: Result<Verdict, Cause>) -> SheetVerdict
+    ensures { result ≡ verdict_out (verdict_told verdict) }
 {
     SheetVerdict {
         number: verdict_number(verdict),
         kind: verdict_kind(verdict),
-        solution,
+        solution: verdict_solution(verdict),
     }
 }
 
-pub fn cut_told(
-    outcome: ReadOutcome,
-    steps: usize,
-    verdict: Verdict,
-    solution: [u8; 16],
-) -> SheetCut
-    ensures { (s : State) → result ≡ cut_out (record { number = number_read outcome; place = read_place outcome; state = s; steps = steps; verdict = verdict_told verdict solution }) }
+#[tactic(auto, unfolding(crate::specs::Answers::cut_out, state_cut::specs::Parts::cut_parts_told, answers::specs::Answers::verdict_kind, answers::specs::Answers::verdict_solution))]
+pub fn cut_told(cut: Result<CutParts, Refusal>) -> SheetCut
+    ensures { (rows : List ℕ) → result ≡ cut_out (cut_parts_told cut rows) }
 {
-    SheetCut {
-        number: read_number(outcome),
-        place: read_place(outcome),
-        steps,
-        kind: verdict_kind(verdict),
-        solution,
+    match cut {
+        Ok(parts) => SheetCut {
+            number: 0,
+            place: 0,
+            steps: parts.steps,
+            kind: verdict_kind(Ok(parts.verdict)),
+            solution: verdict_solution(Ok(parts.verdict)),
+        },
+        Err(refusal) => SheetCut {
+            number: number(refusal.cause),
+            place: refusal.place,
+            steps: 0,
+            kind: 0,
+            solution: [0; 16],
+        },
     }
 }
 
-pub fn survey_told(answer: SurveyAnswer) -> SheetSurvey
+#[tactic(auto, unfolding(crate::specs::Answers::survey_out, state_survey::specs::Survey::survey_told))]
+pub fn survey_told(answer: Result<Surveyed, Cause>) -> SheetSurvey
     ensures { result ≡ survey_out (survey_told answer) }
 {
-    let outcome = answer.outcome;
-    let words = answer.words;
-    SheetSurvey {
-        number: outcome_number(outcome),
-        more: answer.more,
-        words,
-        count: answer.count,
+    match answer {
+        Ok(found) => {
+            let words = found.words;
+            SheetSurvey {
+                number: 0,
+                more: found.more,
+                words,
+                count: found.count,
+            }
+        }
+        Err(cause) => SheetSurvey {
+            number: number(cause),
+            more: false,
+            words: [0; 16],
+            count: 0,
+        },
     }
 }

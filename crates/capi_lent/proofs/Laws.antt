@@ -2,14 +2,11 @@
 use mathlib.Core.List.{List}
 use mathlib.Core.Path.{◌≡◌, sym, ap, ◌∙◌}
 use Prim.Native.Nat.{ℕ}
-use lib.Dec.{eqb}
-use borrow.Author.Tests.{eqb-true, eqb-false}
-use Rattle.bounded.proofs.Bool.{by_cases}
-use Rattle.answers.specs.declared.Outcome.{Outcome}
-use Rattle.answers.specs.Answers.{outcome_number}
+use Rattle.std.specs.Prelude.{Result, Ok, Err}
+use Rattle.cause.specs.declared.Cause.{Cause}
 use Rattle.head.specs.declared.Head.{Head}
+use Rattle.step_reduce.specs.declared.Reduction.{Reduction}
 use Rattle.state.specs.declared.state.State.{State}
-use Rattle.state.specs.declared.reduction.Worked.{Worked}
 use Rattle.state.specs.View.{state_of}
 use Rattle.state.specs.Answers.{Told}
 use Rattle.state.specs.Worked.{worked_told}
@@ -17,42 +14,26 @@ use Rattle.capi_lent.specs.declared.SheetStepped.{SheetStepped}
 use Rattle.capi_lent.specs.Lent.{head_with, state_with, state_left, Made, Left}
 
 -- A head whose arrays are stored.
-pub head-stored : (h : Head) {lists leaders stated : List ℕ} → (lists ≡ h.domains) × (leaders ≡ h.leaders) × (stated ≡ h.stated)
-    → head_with h.n h.sizes lists leaders stated ≡ h
-head-stored h e = λ i. head_with h.n h.sizes (e.0 i) (e.1 i) (e.2 i)
+pub head_stored : (h : Head) {lists leaders stated : List ℕ} → Made h lists leaders stated → head_with h.n h.sizes lists leaders stated ≡ h
+head_stored h e = λ i. head_with h.n h.sizes (e.0 i) (e.1 i) (e.2 i)
 
--- What is stored, with what a call leaves as it was, is the state told.
-module _ {n : ℕ} {sizes lists leaders stated rows lists' leaders' stated' rows' : List ℕ} {o : Outcome} {h : Head} {number : ℕ} {s : State}
-    (told : state_of h rows' ≡ s) (M : Made o h number lists leaders stated lists' leaders' stated')
-    (kept : (s.n ≡ n) × (s.sizes ≡ sizes))
-    (handed : (outcome_number o ≡ 0 → ⊥) → s ≡ state_with n sizes lists leaders stated rows) where
-  done : number ≡ 0 → state_with n sizes lists' leaders' stated' rows' ≡ s
-  done z =
-      let p = M.stored z in
-      let hn : n ≡ h.n = sym (ap (λ (u : State). u.n) told ∙ kept.0) in
-      let hs : sizes ≡ h.sizes = sym (ap (λ (u : State). u.sizes) told ∙ kept.1) in
-      (λ i. state_with (hn i) (hs i) (p.0 i) (p.1 i) (p.2 i) rows') ∙ told
-
-  not_done : (number ≡ 0 → ⊥) → state_with n sizes lists' leaders' stated' rows' ≡ s
-  not_done z =
-      let p = M.not_stored z in
-      let g : s ≡ state_with n sizes lists leaders stated rows = handed (λ e. z (M.number_is ∙ e)) in
-      let hr : rows' ≡ rows = ap (λ (u : State). u.rows) told ∙ ap (λ (u : State). u.rows) g in
-      (λ i. state_with n sizes (p.0 i) (p.1 i) (p.2 i) (hr i)) ∙ sym g
-
-  pub made-state : state_with n sizes lists' leaders' stated' rows' ≡ s
-  made-state = by_cases (eqb number 0) (λ e. done (eqb-true _ _ e)) (λ e. not_done (eqb-false _ _ e))
+-- What is stored of a head, with what a call leaves as it was, is the state told.
+pub made-state : {n : ℕ} {sizes lists leaders stated rows : List ℕ} {h : Head} {s : State} → state_of h rows ≡ s → Made h lists leaders stated
+    → (s.n ≡ n) × (s.sizes ≡ sizes) → state_with n sizes lists leaders stated rows ≡ s
+made-state {n} {sizes} {lists} {leaders} {stated} {rows} {h} {s} told p kept =
+    let hn : n ≡ h.n = sym (ap (λ (u : State). u.n) told ∙ kept.0) in
+    let hs : sizes ≡ h.sizes = sym (ap (λ (u : State). u.sizes) told ∙ kept.1) in
+    (λ i. state_with (hn i) (hs i) (p.0 i) (p.1 i) (p.2 i) rows) ∙ told
 
 -- What is left, with the number and the count of a step, a run of steps or a table added.
-module _ {n : ℕ} {sizes lists leaders stated rows lists' leaders' stated' rows' : List ℕ} {w : Worked} {r : SheetStepped} {t : Told}
-    (told : worked_told w rows' ≡ t) (L : Left w r lists leaders stated lists' leaders' stated')
-    (kept : (t.state.n ≡ n) × (t.state.sizes ≡ sizes))
-    (handed : (t.number ≡ 0 → ⊥) → t.state ≡ state_with n sizes lists leaders stated rows) where
-  pub left_as : state_left (state_with n sizes lists' leaders' stated' rows') r ≡ t
-  unfolding state_left
-  left_as =
-      let number : outcome_number w.outcome ≡ t.number = ap (λ (u : Told). u.number) told in
-      let state = made-state (ap (λ (u : Told). u.state) told) L.made kept (λ z. handed (λ e. z (number ∙ e))) in
-      let numbers : r.number ≡ t.number = L.made.number_is ∙ number in
-      let steps : r.steps ≡ t.steps = L.steps_are ∙ ap (λ (u : Told). u.steps) told in
-      λ i. record { number = numbers i; state = state i; steps = steps i }
+pub left_as : {n : ℕ} {sizes : List ℕ} (lists leaders stated lists' leaders' stated' rows' : List ℕ) (w : Result Reduction Cause) (r : SheetStepped) {t : Told}
+    → worked_told (head_with n sizes lists leaders stated) w rows' ≡ t → Left w r lists leaders stated lists' leaders' stated'
+    → (t.state.n ≡ n) × (t.state.sizes ≡ sizes) → state_left (state_with n sizes lists' leaders' stated' rows') r ≡ t
+unfolding Left state_left
+left_as lists leaders stated lists' leaders' stated' rows' (Ok run) r told L kept =
+    let state = made-state (ap (λ (u : Told). u.state) told) L.1 kept in
+    let numbers = ap (λ (u : SheetStepped). u.number) L.0 ∙ ap (λ (u : Told). u.number) told in
+    let steps = ap (λ (u : SheetStepped). u.steps) L.0 ∙ ap (λ (u : Told). u.steps) told in
+    λ i. record { number = numbers i; state = state i; steps = steps i }
+left_as {n} {sizes} lists leaders stated lists' leaders' stated' rows' (Err c) r told L kept =
+    (λ i. state_left (state_with n sizes (L.1 i) (L.2 i) (L.3 i) rows') (L.0 i)) ∙ told

@@ -1,10 +1,10 @@
 -- The arrays of a state that C and Rust lend one by one, and what is stored in them.
-use Rattle.std.specs.Prelude.{List, ◌≡◌, ℕ}
-use Rattle.answers.specs.declared.Outcome.{Outcome}
-use Rattle.answers.specs.Answers.{outcome_number}
+use Rattle.std.specs.Prelude.{List, ◌≡◌, ℕ, Result, Ok, Err}
+use Rattle.cause.specs.declared.Cause.{Cause}
+use Rattle.cause.specs.Number.{number_of}
 use Rattle.head.specs.declared.Head.{Head}
+use Rattle.step_reduce.specs.declared.Reduction.{Reduction}
 use Rattle.state.specs.declared.state.State.{State}
-use Rattle.state.specs.declared.reduction.Worked.{Worked}
 use Rattle.state.specs.View.{state_of}
 use Rattle.state.specs.Answers.{Told}
 use Rattle.capi_lent.specs.declared.SheetStepped.{SheetStepped}
@@ -20,12 +20,12 @@ state_with n sizes lists leaders stated rows = state_of (head_with n sizes lists
 unfoldable pub state_left : State → SheetStepped → Told
 state_left s r = record { number = r.number; state = s; steps = r.steps }
 
--- What is stored of a head: all that a call changes of it where the call is not refused, and else nothing.
-pub record Made (o : Outcome) (h : Head) (number : ℕ) (lists leaders stated lists' leaders' stated' : List ℕ) : Type 0 where
-  pub number_is : number ≡ outcome_number o
-  pub stored : number ≡ 0 → (lists' ≡ h.domains) × (leaders' ≡ h.leaders) × (stated' ≡ h.stated)
-  pub not_stored : (number ≡ 0 → ⊥) → (lists' ≡ lists) × (leaders' ≡ leaders) × (stated' ≡ stated)
+-- What is stored of a head: all that a call changes of it.
+abbrev pub Made : Head → (lists leaders stated : List ℕ) → Type 0
+Made h lists leaders stated = (lists ≡ h.domains) × (leaders ≡ h.leaders) × (stated ≡ h.stated)
 
-pub record Left (w : Worked) (r : SheetStepped) (lists leaders stated lists' leaders' stated' : List ℕ) : Type 0 where
-  pub made : Made w.outcome w.head r.number lists leaders stated lists' leaders' stated'
-  pub steps_are : r.steps ≡ w.steps
+-- What has been made is stored where the call is not refused, and else nothing; with the number and the count.
+unfoldable pub Left : Result Reduction Cause → SheetStepped → (lists leaders stated lists' leaders' stated' : List ℕ) → Type 0
+Left (Ok run) r lists leaders stated lists' leaders' stated' = (r ≡ record { number = 0; steps = run.steps }) × Made run.head lists' leaders' stated'
+Left (Err c) r lists leaders stated lists' leaders' stated' =
+    (r ≡ record { number = number_of c; steps = 0 }) × (lists' ≡ lists) × (leaders' ≡ leaders) × (stated' ≡ stated)

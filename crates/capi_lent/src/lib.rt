@@ -5,9 +5,9 @@ ghost use Rattle.std.specs.Prelude.{◌≡◌};
 ghost use Rattle.head.specs.Held.{zero_rows};
 ghost use Rattle.capi_lent.specs.Lent.{head_with, Made, Left};
 
-use answers::{Outcome, outcome_number};
+use cause::{Cause, number};
 use head::{Head, Rows, VARIABLES};
-use state::Worked;
+use step_reduce::Reduction;
 
 // A step, a reduction or a table added: the number that refuses, and how many steps were taken.
 #[repr(C)]
@@ -46,14 +46,14 @@ pub fn zero_rows(rows: &mut Rows)
     *rows = [0; 3840];
 }
 
-// Stores what a step or a reduction changes of a head.
-fn put_changed(
+// Stores what a call has made of a head: all that it may change of it.
+pub fn put_made(
     head: Head,
     lists: &mut [u32; VARIABLES],
     leaders: &mut [u8; VARIABLES],
     stated: &mut [u32; VARIABLES],
 )
-    ensures { (lists.new ≡ head.domains) × (leaders.new ≡ head.leaders) × (stated.new ≡ head.stated) }
+    ensures { Made head lists.new leaders.new stated.new }
 {
     let new_lists = head.domains;
     let new_leaders = head.leaders;
@@ -63,42 +63,33 @@ fn put_changed(
     *stated = new_stated;
 }
 
-// Stores what a call has made of a head where it is not refused, and tells the number.
-pub fn put_made(
-    outcome: Outcome,
-    head: Head,
-    lists: &mut [u32; VARIABLES],
-    leaders: &mut [u8; VARIABLES],
-    stated: &mut [u32; VARIABLES],
-) -> u8
-    ensures { Made outcome head result lists.old leaders.old stated.old lists.new leaders.new stated.new }
-{
-    let number = outcome_number(outcome);
-    if number != 0 {
-        return number;
-    }
-    put_changed(head, lists, leaders, stated);
-    number
-}
-
-// Stores what a step, a run of steps or a table added has made, and tells the number and the count of steps.
+// Stores what a step, a run of steps or a table added has made where it is not refused, and tells the number and the count of steps.
+#[tactic(auto, unfolding(crate::specs::Lent::Left))]
 pub fn left(
-    worked: Worked,
+    worked: Result<Reduction, Cause>,
     lists: &mut [u32; VARIABLES],
     leaders: &mut [u8; VARIABLES],
     stated: &mut [u32; VARIABLES],
 ) -> SheetStepped
     ensures { Left worked result lists.old leaders.old stated.old lists.new leaders.new stated.new }
 {
-    let outcome = worked.outcome;
-    let head = worked.head;
-    SheetStepped {
-        number: put_made(outcome, head, lists, leaders, stated),
-        steps: worked.steps,
+    match worked {
+        Ok(run) => {
+            put_made(run.head, lists, leaders, stated);
+            SheetStepped {
+                number: 0,
+                steps: run.steps,
+            }
+        }
+        Err(cause) => SheetStepped {
+            number: number(cause),
+            steps: 0,
+        },
     }
 }
 
 // Stores a whole head.
+#[tactic(auto, using(crate::proofs::Laws::head_stored))]
 pub fn put_head(
     head: Head,
     n: &mut usize,
@@ -112,5 +103,5 @@ pub fn put_head(
     *n = head.n;
     let new_sizes = head.sizes;
     *sizes = new_sizes;
-    put_changed(head, lists, leaders, stated);
+    put_made(head, lists, leaders, stated);
 }

@@ -5,7 +5,7 @@ ghost use Rattle.std.specs.Prelude.{◌≡◌};
 ghost use Rattle.cause.specs.Number.{number_of};
 
 // One cause for each number.
-#[derive(Clone, Copy)]
+#[derive(Clone, Copy, Debug, PartialEq, Eq)]
 pub enum Cause {
     // Reading: the length, the version, then the fields in file order.
     Length,
@@ -55,7 +55,7 @@ pub enum Cause {
 }
 
 // Why the bytes of a sheet are refused, and at which of them.
-#[derive(Clone, Copy)]
+#[derive(Clone, Copy, Debug, PartialEq, Eq)]
 pub struct Refusal {
     pub cause: Cause,
     pub place: usize,

@@ -88,11 +88,11 @@ module _ (s : State) where
   flat-interval e = eqb-true _ 4 (and_r _ _ (and_r _ _ (fits-flat e)))
 
   -- The three calls, one after the other.
-  pub fitted-told : (table : List ℕ) (a b : Told) (v : VerdictTold) → sound_state s ≡ true → flat_meter s.n s.sizes ≡ true → table ≡ page_nine
+  pub fitted-told : (table : List ℕ) (a b : Told) (v : VerdictTold) → fit_refusal s ≡ 0 → table ≡ page_nine
       → a ≡ table_added s 1 2 table → b ≡ reduced a.state → v ≡ verdict_of b.state
       → ◌≡◌ {A = MeterTold} (record { number = 0; state = b.state; verdict = v }) (fitted s)
   unfolding fitted_state
-  fitted-told table a b v t f p q r w =
+  fitted-told table a b v none p q r w =
       let left : b.state ≡ fitted_state s =
       ap (λ (x : Told). x.state) r ∙ ap (λ (x : Told). (reduced x.state).state) q ∙ ap (λ (x : List ℕ). (reduced (table_added s 1 2 x).state).state) p in
-      (λ z. record { number = 0; state = left z; verdict = (w ∙ ap verdict_of left) z }) ∙ sym (fitted-done (refuses-none t f))
+      (λ z. record { number = 0; state = left z; verdict = (w ∙ ap verdict_of left) z }) ∙ sym (fitted-done none)

@@ -17,7 +17,7 @@ pub record MeterTold : Type 0 where
   pub verdict : VerdictTold
 
 unfoldable pub meter_told : MeterAnswer → MeterTold
-meter_told r = record { number = outcome_number r.outcome; state = r.state; verdict = verdict_told r.verdict r.solution }
+meter_told r = record { number = outcome_number r.outcome; state = r.state; verdict = verdict_told r.verdict }
 
 -- Neither "fewer than two options" nor a state "where option 1 or 2 is not of size four": by the sizes, whatever is left in the lists.
 unfoldable pub flat_meter : (n : ℕ) (sizes : List ℕ) → Bool

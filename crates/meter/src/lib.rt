@@ -2,19 +2,18 @@
 #![tactic(auto)]
 
 ghost use Rattle.std.specs.Prelude.{◌≡◌};
-ghost use Rattle.cause.specs.Number.{number_of};
-ghost use Rattle.meter.specs.Fitted.{meter_told, flat_meter, turned_away, fitted};
+ghost use Rattle.answers.specs.Answers.{outcome_number};
+ghost use Rattle.meter.specs.Fitted.{meter_told, flat_meter, fit_refusal, fitted};
 
 pub use meter_rule::{fits, page_nine};
-use sheet::{Cause, Outcome, State, Verdict};
+use sheet::{Cause, State, Verdict};
 
+// The state handed back, and its verdict: what refuses the call refuses the verdict.
 #[derive(Clone, Copy)]
 pub struct MeterAnswer {
-    pub outcome: Outcome,
+    pub outcome: Result<(), Cause>,
     pub state: State,
-    pub verdict: Verdict,
-    // The solution shown, zero past n; all zero unless the verdict is Built.
-    pub solution: [u8; 16],
+    pub verdict: Result<Verdict, Cause>,
 }
 
 // Two variables or more, the first two of size four.
@@ -30,41 +29,35 @@ pub fn is_flat_meter(n: usize, sizes: [u8; 16]) -> bool
     sizes[1] == 4
 }
 
-// A refusal: the state given. What refuses the call refuses the verdict too.
-fn turned_away(cause: Cause, state: State) -> MeterAnswer
-    ensures { meter_told result ≡ turned_away (number_of cause) state }
+// Why page nine is refused, or `Ok`: soundness is tested first.
+fn refuse_fit(state: State) -> Result<(), Cause>
+    ensures { outcome_number result ≡ fit_refusal state }
 {
-    MeterAnswer {
-        outcome: Outcome::Refused(cause),
-        state,
-        verdict: Verdict::Refused(cause),
-        solution: [0; 16],
+    if !sheet::is_sound(state) {
+        return Err(Cause::Unsound);
     }
+    if !is_flat_meter(state.n, state.sizes) {
+        return Err(Cause::NotFlatMeter);
+    }
+    Ok(())
 }
 
 // Adds page nine, reduces fully, and hands back the state and its verdict. A refusal hands back the state given.
 pub fn fit(state: State) -> MeterAnswer
     ensures { meter_told result ≡ fitted state }
 {
-    if !sheet::is_sound(state) {
-        return turned_away(Cause::Unsound, state);
+    if let Err(cause) = refuse_fit(state) {
+        return MeterAnswer {
+            outcome: Err(cause),
+            state,
+            verdict: Err(cause),
+        };
     }
-    let sizes = state.sizes;
-    if !is_flat_meter(state.n, sizes) {
-        return turned_away(Cause::NotFlatMeter, state);
-    }
-    let table = page_nine();
-    let added = state.add_table(1, 2, &table);
-    let limited = added.state;
-    let cut = limited.reduce();
-    let left = cut.state;
-    let shown = sheet::verdict(left);
-    let verdict = shown.verdict;
-    let solution = shown.solution;
+    let limited = state.add_table(1, 2, &page_nine()).state;
+    let left = limited.reduce().state;
     MeterAnswer {
-        outcome: Outcome::Done,
+        outcome: Ok(()),
         state: left,
-        verdict,
-        solution,
+        verdict: sheet::verdict(left),
     }
 }

@@ -2,7 +2,7 @@
 use mathlib.Core.Bool.{true, false}
 use mathlib.Core.List.{List}
 use mathlib.Core.Path.{◌≡◌, refl, sym, ap, ◌∙◌}
-use Prim.Native.Nat.{ℕ}
+use Prim.Native.Nat.{ℕ, ◌≤◌}
 use native.Mathlib.Omega.{arith}
 use lib.Dec.{eqb}
 use borrow.Author.Tests.{eqb-true, eqb-false}
@@ -10,22 +10,24 @@ use Rattle.bounded.proofs.Bool.{by_cases}
 use Rattle.cause.specs.Number.{number_of}
 use Rattle.cause.specs.declared.Cause.{Cause}
 use Rattle.cause.proofs.Laws.{number-positive}
-use Rattle.answers.specs.declared.Outcome.TheVariants as outcome
-use Rattle.answers.specs.Answers.{outcome_number, VerdictTold}
+use Rattle.std.specs.Prelude.{Ok, Err}
+use Rattle.answers.specs.Answers.{VerdictTold, no_verdict}
 use Rattle.network.specs.Calls.{full_reduction, add_table}
 use Rattle.network.specs.Reduction.{reduce}
 use Rattle.head.specs.Held.{HeadShaped, held}
 use Rattle.step_reduce.specs.declared.Reduction.{Reduction}
 use Rattle.step_reduce.specs.Reduced.{RanTo}
 use Rattle.state.specs.declared.state.State.{State}
-use Rattle.state.specs.declared.reduction.Worked.{Worked}
 use Rattle.state.specs.View.{Shaped, head_in, state_of, sound_state}
 use Rattle.state.specs.Answers.{Told}
 use Rattle.state.specs.Steps.{reduced}
 use Rattle.state.specs.Tables.{table_added}
 use Rattle.state.specs.Solutions.{verdict_of}
 use Rattle.state.specs.Worked.{worked_told}
-use Rattle.state.proofs.Calls.{call-number, call_back, call_same, call-head, taken-sound}
+use Rattle.state.specs.Calls.{refused}
+use Rattle.meter_parts.specs.Parts.{fit_told}
+use lib.ListN.{replicate}
+use Rattle.state.proofs.Calls.{call-9, call-number, call_back, call_same, call-head, taken-sound}
 use Rattle.state.proofs.WorkedOut.{reduction-told}
 use Rattle.meter_rule.specs.PageNine.{page_nine}
 use Rattle.meter.specs.Fitted.{MeterTold, flat_meter, fit_refusal, turned_away, fitted_state, fitted}
@@ -33,29 +35,30 @@ use Rattle.meter.proofs.Fitted.{refuses-unsound, refuses-none, fitted-away, fitt
 use Rattle.meter.proofs.Promise.{page-nine-taken, with-table, then-reduced}
 
 -- Of a flat meter, after the table has been added.
-module _ {s : State} (h : Shaped s) (f : flat_meter s.n s.sizes ≡ true) {table : List ℕ} (p : table ≡ page_nine) (a : Worked) {rows : List ℕ}
-    (told : worked_told a rows ≡ table_added s 1 2 table) where
-  added-told : worked_told a rows ≡ table_added s 1 2 page_nine
-  added-told = told ∙ ap (table_added s 1 2) p
-
-  limited-is : state_of a.head rows ≡ (table_added s 1 2 page_nine).state
-  limited-is = ap (λ (t : Told). t.state) added-told
+module _ {s : State} (h : Shaped s) (f : flat_meter s.n s.sizes ≡ true) {table : List ℕ} (p : table ≡ page_nine) where
+  added-told : {told : Told} → told ≡ table_added s 1 2 table → told ≡ table_added s 1 2 page_nine
+  added-told told = told ∙ ap (table_added s 1 2) p
 
   -- A refusal is for want of soundness: page nine fits.
-  pub refused-fit : {c : Cause} → a.outcome ≡ outcome.Refused c → turned_away 9 (state_of a.head rows) ≡ fitted s
-  unfolding outcome_number
-  refused-fit {c} e =
-      let n : (table_added s 1 2 page_nine).number ≡ number_of c = sym (ap (λ (t : Told). t.number) added-told) ∙ ap outcome_number e in
+  pub refused-fit : (c : Cause) (rows : List ℕ) → worked_told (head_in s) (Err c) rows ≡ table_added s 1 2 table → fit_told (head_in s) (Err c) rows ≡ fitted s
+  unfolding fit_told turned_away refused
+  refused-fit c rows told =
+      let n : (table_added s 1 2 page_nine).number ≡ number_of c = sym (ap (λ (t : Told). t.number) (added-told told)) in
       let unsound : sound_state s ≡ false =
       by_cases (sound_state s) (λ t. absurd (let z : ⊥ = omega (arith, page-nine-taken s h (refuses-none s t f), number-positive c) in z)) (λ t. t) in
-      ap (turned_away 9) (limited-is ∙ call_back s (add_table 1 2 page_nine) (λ z. omega (arith, number-positive c)))
-      ∙ sym (fitted-away s 9 (refuses-unsound s unsound) (omega arith))
+      let nine : number_of c ≡ 9 = sym n ∙ ap (λ (t : Told). t.number) (call-9 s (add_table 1 2 page_nine) unsound) in
+      let one : 1 ≤ 9 = omega arith in
+      let left : state_of (head_in s) rows ≡ s =
+      ap (λ (t : Told). t.state) (added-told told) ∙ call_back s (add_table 1 2 page_nine) (λ z. let y : ⊥ = omega (arith, n, number-positive c) in y) in
+      (λ z. record { number = nine z; state = left z; verdict = no_verdict (nine z) (replicate 16 0) }) ∙ sym (fitted-away s 9 (refuses-unsound s unsound) one)
 
-  module _ (e : a.outcome ≡ outcome.Done) where
+  module _ (a : Reduction) {rows : List ℕ} (told : worked_told (head_in s) (Ok a) rows ≡ table_added s 1 2 table) where
+    limited-is : state_of a.head rows ≡ (table_added s 1 2 page_nine).state
+    limited-is = ap (λ (t : Told). t.state) (added-told told)
+
     fits : fit_refusal s ≡ 0
-    unfolding outcome_number
     fits =
-        let n : (table_added s 1 2 page_nine).number ≡ 0 = sym (ap (λ (t : Told). t.number) added-told) ∙ ap outcome_number e in
+        let n : (table_added s 1 2 page_nine).number ≡ 0 = sym (ap (λ (t : Told). t.number) (added-told told)) in
         refuses-none s (taken-sound s (add_table 1 2 page_nine) (sym (call-number s (add_table 1 2 page_nine)) ∙ n)) f
 
     pub limited-shaped : Shaped (state_of a.head rows)
@@ -66,7 +69,7 @@ module _ {s : State} (h : Shaped s) (f : flat_meter s.n s.sizes ≡ true) {table
 
     -- And after the reduction.
     module _ {b : Reduction} {left : List ℕ} (cut : RanTo (reduce (held a.head rows)) b left) where
-      cut-told : record { number = outcome_number outcome.Done; state = state_of b.head left; steps = b.steps } ≡ reduced (state_of a.head rows)
+      cut-told : record { number = 0; state = state_of b.head left; steps = b.steps } ≡ reduced (state_of a.head rows)
       cut-told = reduction-told a.head rows limited-sound cut
 
       left_is : state_of b.head left ≡ fitted_state s
@@ -77,8 +80,7 @@ module _ {s : State} (h : Shaped s) (f : flat_meter s.n s.sizes ≡ true) {table
       left-sound = ap sound_state left_is ∙ (then-reduced s h fits).on_sound
 
       pub done-fit : {v : VerdictTold} → v ≡ verdict_of (state_of b.head left)
-          → ◌≡◌ {A = MeterTold} (record { number = outcome_number outcome.Done; state = state_of b.head left; verdict = v }) (fitted s)
-      unfolding outcome_number
+          → ◌≡◌ {A = MeterTold} (record { number = 0; state = state_of b.head left; verdict = v }) (fitted s)
       done-fit w =
           (λ z. record { number = 0; state = left_is z; verdict = (w ∙ ap verdict_of left_is) z })
           ∙ sym (fitted-done s fits)

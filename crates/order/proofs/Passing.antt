@@ -21,7 +21,8 @@ use Rattle.network.specs.Reach.{reach}
 use Rattle.network.specs.Order.{before, each_comes_once, good, order_of, good_order, order_refusal, test_order}
 use Rattle.network.proofs.Order.{once-pass, good-pass, order-taken}
 use Rattle.order.specs.Orders.{Governed, may_come, lists_each, tested_in, order_tested}
-use Rattle.order.specs.declared.test.Tested.TheVariants as tested
+use Rattle.std.specs.Prelude.{Ok, Err}
+use Rattle.cause.specs.declared.Cause.TheVariants.{OrderNumbers}
 use Rattle.order.proofs.Left.{left_of, left-has, left-all, left_less, may-permitted}
 
 -- None that is left when the place q comes is over the variable there.
@@ -79,7 +80,7 @@ module _ (n : ℕ) (over l : List ℕ) where
         }
 
     -- any other number refuses the list.
-    pub passing-refused : (R : ℕ → ℕ → Bool) → n ≤ width → p < n → and (leb 1 v) (has left (pred v)) ≡ false → tested.Refused ≡ tested_in n R l
+    pub passing-refused : (R : ℕ → ℕ → Bool) → n ≤ width → p < n → and (leb 1 v) (has left (pred v)) ≡ false → Err OrderNumbers ≡ tested_in n R l
     unfolding tested_in lists_each
     passing-refused R b k f = sym (if-false _ _ _ (not-true→false _ λ t.
         let once = and_r _ _ (and_r _ _ t) in
@@ -109,11 +110,11 @@ module _ (n : ℕ) (over l : List ℕ) where
         ∙ ap (λ (k : ℕ). every k (clear_at n over l)) (sym pe)
         ∙ sym P.good_is
 
-    pub passing-end : (R : ℕ → ℕ → Bool) → n ≤ width → length l ≡ n → Governed n R over → tested_in n R l ≡ if flag tested.Good tested.Not
+    pub passing-end : (R : ℕ → ℕ → Bool) → n ≤ width → length l ≡ n → Governed n R over → tested_in n R l ≡ Ok flag
     unfolding tested_in lists_each
     passing-end R b le G =
         if-true _ _ _ (and_i _ _ (eq-eqb _ _ le) (and_i _ _ (every-i n _ λ q k. le-leb _ _ (all-fresh q k).from_one) all_once))
-        ∙ ap (λ (t : Bool). if t tested.Good tested.Not) (flag-good R b G)
+        ∙ ap Ok (flag-good R b G)
 
 number-tells : (b : Bool) → b ≡ eqb (if b 0 30) 0
 unfolding if
@@ -128,8 +129,8 @@ module _ (N : Network) (S : Sound N) (l : List ℕ) where
 
   pub tested-network : tested_in N.n (reach N) l ≡ order_tested N l
   unfolding tested_in order_tested test_order good_order
-  tested-network = ap (λ (t : Bool). if t (if (good N.n (reach N) (order_of l)) tested.Good tested.Not) tested.Refused) each-told
+  tested-network = ap (λ (t : Bool). if t (Ok (good N.n (reach N) (order_of l))) (Err OrderNumbers)) each-told
 
-  pub length-refused : (length l ≡ N.n → ⊥) → tested.Refused ≡ order_tested N l
+  pub length-refused : (length l ≡ N.n → ⊥) → Err OrderNumbers ≡ order_tested N l
   unfolding order_tested
   length-refused d = sym (if-false _ _ _ (not-true→false _ λ t. d ((order-taken N S l).0 (eqb-true _ 0 t)).0))

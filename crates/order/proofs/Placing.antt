@@ -1,5 +1,5 @@
 -- The first good order, place after place.
-use mathlib.Core.Bool.{Bool, true, false}
+use mathlib.Core.Bool.{Bool, false}
 use mathlib.Core.List.{List}
 use mathlib.Core.Path.{◌≡◌, refl, sym, ap, ◌∙◌}
 use Prim.Native.Nat.{ℕ, suc, ◌+◌, ◌≤◌, ◌<◌}
@@ -15,6 +15,7 @@ use Rattle.bounded.proofs.Bool.{by_cases, clash, if-true, if-false}
 use Rattle.bounded.proofs.Fold.{first_cong, first_passes, first-le}
 use Rattle.bounded.proofs.Fill.{Filled, filled_none, filled_more, filled-end}
 use Rattle.words.specs.Word.{width, has, word}
+use Rattle.cause.specs.declared.Cause.TheVariants.{SolutionLength}
 use Rattle.network.specs.Network.{Network}
 use Rattle.network.specs.Sound.{Sound}
 use Rattle.network.specs.Reach.{reach}
@@ -65,14 +66,14 @@ module _ (n : ℕ) {R : ℕ → ℕ → Bool} where
 -- The buffer of a network: the order that is found where it has the length, and as it was where not.
 module _ (N : Network) (S : Sound N) (buffer : List ℕ) where
   pub buffer-found : {after : List ℕ} → length buffer ≡ N.n → after ≡ tabulate N.n (λ (q : ℕ). suc (found N.n (reach N) q))
-      → (true ≡ eqb (find_refusal N (length buffer)) 0) × (after ≡ found_buffer N buffer)
+      → (find_refusal N (length buffer) ≡ 0) × (after ≡ found_buffer N buffer)
   unfolding found_buffer find_order found_order
   buffer-found l e =
-      let t : eqb (find_refusal N (length buffer)) 0 ≡ true = eq-eqb _ 0 ((find-0 N S (length buffer)).1 l) in
-      (sym t, e ∙ sym (if-true _ _ _ t))
+      let z = (find-0 N S (length buffer)).1 l in
+      (z, e ∙ sym (if-true _ _ _ (eq-eqb _ 0 z)))
 
-  pub buffer-refused : (length buffer ≡ N.n → ⊥) → (false ≡ eqb (find_refusal N (length buffer)) 0) × (buffer ≡ found_buffer N buffer)
+  pub buffer-refused : (length buffer ≡ N.n → ⊥) → ((find_refusal N (length buffer) ≡ 0 → ⊥) × (SolutionLength ≡ SolutionLength)) × (buffer ≡ found_buffer N buffer)
   unfolding found_buffer
   buffer-refused d =
-      let f : eqb (find_refusal N (length buffer)) 0 ≡ false = ne_eqb _ 0 (λ z. d ((find-0 N S (length buffer)).0 z)) in
-      (sym f, sym (if-false _ _ _ f))
+      let no : find_refusal N (length buffer) ≡ 0 → ⊥ = λ z. d ((find-0 N S (length buffer)).0 z) in
+      ((no, refl), sym (if-false _ _ _ (ne_eqb _ 0 no)))

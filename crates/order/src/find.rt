@@ -1,13 +1,14 @@
 // The first good order: "the smallest permitted number at each place".
-ghost use Rattle.std.specs.Prelude.{Bool, true, ◌≡◌, ℕ, suc, ◌≤◌, ◌<◌, eqb, length, get_or};
+ghost use Rattle.std.specs.Prelude.{Bool, true, ◌≡◌, ℕ, suc, ◌≤◌, ◌<◌, length, get_or};
 ghost use Rattle.bounded.specs.Fold.{first};
 ghost use Rattle.bounded.specs.Table.{tabulate};
 ghost use Rattle.words.specs.Word.{width};
-ghost use Rattle.network.specs.Order.{found, find_refusal};
+ghost use Rattle.network.specs.Order.{found};
 ghost use Rattle.pairs.specs.Pairs.{variables};
 ghost use Rattle.head.specs.Held.{held, sound_in};
-ghost use Rattle.order.specs.Orders.{Governed, may_come, found_buffer};
+ghost use Rattle.order.specs.Orders.{Governed, may_come, OrderFound, found_buffer};
 
+use cause::Cause;
 use head::{Head, Rows, VARIABLES};
 use words::{both, member, single, without};
 
@@ -49,16 +50,14 @@ fn place_all(n: usize, over: &[u32; VARIABLES], order: &mut [u8])
 }
 
 // The order goes into a buffer of n bytes; a buffer of any other length is refused, and stays as it was.
-pub fn find_order(head: Head, rows: &Rows, order: &mut [u8]) -> bool
+pub fn find_order(head: Head, rows: &Rows, order: &mut [u8]) -> Result<(), Cause>
     requires { sound_in head rows.now ≡ true }
-    ensures { (result ≡ eqb (find_refusal (held head rows.now) (length order.old)) 0)
-        × (order.new ≡ found_buffer (held head rows.now) order.old) }
+    ensures { OrderFound (held head rows.now) (length order.old) result × (order.new ≡ found_buffer (held head rows.now) order.old) }
 {
-    let n = head.n;
-    if order.len() != n {
-        return false;
+    if order.len() != head.n {
+        return Err(Cause::SolutionLength);
     }
     let over = order_paths::governors(head, rows);
-    place_all(n, &over, order);
-    true
+    place_all(head.n, &over, order);
+    Ok(())
 }

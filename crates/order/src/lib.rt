@@ -5,4 +5,4 @@ mod find;
 mod test;
 
 pub use find::find_order;
-pub use test::{Tested, test_order};
+pub use test::test_order;

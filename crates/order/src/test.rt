@@ -6,16 +6,9 @@ ghost use Rattle.pairs.specs.Pairs.{variables};
 ghost use Rattle.head.specs.Held.{held, sound_in};
 ghost use Rattle.order.specs.Orders.{Governed, tested_in, order_tested};
 
+use cause::Cause;
 use head::{Head, Rows, VARIABLES};
 use words::{WIDTH, both, member, single, without};
-
-#[derive(Clone, Copy)]
-pub enum Tested {
-    Good,
-    Not,
-    // Not each variable exactly once and nothing else.
-    Refused,
-}
 
 // The number `v`, counted from 1, is of one that is `left`.
 fn still_left(left: u32, v: usize) -> bool
@@ -30,8 +23,8 @@ fn still_left(left: u32, v: usize) -> bool
     member(left, v - 1)
 }
 
-// Each number is of one that is left, and none that is left governs it.
-fn pass(n: usize, over: &[u32; VARIABLES], order: &[u8]) -> Tested
+// Each number is of one that is left, or the order is refused; and whether none that is left governs it.
+fn pass(n: usize, over: &[u32; VARIABLES], order: &[u8]) -> Result<bool, Cause>
     requires { (n ≤ variables) × (length order.now ≡ n) }
     ensures { (R : ℕ → ℕ → Bool) → Governed n R over.now → result ≡ tested_in n R order.now }
 {
@@ -40,27 +33,23 @@ fn pass(n: usize, over: &[u32; VARIABLES], order: &[u8]) -> Tested
     for p in 0..n {
         let v = words::wide(order[p]);
         if !still_left(left, v) {
-            return Tested::Refused;
+            return Err(Cause::OrderNumbers);
         }
         let i = v - 1;
         good &= both(left, over[i]) == 0;
         left = without(left, single(i));
     }
-    if good {
-        return Tested::Good;
-    }
-    Tested::Not
+    Ok(good)
 }
 
-// The order of numbers counted from 1.
-pub fn test_order(head: Head, rows: &Rows, order: &[u8]) -> Tested
+// Whether the order, numbers counted from 1, is good. One that does not hold each variable exactly once and nothing else is refused.
+pub fn test_order(head: Head, rows: &Rows, order: &[u8]) -> Result<bool, Cause>
     requires { sound_in head rows.now ≡ true }
     ensures { result ≡ order_tested (held head rows.now) order.now }
 {
-    let n = head.n;
-    if order.len() != n {
-        return Tested::Refused;
+    if order.len() != head.n {
+        return Err(Cause::OrderNumbers);
     }
     let over = order_paths::governors(head, rows);
-    pass(n, &over, order)
+    pass(head.n, &over, order)
 }

@@ -4,7 +4,7 @@ use mathlib.Core.List.{List}
 use mathlib.Core.Path.{◌≡◌, refl, sym, ap, ◌∙◌}
 use Prim.Native.Nat.{ℕ, ◌^◌, ◌<◌}
 use native.Mathlib.Omega.{arith}
-use lib.Dec.{eqb, leb}
+use lib.Dec.{eqb}
 use borrow.Author.Tests.{eqb-true, eq-eqb, le-leb, leb-true}
 use Rattle.bounded.specs.Bool.{and, or}
 use Rattle.bounded.specs.Bool as b
@@ -30,9 +30,9 @@ pub record Alone (w : ℕ) (rows : List ℕ) (i j di dj rest seen : ℕ) : Type 
   pub alone : (a u v : ℕ) → a < w → u < w → v < w → has di a ≡ true → met_at w rows i j dj rest a u ≡ true → met_at w rows i j dj rest a v ≡ true → u ≡ v
 
 module _ (w : ℕ) {rows : List ℕ} {i j di dj : ℕ} where
-  pub alone-none : dj < 2 ^ w → Alone w rows i j di dj dj 0
-  alone-none f =
-      record {
+  pub alone-none : {rest : ℕ} → rest ≡ dj → dj < 2 ^ w → Alone w rows i j di dj rest 0
+  alone-none e f =
+      rw e record {
         rest_fits = f;
         rest_in = λ u t. t;
         seen_in = λ a l t. clash t (has-zero a);

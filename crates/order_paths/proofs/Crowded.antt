@@ -24,10 +24,6 @@ module _ (w : ℕ) (rows : List ℕ) (i j dj : ℕ) where
   unfolding partners_at
   row-crowded a re xe te = te ∙ ap (leb 2) (partners-count w dj _ re xe refl)
 
-  pub crowded-all : {r n : ℕ} → n ≡ w → r ≡ word n (λ (a : ℕ). leb 2 (partners_at w rows i j dj a)) → r ≡ crowded_of w rows i j dj
-  unfolding crowded_of
-  crowded-all e h = rw e at h
-
 -- One value with two partners decides.
 pub lowest-decides : (w : ℕ) (rows : List ℕ) (i j di dj : ℕ) {a : ℕ} → di < 2 ^ w → (di ≡ 0 → ⊥) → a ≡ first w (has di)
     → leb 2 (partners_at w rows i j dj a) ≡ true → partners_within w rows i j di dj 0 1 ≡ false

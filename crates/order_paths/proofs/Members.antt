@@ -27,9 +27,9 @@ pub record Kept (w set : ℕ) (p : ℕ → Bool) (rest kept : ℕ) : Type 0 wher
   pub kept_is : kept ≡ word w (λ (v : ℕ). and (and (has set v) (b.not (has rest v))) (p v))
 
 module _ (w : ℕ) {set : ℕ} {p : ℕ → Bool} where
-  pub kept-none : set < 2 ^ w → Kept w set p set 0
-  kept-none h =
-      record {
+  pub kept-none : {rest : ℕ} → rest ≡ set → set < 2 ^ w → Kept w set p rest 0
+  kept-none e h =
+      rw e record {
         rest_fits = h;
         rest_in = λ u t. t;
         kept_is = sym (word_none w _ λ v l. not-true→false _ λ t. let s = and_l _ _ t in clash (and_l _ _ s) (not-e _ (and_r _ _ s)));
@@ -38,6 +38,9 @@ module _ (w : ℕ) {set : ℕ} {p : ℕ → Bool} where
   pub kept-all : {rest kept : ℕ} → rest ≡ 0 → Kept w set p rest kept → kept ≡ word w (λ (v : ℕ). and (has set v) (p v))
   unfolding b.not
   kept-all z K = K.kept_is ∙ word-cong w _ _ λ v l. ap (λ (t : Bool). and t (p v)) (rw (z, has-zero v) (and-true (has set v)))
+
+  pub kept_next : {rest kept a : ℕ} → Kept w set p rest kept → (rest ≡ 0 → ⊥) → a ≡ first w (has rest) → has set a ≡ true
+  kept_next {rest} {kept} {a} K n low = K.rest_in _ (lowest-in w rest a K.rest_fits n low).1
 
   pub kept_more : {rest kept a kept' rest' : ℕ} {t : Bool} → Kept w set p rest kept → (rest ≡ 0 → ⊥) → a ≡ first w (has rest) → t ≡ p a
       → kept' ≡ word w (λ (u : ℕ). or (has kept u) (and t (eqb u a)))

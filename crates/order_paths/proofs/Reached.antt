@@ -57,12 +57,13 @@ abbrev pub edge_in : List ℕ → ℕ → ℕ → Bool
 edge_in l x y = has (get_or l x 0) y
 
 -- "j is i, or there is" an edge.
-pub own_row : (E : ℕ → ℕ → Bool) (i x : ℕ) {one r : ℕ} → ((j : ℕ) → has x j ≡ E i j) → one ≡ word width (λ (u : ℕ). eqb u i)
-    → r ≡ word width (λ (u : ℕ). or (has one u) (has x u)) → r ≡ word width (via E 0 i)
+pub own_row : (edges : List ℕ) (i : ℕ) {one r : ℕ} → one ≡ word width (λ (u : ℕ). eqb u i)
+    → r ≡ word width (λ (u : ℕ). or (has one u) (has (get_or edges i 0) u)) → r ≡ word width (via (edge_in edges) 0 i)
 unfolding via
-own_row E i x xe oe re =
+own_row edges i oe re =
     re ∙ word-cong width _ _ λ u l.
-    ap₂ or (has-ruled width _ oe u l ∙ bool-ext _ _ (λ t. eq-eqb i u (sym (eqb-true u i t))) (λ t. eq-eqb u i (sym (eqb-true i u t)))) (xe u)
+    ap (λ (b : Bool). or b (edge_in edges i u))
+    (has-ruled width _ oe u l ∙ bool-ext _ _ (λ t. eq-eqb i u (sym (eqb-true u i t))) (λ t. eq-eqb u i (sym (eqb-true i u t))))
 
 -- A round joins row m to the rows that have m: `round-words`.
 pub round-more : (E : ℕ → ℕ → Bool) (m : ℕ) {before after : List ℕ} → m < variables → before ≡ rounds E m
@@ -78,15 +79,14 @@ round-more E m {before} {after} l be ae =
 -- ---- paths
 
 -- The bits of a column past the array are not set.
-pub column-over : (paths : List ℕ) (i own : ℕ) {n column r : ℕ} → n ≡ variables → column ≡ word n (λ (j : ℕ). has (get_or paths j 0) i)
+pub column-over : (paths : List ℕ) (i own : ℕ) {column r : ℕ} → column ≡ word variables (λ (j : ℕ). has (get_or paths j 0) i)
     → r ≡ word width (λ (u : ℕ). and (has column u) (not (has own u)))
     → r ≡ word width (λ (j : ℕ). and (and (ltb j variables) (has (get_or paths j 0) i)) (not (has own j)))
-column-over paths i own {column = column} ne ce re =
-    let ce' : column ≡ word variables (λ (j : ℕ). has (get_or paths j 0) i) = rw ne at ce in
+column-over paths i own ce re =
     re ∙ word-cong width _ _ λ u l. ap (λ (b : Bool). and b (not (has own u)))
     (by_cases (ltb u variables)
-    (λ t. has-ruled variables _ ce' u (ltb-true u variables t) ∙ sym (and-holds _ _ t))
-    (λ t. rw ce' (has-word-past variables _ u (ltb-false u variables t)) ∙ sym (and-fails _ _ t)))
+    (λ t. has-ruled variables _ ce u (ltb-true u variables t) ∙ sym (and-holds _ _ t))
+    (λ t. rw ce (has-word-past variables _ u (ltb-false u variables t)) ∙ sym (and-fails _ _ t)))
 
 module _ (N : Network) (S : Sound N) (few : N.n ≤ variables) where
   edge-within : (i j : ℕ) → leads_to N i j ≡ true → (i < variables) × (j < width)

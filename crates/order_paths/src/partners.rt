@@ -4,6 +4,7 @@ ghost use Rattle.words.specs.Word.{width};
 ghost use Rattle.pairs.specs.Pairs.{variables, partners_within};
 ghost use Rattle.order_paths.specs.Crowded.{crowded_of};
 
+use folds::gather;
 use pairs::Rows;
 use pairs_read::stored_row;
 use words::{WIDTH, both, crowded, either, lowest};
@@ -13,12 +14,7 @@ fn crowded_up(rows: &Rows, i: usize, j: usize, dj: u32) -> u32
     requires { (i < j) × (j < variables) }
     ensures { result ≡ crowded_of width rows.now i j dj }
 {
-    let mut members: u32 = 0;
-    for a in 0..WIDTH {
-        let partners = both(dj, stored_row(rows, i, j, a));
-        members |= (crowded(partners) as u32) << a;
-    }
-    members
+    gather(WIDTH, |a| crowded(both(dj, stored_row(rows, i, j, a))))
 }
 
 // The lowest value of the domain `di` of `i` has two partners or more in the domain `dj` of the higher `j`. It says no to most tables that are not functional.
@@ -38,14 +34,12 @@ fn functional_down(rows: &Rows, i: usize, j: usize, di: u32, dj: u32) -> bool
     ensures { result ≡ partners_within width rows.now i j di dj 0 1 }
 {
     let mut seen: u32 = 0;
-    let mut rest = dj;
-    while rest != 0 {
-        let row = both(di, stored_row(rows, j, i, lowest(rest)));
+    for b in words::members(dj) {
+        let row = both(di, stored_row(rows, j, i, b));
         if both(seen, row) != 0 {
             return false;
         }
         seen = either(seen, row);
-        rest = words::dropped(rest);
     }
     true
 }

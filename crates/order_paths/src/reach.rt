@@ -9,8 +9,9 @@ ghost use Rattle.head.specs.Held.{held, sound_in};
 ghost use Rattle.order_paths.specs.Paths.{edges_of, paths_of, over_of};
 
 use crate::partners::functional;
+use folds::{gather, table};
 use head::{Head, Rows, VARIABLES};
-use words::{either, lowest, member, single, without};
+use words::{either, member, single, without};
 
 // `x`, and `v` too where `also` says so.
 fn joined_if(x: u32, v: usize, also: bool) -> u32
@@ -29,11 +30,8 @@ fn leads_to(rows: &Rows, domains: &[u32; VARIABLES], stated: u32, i: usize) -> u
     ensures { result ≡ word width (λ (j : ℕ). and (has stated j) (partners_within width rows.now i j (get_or domains.now i 0) (get_or domains.now j 0) 0 1)) }
 {
     let mut found: u32 = 0;
-    let mut rest = stated;
-    while rest != 0 {
-        let j = lowest(rest);
+    for j in words::members(stated) {
         found = joined_if(found, j, functional(rows, i, j, domains[i], domains[j]));
-        rest = words::dropped(rest);
     }
     found
 }
@@ -43,24 +41,14 @@ pub fn edges(head: Head, rows: &Rows) -> [u32; VARIABLES]
     requires { sound_in head rows.now ≡ true }
     ensures { result ≡ edges_of (held head rows.now) }
 {
-    let domains = head.domains;
-    let stated = head.stated;
-    let mut edges = [0u32; VARIABLES];
-    for i in 0..VARIABLES {
-        edges[i] = leads_to(rows, &domains, stated[i], i);
-    }
-    edges
+    table(|i| leads_to(rows, &head.domains, head.stated[i], i))
 }
 
 // Each variable with itself besides.
 fn with_own(edges: [u32; VARIABLES]) -> [u32; VARIABLES]
     ensures { result ≡ tabulate variables (λ (i : ℕ). word width (via (λ (x y : ℕ). has (get_or edges x 0) y) 0 i)) }
 {
-    let mut paths = [0u32; VARIABLES];
-    for i in 0..VARIABLES {
-        paths[i] = either(single(i), edges[i]);
-    }
-    paths
+    table(|i| either(single(i), edges[i]))
 }
 
 // Row `x`, joined with the row `via` of `m` where it has `m`.
@@ -80,11 +68,7 @@ fn round(paths: [u32; VARIABLES], m: usize) -> [u32; VARIABLES]
     ensures { result ≡ tabulate variables (λ (i : ℕ). if (has (get_or paths i 0) m) (word width (λ (j : ℕ). or (has (get_or paths i 0) j) (has (get_or paths m 0) j))) (get_or paths i 0)) }
 {
     let via = paths[m];
-    let mut after = [0u32; VARIABLES];
-    for i in 0..VARIABLES {
-        after[i] = through(paths[i], via, m);
-    }
-    after
+    table(|i| through(paths[i], via, m))
 }
 
 // The paths of edges, through the first `n` variables.
@@ -94,6 +78,7 @@ pub fn closure(n: usize, edges: [u32; VARIABLES]) -> [u32; VARIABLES]
 {
     let mut paths = with_own(edges);
     for m in 0..n {
+        // Under a name of its own: the borrow check refuses an array that the call's result is written over.
         let next = round(paths, m);
         paths = next;
     }
@@ -113,10 +98,7 @@ fn over(paths: &[u32; VARIABLES], i: usize) -> u32
     requires { i < variables }
     ensures { result ≡ word width (λ (j : ℕ). and (and (ltb j variables) (has (get_or paths.now j 0) i)) (not (has (get_or paths.now i 0) j))) }
 {
-    let mut column: u32 = 0;
-    for j in 0..VARIABLES {
-        column |= (member(paths[j], i) as u32) << j;
-    }
+    let column = gather(VARIABLES, |j| member(paths[j], i));
     without(column, paths[i])
 }
 
@@ -126,9 +108,5 @@ pub fn governors(head: Head, rows: &Rows) -> [u32; VARIABLES]
     ensures { result ≡ over_of (held head rows.now) }
 {
     let reached = paths(head, rows);
-    let mut governors = [0u32; VARIABLES];
-    for i in 0..VARIABLES {
-        governors[i] = over(&reached, i);
-    }
-    governors
+    table(|i| over(&reached, i))
 }

@@ -2,7 +2,7 @@
 use mathlib.Core.Bool.{Bool, true, false, not}
 use mathlib.Core.List.{List}
 use mathlib.Core.Path.{◌≡◌, refl, sym, ap, ◌∙◌}
-use Prim.Native.Nat.{ℕ, suc, ◌+◌, ◌-◌, ◌*◌, ◌/◌, ◌%◌, ◌^◌, ◌≤◌, ◌<◌}
+use Prim.Native.Nat.{ℕ, suc, ◌+◌, ◌*◌, ◌/◌, ◌%◌, ◌^◌, ◌≤◌, ◌<◌}
 use native.Mathlib.Nat.{mod-eq_of_lt, mul-le-mul_right, one-mul, zero-mul}
 use native.Mathlib.Numerals.{add-one}
 use native.Mathlib.Omega.{arith}
@@ -54,11 +54,6 @@ pub bit-joins : (m : ℕ) (p : ℕ → Bool) {r : ℕ} (n : ℕ) {t : Bool} → 
     → bit_or r (bool_byte t * 2 ^ n % m) ≡ word (n + 1) p
 bit-joins m p n l e h =
     rw (e, h, byte-bit (p n), moved-kept m n (p n) l, add-one n) (or_shifted_r (bit (p n)) n (word n p) (word_lt n p) ∙ sym (word-suc n p))
-
-pub hits-is : (w : ℕ) (rows : List ℕ) (at set : ℕ) {r n : ℕ} → n ≡ w
-    → r ≡ word n (λ (a : ℕ). some w (λ (v : ℕ). and (has (get_or rows (at + a) 0) v) (has set v))) → r ≡ hits_at w rows at set
-unfolding hits_at
-hits-is w rows at set e h = rw e at h
 
 -- ---- union
 

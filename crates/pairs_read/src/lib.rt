@@ -7,7 +7,7 @@ ghost use Rattle.words.specs.Word.{width, word};
 ghost use Rattle.pairs.specs.Pairs.{variables, allows_of, partners_of, partners_within};
 
 use pairs::{Rows, hits, place, union};
-use words::{both, count, lowest, single};
+use words::{both, count, single};
 
 // What its type says of a word, which is not known of one behind a reference.
 fn known(x: u32) -> u32
@@ -66,13 +66,11 @@ pub fn partners_within(
     requires { (i < variables) × (j < variables) × (i ≡ j → ⊥) }
     ensures { result ≡ partners_within width rows.now i j di dj least most }
 {
-    let mut rest = di;
-    while rest != 0 {
-        let partners = count(both(dj, row(rows, i, j, lowest(rest))));
+    for a in words::members(di) {
+        let partners = count(both(dj, row(rows, i, j, a)));
         if !between(least, partners, most) {
             return false;
         }
-        rest = words::dropped(rest);
     }
     true
 }

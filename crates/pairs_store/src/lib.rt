@@ -54,9 +54,7 @@ fn clear_run(rows: &mut Rows, at: usize)
     requires { (at + width ≤ 3840) × (length rows.old ≡ 3840) }
     ensures { RunPut rows.old rows.new at (λ (a : ℕ). 0) width }
 {
-    for a in 0..WIDTH {
-        rows[at + a] = 0;
-    }
+    rows[at..at + WIDTH].fill(0);
 }
 
 // The pair of `i` and `j` allows nothing any more.

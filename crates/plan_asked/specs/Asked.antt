@@ -1,5 +1,6 @@
 -- `sheetplan [--page9] [--lead N] [FILE]`: what the words of the arguments ask for, "whatever the order of the arguments".
-use Rattle.std.specs.Prelude.{Bool, true, false, List, [], ◌∷◌, ℕ, zero, suc, ◌+◌, ◌-◌, ◌*◌, min, eqb, ltb, leb, length, get_or}
+use Rattle.std.specs.Prelude.{Bool, true, false, None, Some, List, [], ◌∷◌, ℕ, zero, suc, ◌+◌, ◌-◌, ◌*◌, min, eqb, ltb, leb, length, get_or}
+use Rattle.std.specs.Option.{is_some}
 use Rattle.bounded.specs.Bool.{and, if}
 use Rattle.bounded.specs.Fold.{every}
 use Rattle.text_lines.specs.Text.{ascii}
@@ -32,33 +33,32 @@ number_of word (suc k) = grown (number_of word k) (get_or word k 0)
 
 -- Nothing is asked for.
 unfoldable pub nothing : Asked
-nothing = record { phase = phase.Words; page9 = false; leads = false; leader = 0; file = 0 }
+nothing = record { phase = phase.Words; page9 = false; lead = None; file = None }
 
 -- "an argument that is not known, more than one FILE", or a second leader: what comes after it does not count.
 unfoldable pub faulty : Asked → Asked
-faulty a = record { phase = phase.Fault; page9 = a.page9; leads = a.leads; leader = a.leader; file = a.file }
+faulty a = record { phase = phase.Fault; page9 = a.page9; lead = a.lead; file = a.file }
 
 -- "--help prints the help on standard output and nothing else".
 unfoldable pub helped : Asked → Asked
-helped a = record { phase = phase.Help; page9 = a.page9; leads = a.leads; leader = a.leader; file = a.file }
+helped a = record { phase = phase.Help; page9 = a.page9; lead = a.lead; file = a.file }
 
 unfoldable pub with_page : Asked → Asked
-with_page a = record { phase = phase.Words; page9 = true; leads = a.leads; leader = a.leader; file = a.file }
+with_page a = record { phase = phase.Words; page9 = true; lead = a.lead; file = a.file }
 
--- `--lead`: its number comes next.
+-- `--lead`: its number comes next, and 0 stands for it until then.
 unfoldable pub with_lead : Asked → Asked
-with_lead a = if a.leads (faulty a) (record { phase = phase.Leader; page9 = a.page9; leads = true; leader = 0; file = a.file })
+with_lead a = if (is_some a.lead) (faulty a) (record { phase = phase.Leader; page9 = a.page9; lead = Some 0; file = a.file })
 
 unfoldable pub with_number : Asked → List ℕ → Asked
 with_number a word =
     if (is_number word)
-    (record { phase = phase.Words; page9 = a.page9; leads = true; leader = number_of word (length word); file = a.file })
+    (record { phase = phase.Words; page9 = a.page9; lead = Some (number_of word (length word)); file = a.file })
     (faulty a)
 
--- FILE is told by the number of its word, from 1 on: 0 stands for standard input.
+-- FILE is told by the number of its word, from 1 on: without one the sheet is on standard input.
 unfoldable pub with_file : Asked → ℕ → Asked
-with_file a k =
-    if (eqb a.file 0) (record { phase = phase.Words; page9 = a.page9; leads = a.leads; leader = a.leader; file = k }) (faulty a)
+with_file a k = if (is_some a.file) (faulty a) (record { phase = phase.Words; page9 = a.page9; lead = a.lead; file = Some k })
 
 -- A word where none is awaited: one that begins with a dash (45) and is not known is no FILE.
 unfoldable pub with_word : Asked → ℕ → List ℕ → Asked

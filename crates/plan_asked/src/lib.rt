@@ -1,8 +1,8 @@
 // What the arguments of sheetplan ask for, taken one word at a time.
 #![tactic(auto)]
 
-ghost use Rattle.std.specs.Prelude.{◌≡◌, ◌≤◌, min, eqb, length, get_or};
-ghost use Rattle.plan_asked.specs.Asked.{same, is_digit, is_number, grown, number_of, nothing, faulty, helped, with_page, with_lead, with_number, with_file, with_word, takes, ends_at};
+ghost use Rattle.std.specs.Prelude.{◌≡◌, ◌≤◌, length};
+ghost use Rattle.plan_asked.specs.Asked.{is_number, grown, number_of, nothing, faulty, helped, with_page, with_lead, with_number, with_file, with_word, takes, ends_at};
 
 #[derive(Clone, Copy)]
 pub enum Phase {
@@ -18,141 +18,91 @@ pub enum Phase {
 pub struct Asked {
     pub phase: Phase,
     pub page9: bool,
-    pub leads: bool,
-    // The option that is to lead, counted from 1.
-    pub leader: usize,
-    // Which word names the file, counted from 1; 0: none does.
-    pub file: usize,
+    // The option that is to lead, counted from 1; 0 until its number came.
+    pub lead: Option<usize>,
+    // Which word names the file, counted from 1.
+    pub file: Option<usize>,
 }
 
+#[tactic(auto, unfolding(crate::specs::Asked::nothing))]
 pub fn nothing_asked() -> Asked
     ensures { result ≡ nothing }
 {
     Asked {
         phase: Phase::Words,
         page9: false,
-        leads: false,
-        leader: 0,
-        file: 0,
+        lead: None,
+        file: None,
     }
-}
-
-fn is_same(word: &[u8], text: &[u8]) -> bool
-    ensures { result ≡ same word.now text.now }
-{
-    check::same(word, text)
-}
-
-// The word begins with a dash.
-fn is_dashed(word: &[u8]) -> bool
-    ensures { result ≡ eqb (get_or word.now 0 0) 45 }
-{
-    if word.len() == 0 {
-        return false;
-    }
-    word[0] == b'-'
-}
-
-fn is_digit(byte: u8) -> bool
-    ensures { result ≡ is_digit byte }
-{
-    if byte < 48 {
-        return false;
-    }
-    byte <= 57
 }
 
 fn is_number(word: &[u8]) -> bool
     ensures { result ≡ is_number word.now }
 {
-    if word.len() == 0 {
-        return false;
-    }
-    let mut all = true;
-    for i in 0..word.len() {
-        all &= is_digit(word[i]);
-    }
-    all
+    !word.is_empty() && word.iter().all(|byte| byte.is_ascii_digit())
 }
 
 // One digit more.
+#[tactic(auto, unfolding(crate::specs::Asked::grown))]
 fn grow(value: usize, byte: u8) -> usize
     requires { value ≤ 1000000 }
     ensures { (result ≡ grown value byte) × (result ≤ 1000000) }
 {
-    if byte < 48 {
-        return capped(value * 10);
-    }
-    capped(value * 10 + words::wide(byte - 48))
-}
-
-fn capped(value: usize) -> usize
-    ensures { (result ≡ min value 1000000) × (result ≤ 1000000) }
-{
-    if value < 1_000_000 {
-        return value;
-    }
-    1_000_000
+    (value * 10 + usize::from(byte.saturating_sub(b'0'))).min(1_000_000)
 }
 
 fn number(word: &[u8]) -> usize
     ensures { result ≡ number_of word.now (length word.now) }
 {
     let mut value: usize = 0;
-    for i in 0..word.len() {
-        value = grow(value, word[i]);
+    for &byte in word {
+        value = grow(value, byte);
     }
     value
 }
 
+#[tactic(auto, unfolding(crate::specs::Asked::faulty))]
 fn fault(asked: Asked) -> Asked
     ensures { result ≡ faulty asked }
 {
     Asked {
         phase: Phase::Fault,
-        page9: asked.page9,
-        leads: asked.leads,
-        leader: asked.leader,
-        file: asked.file,
+        ..asked
     }
 }
 
+#[tactic(auto, unfolding(crate::specs::Asked::helped))]
 fn help(asked: Asked) -> Asked
     ensures { result ≡ helped asked }
 {
     Asked {
         phase: Phase::Help,
-        page9: asked.page9,
-        leads: asked.leads,
-        leader: asked.leader,
-        file: asked.file,
+        ..asked
     }
 }
 
+#[tactic(auto, unfolding(crate::specs::Asked::with_page))]
 fn with_page(asked: Asked) -> Asked
     ensures { result ≡ with_page asked }
 {
     Asked {
         phase: Phase::Words,
         page9: true,
-        leads: asked.leads,
-        leader: asked.leader,
-        file: asked.file,
+        ..asked
     }
 }
 
+#[tactic(auto, using(crate::proofs::Laws::lead_twice, crate::proofs::Laws::lead_once))]
 fn with_lead(asked: Asked) -> Asked
     ensures { result ≡ with_lead asked }
 {
-    if asked.leads {
+    if asked.lead.is_some() {
         return fault(asked);
     }
     Asked {
         phase: Phase::Leader,
-        page9: asked.page9,
-        leads: true,
-        leader: 0,
-        file: asked.file,
+        lead: Some(0),
+        ..asked
     }
 }
 
@@ -164,52 +114,48 @@ fn with_number(asked: Asked, word: &[u8]) -> Asked
     }
     Asked {
         phase: Phase::Words,
-        page9: asked.page9,
-        leads: true,
-        leader: number(word),
-        file: asked.file,
+        lead: Some(number(word)),
+        ..asked
     }
 }
 
 fn with_file(asked: Asked, k: usize) -> Asked
     ensures { result ≡ with_file asked k }
 {
-    if asked.file != 0 {
+    if asked.file.is_some() {
         return fault(asked);
     }
     Asked {
         phase: Phase::Words,
-        page9: asked.page9,
-        leads: asked.leads,
-        leader: asked.leader,
-        file: k,
+        file: Some(k),
+        ..asked
     }
 }
 
 fn with_word(asked: Asked, k: usize, word: &[u8]) -> Asked
     ensures { result ≡ with_word asked k word.now }
 {
-    if is_same(word, b"--page9") {
+    if word == b"--page9".as_slice() {
         return with_page(asked);
     }
-    if is_same(word, b"--lead") {
+    if word == b"--lead".as_slice() {
         return with_lead(asked);
     }
-    if is_same(word, b"--help") {
+    if word == b"--help".as_slice() {
         return help(asked);
     }
-    if is_dashed(word) {
+    if word.starts_with(b"-") {
         return fault(asked);
     }
     with_file(asked, k)
 }
 
 // One word more, the `k`-th.
+#[tactic(auto, unfolding(crate::specs::Asked::takes, crate::specs::Asked::takes_at))]
 pub fn take_word(asked: Asked, k: usize, word: &[u8]) -> Asked
     ensures { result ≡ takes asked k word.now }
 {
-    let phase = asked.phase;
-    match phase {
+    match asked.phase {
         Phase::Words => with_word(asked, k, word),
         Phase::Leader => with_number(asked, word),
         Phase::Help => asked,
@@ -218,11 +164,11 @@ pub fn take_word(asked: Asked, k: usize, word: &[u8]) -> Asked
 }
 
 // After the last word.
+#[tactic(auto, unfolding(crate::specs::Asked::ends_at))]
 pub fn end_words(asked: Asked) -> Asked
     ensures { result ≡ ends_at asked.phase asked }
 {
-    let phase = asked.phase;
-    match phase {
+    match asked.phase {
         Phase::Words => asked,
         Phase::Leader => fault(asked),
         Phase::Help => asked,

@@ -1,23 +1,26 @@
 -- The cases of the lines, and the value of a follower.
 use mathlib.Core.Bool.{Bool, true, false}
 use mathlib.Core.List.{List, [], ◌++◌}
-use mathlib.Core.Path.{◌≡◌, refl, sym, ◌∙◌, ap}
-use Prim.Native.Nat.{ℕ, suc, pred, ◌+◌, ◌≤◌, ◌<◌}
+use mathlib.Core.Path.{◌≡◌, sym, ◌∙◌, ap}
+use Prim.Native.Nat.{ℕ, suc, pred, ◌+◌, ◌<◌}
 use native.Mathlib.Numerals.{add-one}
 use native.Mathlib.Omega.{arith}
 use lib.Dec.{eqb}
-use lib.ListN.{get_or}
+use lib.ListN.{length, get_or}
 use borrow.Author.Tests.{eqb-true}
 use Rattle.bounded.specs.Bool.{and}
 use Rattle.bounded.specs.Fold.{first, some}
 use Rattle.bounded.proofs.Bool.{if-true, if-false}
-use Rattle.bounded.proofs.Fold.{first_cong, first-widen}
+use Rattle.bounded.proofs.Fold.{first_cong, first-widen, some-i, some-none}
+use Rattle.std.specs.Bool.{MatchBool}
+use Rattle.std.specs.List.{HoldsAt, AllWithin, range_with_len}
+use Rattle.std.proofs.lemmas.List.FromFn.{length-range_with_len, get_or-range_with_len}
 use Rattle.words.specs.Word.{width, has, word}
 use Rattle.words.proofs.Laws.{has-ruled, has-below}
 use Rattle.network.specs.Network.{Network, partner}
 use Rattle.network.specs.Completion.{follow}
-use Rattle.network.proofs.Sound.{leader-not-self, partner-some, led-pred}
-use Rattle.pairs.specs.Pairs.{variables, allows_of}
+use Rattle.network.proofs.Sound.{leader-not-self, partner-some}
+use Rattle.pairs.specs.Pairs.{allows_of}
 use Rattle.head.specs.declared.Head.{Head}
 use Rattle.head.specs.Held.{HeadShaped, held, sound_in}
 use Rattle.head.proofs.Held.{held-sound, held-size}
@@ -84,6 +87,20 @@ module _ (h : Head) (rows : List ℕ) where
         ∙ first-widen (get_or h.sizes j 0) width _ (omega arith) (partner-some (held h rows) (held-sound h rows S t) j i a led m)
         ∙ ap (λ (l : ℕ). first (get_or h.sizes j 0) (λ (u : ℕ). and (has (get_or h.domains j 0) u) (allows_of width rows l j a u)))
         (sym (ap pred led))
+
+-- An option among the first n passes, or none does.
+pub some_told : (n : ℕ) (p : ℕ → Bool) (r : Bool)
+    → MatchBool r ((k : ℕ) × (k < length (range_with_len 0 n)) × HoldsAt (λ x. p x ≡ true) (range_with_len 0 n) k)
+    (AllWithin (λ x. p x ≡ false) (range_with_len 0 n) 0 (length (range_with_len 0 n)))
+    → r ≡ some n p
+some_told n p true h =
+    let l : h.0 < n = omega (arith, h.1, length-range_with_len 0 n) in
+    let e : get_or (range_with_len 0 n) h.0 0 ≡ h.0 = omega (arith, get_or-range_with_len 0 n h.0 0 l) in
+    sym (some-i n p h.0 l (rw e at (h.2 0)))
+some_told n p false h =
+    sym (some-none n p (λ k l.
+    let e : get_or (range_with_len 0 n) k 0 ≡ k = omega (arith, get_or-range_with_len 0 n k 0 l) in
+    rw e at (h k 0 (omega arith) (omega (arith, length-range_with_len 0 n)))))
 
 -- A line from its parts.
 pub if-put : (N : Network) (i v : ℕ) {a b c d e f : List ℕ} {at named valued titled followed r : ℕ} → Put a b (ascii "IF " ++ decimal (i + 1)) at named

@@ -2,15 +2,14 @@
 use mathlib.Core.Bool.{true}
 use mathlib.Core.List.{List}
 use mathlib.Core.Path.{◌≡◌}
-use Prim.Native.Nat.{ℕ, pred, ◌+◌, ◌*◌, ◌≤◌, ◌<◌}
+use Prim.Native.Nat.{ℕ, pred, ◌+◌, ◌≤◌, ◌<◌}
 use native.Mathlib.Omega.{arith}
 use lib.Dec.{eqb}
 use lib.ListN.{length, get_or, length-append}
 use Rattle.bounded.specs.Fold.{some}
 use Rattle.bounded.proofs.Bool.{by_cases}
 use Rattle.bounded.proofs.Fold.{first-le}
-use Rattle.words.specs.Word.{width, has}
-use Rattle.buffers.specs.Digits.{decimal}
+use Rattle.words.specs.Word.{has}
 use Rattle.buffers.proofs.Digits.{length-decimal-le}
 use Rattle.network.specs.Network.{partner}
 use Rattle.network.specs.Completion.{follow}
@@ -18,9 +17,7 @@ use Rattle.head.specs.declared.Head.{Head}
 use Rattle.head.specs.Held.{HeadShaped, held, sound_in}
 use Rattle.head.proofs.Held.{held-n, held-size}
 use Rattle.text_lines.specs.Text.{ascii}
-use Rattle.text_put.specs.Put.{each}
 use Rattle.text_put.proofs.Laws.{length-each}
-use Rattle.plan_lines.specs.Lines.{spaced}
 use Rattle.plan_lines.proofs.Lengths.{spaced-le}
 use Rattle.plan_ifs.specs.Ifs.{then_text, if_text, if_line, if_lines_of, if_lines}
 use Rattle.plan_ifs.proofs.Laws.{then-none, then_some, if-out, if-in, ifs-none, ifs-some}

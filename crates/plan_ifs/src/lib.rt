@@ -10,7 +10,7 @@ ghost use Rattle.plan_ifs.specs.Ifs.{then_text, if_text, if_line, if_lines_of, i
 
 use head::{Head, Rows};
 use plan_lines::put_spaced;
-use text_put::{put_text, put_titled};
+use text_put::{put_each, put_text, put_titled};
 use words::WIDTH;
 
 // The leader, which counts from 1, is the option `i`.
@@ -18,7 +18,7 @@ fn follows(leader: u8, i: usize) -> bool
     requires { i < 16 }
     ensures { result ≡ eqb leader (i + 1) }
 {
-    words::wide(leader) == i + 1
+    usize::from(leader) == i + 1
 }
 
 // Some option follows `i`.
@@ -26,12 +26,7 @@ fn is_leader(n: usize, leaders: &[u8; 16], i: usize) -> bool
     requires { (n ≤ 16) × (i < 16) }
     ensures { result ≡ some n (λ (j : ℕ). eqb (get_or leaders.now j 0) (i + 1)) }
 {
-    for j in 0..n {
-        if follows(leaders[j], i) {
-            return true;
-        }
-    }
-    false
+    (0..n).any(|j| follows(leaders[j], i))
 }
 
 // The follower `j` and its value, where it follows `i`, which has the value `a`.
@@ -47,12 +42,10 @@ fn put_then(
     requires { (sound_in head rows.now ≡ true) × (i < 16) × (j < 16) × (has (get_or head.domains i 0) a ≡ true) }
     ensures { Put buffer.old buffer.new (then_text (held head rows.now) i a j) at result }
 {
-    let leaders = head.leaders;
-    if !follows(leaders[j], i) {
+    if !follows(head.leaders[j], i) {
         return at;
     }
-    let lists = head.domains;
-    let partners = words::both(lists[j], pairs_read::row(rows, i, j, a));
+    let partners = words::both(head.domains[j], pairs_read::row(rows, i, j, a));
     let named = put_spaced(buffer, at, j + 1);
     put_spaced(buffer, named, words::lowest(partners))
 }
@@ -62,12 +55,9 @@ fn put_thens(buffer: &mut [u8], at: usize, head: Head, rows: &Rows, i: usize, a:
     requires { (sound_in head rows.now ≡ true) × (i < 16) × (has (get_or head.domains i 0) a ≡ true) }
     ensures { Put buffer.old buffer.new (each (then_text (held head rows.now) i a) head.n) at result }
 {
-    let n = head.n;
-    let mut next = at;
-    for j in 0..n {
-        next = put_then(buffer, next, head, rows, i, a, j);
-    }
-    next
+    put_each(buffer, at, head.n, |buffer, next, j| {
+        put_then(buffer, next, head, rows, i, a, j)
+    })
 }
 
 // The line of value `a` of `i`.
@@ -75,8 +65,7 @@ fn put_if(buffer: &mut [u8], at: usize, head: Head, rows: &Rows, i: usize, a: us
     requires { (sound_in head rows.now ≡ true) × (i < 16) × (a < width) }
     ensures { Put buffer.old buffer.new (if_line (held head rows.now) i a) at result }
 {
-    let lists = head.domains;
-    if !words::member(lists[i], a) {
+    if !words::member(head.domains[i], a) {
         return at;
     }
     let named = put_titled(buffer, at, b"IF ", i + 1);
@@ -91,11 +80,9 @@ fn put_if_values(buffer: &mut [u8], at: usize, head: Head, rows: &Rows, i: usize
     requires { (sound_in head rows.now ≡ true) × (i < 16) }
     ensures { Put buffer.old buffer.new (each (if_line (held head rows.now) i) width) at result }
 {
-    let mut next = at;
-    for a in 0..WIDTH {
-        next = put_if(buffer, next, head, rows, i, a);
-    }
-    next
+    put_each(buffer, at, WIDTH, |buffer, next, a| {
+        put_if(buffer, next, head, rows, i, a)
+    })
 }
 
 // The lines of `i`, if it has followers.
@@ -103,8 +90,7 @@ fn put_ifs_of(buffer: &mut [u8], at: usize, head: Head, rows: &Rows, i: usize) -
     requires { (sound_in head rows.now ≡ true) × (i < 16) }
     ensures { Put buffer.old buffer.new (if_lines_of (held head rows.now) i) at result }
 {
-    let leaders = head.leaders;
-    if !is_leader(head.n, &leaders, i) {
+    if !is_leader(head.n, &head.leaders, i) {
         return at;
     }
     put_if_values(buffer, at, head, rows, i)
@@ -114,10 +100,7 @@ pub fn put_ifs(buffer: &mut [u8], at: usize, head: Head, rows: &Rows) -> usize
     requires { sound_in head rows.now ≡ true }
     ensures { Put buffer.old buffer.new (if_lines (held head rows.now)) at result }
 {
-    let n = head.n;
-    let mut next = at;
-    for i in 0..n {
-        next = put_ifs_of(buffer, next, head, rows, i);
-    }
-    next
+    put_each(buffer, at, head.n, |buffer, next, i| {
+        put_ifs_of(buffer, next, head, rows, i)
+    })
 }

@@ -1,13 +1,17 @@
 -- The cases of the lines.
-use mathlib.Core.Bool.{Bool, true, false}
+use mathlib.Core.Bool.{Bool, true, false, cond}
 use mathlib.Core.List.{List, [], ◌++◌}
 use mathlib.Core.Path.{◌≡◌, refl, sym, ◌∙◌, ap}
-use Prim.Native.Nat.{ℕ, ◌+◌, ◌≤◌, ◌<◌}
+use Prim.Native.Nat.{ℕ, zero, suc, ◌+◌, ◌≤◌}
 use native.Mathlib.Numerals.{add-one}
 use native.Mathlib.Omega.{arith}
 use lib.Dec.{eqb, ltb}
-use lib.ListN.{get_or}
+use lib.ListN.{length, get_or, take}
 use borrow.Author.Tests.{eq-eqb, ne_eqb}
+use Rattle.std.specs.List.{filter, count_by}
+use Rattle.std.specs.Prelude.{not as none}
+use Rattle.std.proofs.lemmas.List.Filters.{length-filter_more}
+use Rattle.std.proofs.lemmas.List.Sums.{length-filter}
 use Rattle.bounded.specs.Bool.{and, not, bit}
 use Rattle.bounded.specs.Fold.{sum, count}
 use Rattle.bounded.proofs.Bool.{if-true, if-false}
@@ -58,20 +62,19 @@ idle-is size used w f e =
     e
     ∙ word-cong width _ _ (λ v l. ap (λ (b : Bool). and b (not (has used v))) (has-ruled width _ f v l ∙ ap (ltb v) w))
 
--- One more option of the count.
-pub steps-none : (leaders : List ℕ) → 0 ≡ steps_of leaders 0
-unfolding steps_of count sum
-steps-none leaders = refl
-
-pub steps-more : (leaders : List ℕ) (i : ℕ) {taken more : ℕ} → taken ≡ steps_of leaders i → more ≡ bit (not (eqb (get_or leaders i 0) 0))
-    → taken + more ≡ steps_of leaders (i + 1)
-unfolding steps_of count sum
-steps-more leaders i e f = rw (add-one, e, f) (let c : steps_of leaders i + bit (not (eqb (get_or leaders i 0) 0)) ≡ bit (not (eqb (get_or leaders i 0) 0)) + steps_of leaders i = omega arith in c)
-
-pub follows-none : (leader : ℕ) → leader ≡ 0 → 0 ≡ bit (not (eqb leader 0))
+-- The steps are the leaders that are not 0.
+one-step : (b : Bool) → cond (none b) 1 0 ≡ bit (not b)
 unfolding bit not
-follows-none leader h = sym (ap (λ (b : Bool). bit (not b)) (eq-eqb leader 0 h))
+one-step true = refl
+one-step false = refl
 
-pub follows-one : (leader : ℕ) → (leader ≡ 0 → ⊥) → 1 ≡ bit (not (eqb leader 0))
-unfolding bit not
-follows-one leader h = sym (ap (λ (b : Bool). bit (not b)) (ne_eqb leader 0 h))
+steps-filtered : (leaders : List ℕ) (n : ℕ) → n ≤ length leaders → length (filter (λ l. none (eqb l 0)) (take n leaders)) ≡ steps_of leaders n
+unfolding steps_of count sum
+steps-filtered leaders zero h = refl
+steps-filtered leaders (suc n) h =
+    let e : length (filter (λ l. none (eqb l 0)) (take (suc n) leaders)) ≡ length (filter (λ l. none (eqb l 0)) (take n leaders)) + cond (none (eqb (get_or leaders n 0) 0)) 1 0
+    = rw add-one at (length-filter_more (λ l. none (eqb l 0)) leaders n 0 (omega arith)) in
+    omega (arith, e, steps-filtered leaders n (omega arith), one-step (eqb (get_or leaders n 0) 0))
+
+pub steps-told : (leaders : List ℕ) (n : ℕ) → n ≤ length leaders → count_by (λ l. none (eqb l 0)) (take n leaders) ≡ steps_of leaders n
+steps-told leaders n h = sym (length-filter _ (take n leaders)) ∙ steps-filtered leaders n h

@@ -1,20 +1,20 @@
 -- How long the lines can be.
-use mathlib.Core.Bool.{Bool, true, false}
-use mathlib.Core.List.{List, ◌++◌}
-use mathlib.Core.Path.{◌≡◌}
-use Prim.Native.Nat.{ℕ, ◌+◌, ◌*◌, ◌^◌, ◌≤◌, ◌<◌}
+use mathlib.Core.Bool.{Bool}
+use mathlib.Core.List.{List}
+use Prim.Native.Nat.{ℕ, ◌+◌, ◌^◌, ◌≤◌, ◌<◌}
 use native.Mathlib.Numerals.{add-one}
 use native.Mathlib.Omega.{arith}
 use lib.Dec.{eqb}
 use lib.ListN.{length, get_or, length-append}
 use borrow.Author.Tests.{eqb-true, eqb-false}
+use Rattle.std.specs.Prelude.{Result, Ok, Err}
 use Rattle.bounded.proofs.Bool.{by_cases}
-use Rattle.words.specs.Word.{width, has}
-use Rattle.buffers.specs.Digits.{decimal}
+use Rattle.words.specs.Word.{has}
 use Rattle.buffers.proofs.Digits.{length-decimal-le}
+use Rattle.cause.specs.declared.Cause.{Cause}
 use Rattle.answers.specs.declared.Verdict.{Verdict}
 use Rattle.answers.specs.declared.Verdict.TheVariants as verdict
-use Rattle.answers.specs.Answers.{verdict_told}
+use Rattle.answers.specs.Answers.{verdict_told, verdict_solution}
 use Rattle.text_lines.specs.Text.{ascii}
 use Rattle.text_put.specs.Put.{each}
 use Rattle.text_put.proofs.Laws.{length-each, digits-64}
@@ -70,12 +70,13 @@ unfolding built_text build_texts ascii
 built-le build n h b =
     simp length-append (omega (arith, length-each (λ (i : ℕ). spaced (get_or build i 0)) n 4 (λ k l. spaced-le 2 (get_or build k 0) (omega (arith, b k)))))
 
-pub ruling-le : (v : Verdict) (build : List ℕ) (n : ℕ) → n ≤ 16 → ((k : ℕ) → get_or build k 0 < 256) → length (ruling_text (verdict_told v build) n) ≤ 154
-unfolding ruling_text verdict_told refused_text ascii
-ruling-le verdict.None build n h b = omega arith
-ruling-le verdict.Built build n h b = omega (arith, built-le build n h b)
-ruling-le verdict.Open build n h b = omega arith
-ruling-le (verdict.Refused c) build n h b = simp length-append (omega (arith, refusal-le _ (cause-small c)))
+pub ruling-le : (v : Result Verdict Cause) (n : ℕ) → n ≤ 16 → ((k : ℕ) → get_or (verdict_solution (verdict_told v)) k 0 < 256)
+    → length (ruling_text (verdict_told v) n) ≤ 154
+unfolding ruling_text verdict_told verdict_solution refused_text ascii
+ruling-le (Ok verdict.None) n h b = omega arith
+ruling-le (Ok (verdict.Built build)) n h b = omega (arith, built-le build n h b)
+ruling-le (Ok verdict.Open) n h b = omega arith
+ruling-le (Err c) n h b = simp length-append (omega (arith, refusal-le _ (cause-small c)))
 
 pub builds-le : (more : Bool) (builds : ℕ) → builds < 2 ^ 64 → length (builds_line more builds) ≤ 33
 unfolding ascii

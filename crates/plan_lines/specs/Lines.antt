@@ -5,7 +5,7 @@ use Rattle.bounded.specs.Bool.{and, not, if}
 use Rattle.bounded.specs.Fold.{count}
 use Rattle.words.specs.Word.{width, has, word}
 use Rattle.buffers.specs.Digits.{decimal}
-use Rattle.network.specs.Completion.{Verdict, NONE, BUILT, OPEN}
+use Rattle.network.specs.Completion.{NONE, BUILT, OPEN}
 use Rattle.answers.specs.Answers.{VerdictTold, rules, no_verdict}
 use Rattle.text_lines.specs.Text.{ascii}
 use Rattle.text_put.specs.Put.{each}

@@ -1,11 +1,10 @@
 // The lines of options, and how many of them follow.
-ghost use Rattle.std.specs.Prelude.{◌≡◌, ◌<◌, ◌≤◌, eqb};
-ghost use Rattle.bounded.specs.Bool.{not, bit};
+ghost use Rattle.std.specs.Prelude.{◌≡◌, ◌<◌, ◌≤◌};
 ghost use Rattle.text_put.specs.Put.{Put};
 ghost use Rattle.plan_lines.specs.Lines.{option_line, option_lines, steps_of};
 
 use crate::values::put_values_line;
-use text_put::{put_text, put_titled};
+use text_put::{put_each, put_text, put_titled};
 
 // The line of the option `i`, which counts from 0.
 fn put_option(buffer: &mut [u8], at: usize, i: usize, leader: u8, list: u32) -> usize
@@ -31,21 +30,9 @@ pub fn put_options(
     requires { n ≤ 16 }
     ensures { Put buffer.old buffer.new (option_lines leaders.now lists.now n) at result }
 {
-    let mut next = at;
-    for i in 0..n {
-        next = put_option(buffer, next, i, leaders[i], lists[i]);
-    }
-    next
-}
-
-// 1 for an option that follows another.
-fn follows(leader: u8) -> usize
-    ensures { (result ≡ bit (not (eqb leader 0))) × (result ≤ 1) }
-{
-    if leader == 0 {
-        return 0;
-    }
-    1
+    put_each(buffer, at, n, |buffer, next, i| {
+        put_option(buffer, next, i, leaders[i], lists[i])
+    })
 }
 
 // How many of the first `n` options follow another.
@@ -53,9 +40,5 @@ pub fn steps(n: usize, leaders: &[u8; 16]) -> usize
     requires { n ≤ 16 }
     ensures { result ≡ steps_of leaders.now n }
 {
-    let mut taken: usize = 0;
-    for i in 0..n {
-        taken += follows(leaders[i]);
-    }
-    taken
+    leaders[..n].iter().filter(|leader| **leader != 0).count()
 }

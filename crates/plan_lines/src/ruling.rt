@@ -9,18 +9,16 @@ use crate::values::put_spaced;
 use answers::Verdict;
 use cause::Cause;
 use text_phrase::put_refusal;
-use text_put::{put_text, put_titled};
+use text_put::{put_each, put_text, put_titled};
 
 // The first `n` values of a build.
 fn put_build(buffer: &mut [u8], at: usize, n: usize, build: &[u8; 16]) -> usize
     requires { n ≤ 16 }
     ensures { Put buffer.old buffer.new (build_texts build.now n) at result }
 {
-    let mut next = at;
-    for i in 0..n {
-        next = put_spaced(buffer, next, words::wide(build[i]));
-    }
-    next
+    put_each(buffer, at, n, |buffer, next, i| {
+        put_spaced(buffer, next, usize::from(build[i]))
+    })
 }
 
 fn put_built(buffer: &mut [u8], at: usize, n: usize, build: &[u8; 16]) -> usize
@@ -39,21 +37,16 @@ fn put_refused(buffer: &mut [u8], at: usize, cause: Cause) -> usize
     put_refusal(buffer, spaced, cause)
 }
 
-pub fn put_ruling(
-    buffer: &mut [u8],
-    at: usize,
-    n: usize,
-    verdict: Verdict,
-    build: &[u8; 16],
-) -> usize
+#[tactic(auto, unfolding(answers::specs::Answers::verdict_told, crate::specs::Lines::ruling_text, text_lines::specs::Text::ascii))]
+pub fn put_ruling(buffer: &mut [u8], at: usize, n: usize, verdict: Result<Verdict, Cause>) -> usize
     requires { n ≤ 16 }
-    ensures { Put buffer.old buffer.new (ruling_text (verdict_told verdict build.now) n) at result }
+    ensures { Put buffer.old buffer.new (ruling_text (verdict_told verdict) n) at result }
 {
     match verdict {
-        Verdict::None => put_text(buffer, at, b" NONE\n"),
-        Verdict::Built => put_built(buffer, at, n, build),
-        Verdict::Open => put_text(buffer, at, b" OPEN\n"),
-        Verdict::Refused(cause) => put_refused(buffer, at, cause),
+        Ok(Verdict::None) => put_text(buffer, at, b" NONE\n"),
+        Ok(Verdict::Built(build)) => put_built(buffer, at, n, &build),
+        Ok(Verdict::Open) => put_text(buffer, at, b" OPEN\n"),
+        Err(cause) => put_refused(buffer, at, cause),
     }
 }
 

@@ -5,6 +5,7 @@ ghost use Rattle.text_put.specs.Put.{Put};
 ghost use Rattle.plan_lines.specs.Lines.{stock_line, stock_lines, idle_word, idle_line, idle_lines};
 
 use crate::values::put_values_line;
+use text_put::put_each;
 
 // No line where there is no value.
 fn put_stock_line(buffer: &mut [u8], at: usize, kind: &[u8], i: usize, x: u32) -> usize
@@ -22,11 +23,9 @@ pub fn put_stock(buffer: &mut [u8], at: usize, kind: &[u8], n: usize, words: &[u
     requires { n ≤ 16 }
     ensures { Put buffer.old buffer.new (stock_lines kind.now words.now n) at result }
 {
-    let mut next = at;
-    for i in 0..n {
-        next = put_stock_line(buffer, next, kind, i, words[i]);
-    }
-    next
+    put_each(buffer, at, n, |buffer, next, i| {
+        put_stock_line(buffer, next, kind, i, words[i])
+    })
 }
 
 // The values below the size that are not used.
@@ -55,9 +54,7 @@ pub fn put_idle(
     requires { (n ≤ 16) × ((i : ℕ) → get_or sizes.now i 0 ≤ width) }
     ensures { Put buffer.old buffer.new (idle_lines sizes.now words.now n) at result }
 {
-    let mut next = at;
-    for i in 0..n {
-        next = put_idle_line(buffer, next, i, sizes[i], words[i]);
-    }
-    next
+    put_each(buffer, at, n, |buffer, next, i| {
+        put_idle_line(buffer, next, i, sizes[i], words[i])
+    })
 }

@@ -4,7 +4,7 @@ ghost use Rattle.words.specs.Word.{width};
 ghost use Rattle.text_put.specs.Put.{Put, each};
 ghost use Rattle.plan_lines.specs.Lines.{spaced, value_among, values_line};
 
-use text_put::{put_text, put_titled};
+use text_put::{put_each, put_text, put_titled};
 use words::WIDTH;
 
 // A blank and a number.
@@ -28,11 +28,9 @@ fn put_value(buffer: &mut [u8], at: usize, x: u32, v: usize) -> usize
 fn put_values(buffer: &mut [u8], at: usize, x: u32) -> usize
     ensures { Put buffer.old buffer.new (each (value_among x) width) at result }
 {
-    let mut next = at;
-    for v in 0..WIDTH {
-        next = put_value(buffer, next, x, v);
-    }
-    next
+    put_each(buffer, at, WIDTH, |buffer, next, v| {
+        put_value(buffer, next, x, v)
+    })
 }
 
 // The line of the option `i`, which counts from 0.

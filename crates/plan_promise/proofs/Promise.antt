@@ -2,24 +2,24 @@
 use mathlib.Core.Bool.{Bool, true, false}
 use mathlib.Core.List.{List, [], ◌∷◌, ◌++◌}
 use mathlib.Core.Path.{◌≡◌, refl, sym, ◌∙◌, ap, ap₂}
-use Prim.Native.Nat.{ℕ, suc, ◌+◌, ◌≤◌, ◌<◌, min}
+use Prim.Native.Nat.{ℕ, suc, ◌+◌, ◌<◌, min}
 use native.Mathlib.Numerals.{add-one}
 use native.Mathlib.Omega.{arith}
 use lib.Dec.{eqb, ltb}
 use lib.ListN.{length, get_or, take}
 use borrow.Author.Tests.{eq-eqb, eqb-true, ltb-true, ltb-false}
-use Rattle.bounded.specs.Bool.{and, not, if}
-use Rattle.bounded.specs.Table.{tabulate}
+use Rattle.std.specs.Prelude.{Option, None, Some}
+use Rattle.bounded.specs.Bool.{and}
 use Rattle.bounded.proofs.Bool.{by_cases, clash, if-true, if-false, and_l, and_r, and-true, not-e}
 use Rattle.bounded.proofs.Fold.{every-e}
 use Rattle.bounded.proofs.Table.{get_d_tabulate}
-use Rattle.words.specs.Word.{width, has, word}
+use Rattle.words.specs.Word.{width, has}
 use Rattle.words.proofs.Laws.{has_word, has-word-past}
 use Rattle.network.specs.Network.{solves, in_domains}
 use Rattle.network.specs.Survey.{count_limit}
-use Rattle.network.specs.Completion.{NONE, BUILT, follow, completed, allowed_choice}
+use Rattle.network.specs.Completion.{NONE, follow, completed, allowed_choice}
 use Rattle.network.specs.Calls.{Call, full_reduction, trimmed_reduction, led_reduction, add_table, tables_of, tableless}
-use Rattle.network.proofs.Sound.{led-not-free, led-pred, leader-n, follower-n}
+use Rattle.network.proofs.Sound.{led-not-free, led-pred, follower-n}
 use Rattle.format.specs.Parse.{Octets}
 use Rattle.format.specs.Builds.{options, is_build_of}
 use Rattle.answers.specs.Answers.{rules, says}
@@ -27,12 +27,12 @@ use Rattle.head.specs.Held.{held}
 use Rattle.state.specs.declared.state.State.{State}
 use Rattle.state.specs.View.{Shaped, view, sound_state}
 use Rattle.state.specs.Read.{read_sheet}
-use Rattle.state.specs.Steps.{reduced, trimmed, led}
+use Rattle.state.specs.Steps.{reduced, led}
 use Rattle.state.specs.Solutions.{values_of, tested, completed_buffer, verdict_of}
 use Rattle.state.proofs.View.{state-sound}
 use Rattle.state.proofs.Calls.{StateKept, call-keeps-all}
 use Rattle.state.proofs.Solutions.{yes-solves, complete-accepted, completed-buffer}
-use Rattle.state_survey.specs.Survey.{SurveyTold, survey_number, survey_of}
+use Rattle.state_survey.specs.Survey.{survey_of}
 use Rattle.state_survey.specs.Surveys.{SurveysEvery}
 use Rattle.state_survey.proofs.Surveys.{surveys}
 use Rattle.promise.specs.Promise.{state_after, state_handed_back, last_state, build_of_sheet, build_count, Promise, Demand3}
@@ -47,19 +47,24 @@ use Rattle.plan_lines.specs.Lines.{idle_word}
 use Rattle.plan_ifs.specs.Ifs.{leads}
 use Rattle.plan_state.specs.Plan.{builds_none, condition_lines, state_text}
 use Rattle.plan_text.specs.declared.Ask.{Ask}
-use Rattle.plan_text.specs.Text.{unless_refused, last_of, fitted_text, led_text, read_text, plan_text}
-use Rattle.plan_promise.specs.Promise.{lead_calls, page_calls, calls_of, build_for, Accepted, PlanPromise, PlansEvery}
+use Rattle.plan_text.specs.Text.{unless_refused, last_of, fitted_text, lead_text, led_text, read_text, plan_text}
+use Rattle.plan_promise.specs.Promise.{calls_to_lead, lead_calls, page_calls, calls_of, build_for, Accepted, PlansEvery}
 
 -- ---- the calls, one part after the other
 
-module _ (ask : Ask) where
-  lead-asked : ask.leads ≡ true → lead_calls ask ≡ led_reduction ask.leader ∷ []
-  unfolding lead_calls
-  lead-asked t = if-true _ _ _ t
+-- An option leads, or none does.
+by_lead : {P : Type 0} (lead : Option ℕ) → ((leader : ℕ) → lead ≡ Some leader → P) → (lead ≡ None → P) → P
+by_lead None some none = none refl
+by_lead (Some leader) some none = some leader refl
 
-  lead-none : ask.leads ≡ false → lead_calls ask ≡ []
-  unfolding lead_calls
-  lead-none t = if-false _ _ _ t
+module _ (ask : Ask) where
+  lead-asked : (leader : ℕ) → ask.lead ≡ Some leader → lead_calls ask ≡ led_reduction leader ∷ []
+  unfolding lead_calls calls_to_lead
+  lead-asked leader t = ap calls_to_lead t
+
+  lead-none : ask.lead ≡ None → lead_calls ask ≡ []
+  unfolding lead_calls calls_to_lead
+  lead-none t = ap calls_to_lead t
 
   page-asked : ask.page9 ≡ true → page_calls ask ≡ add_table 1 2 page_nine ∷ full_reduction ∷ []
   unfolding page_calls
@@ -105,12 +110,13 @@ after-led s l = refl
 
 module _ (ask : Ask) (bytes : List ℕ) (octets : Octets bytes) (A : Accepted ask bytes) where
   led-text : led_text ask (read_sheet bytes).state ≡ fitted_text ask.page9 (first ask bytes)
-  unfolding led_text first last_state
+  unfolding led_text lead_text first last_state
   led-text =
-      by_cases ask.leads
-      (λ t. if-true _ _ _ t ∙ unless-none _ _ (A.leader_led t)
-      ∙ ap (fitted_text ask.page9) (sym (ap (state_after (read_sheet bytes).state) (lead-asked ask t) ∙ after-led _ _)))
-      (λ t. if-false _ _ _ t ∙ ap (fitted_text ask.page9) (sym (ap (state_after (read_sheet bytes).state) (lead-none ask t) ∙ after_none _)))
+      by_lead ask.lead
+      (λ leader t. ap (λ (l : Option ℕ). lead_text l ask.page9 (read_sheet bytes).state) t ∙ unless-none _ _ (A.leader_led leader t)
+      ∙ ap (fitted_text ask.page9) (sym (ap (state_after (read_sheet bytes).state) (lead-asked ask leader t) ∙ after-led _ _)))
+      (λ t. ap (λ (l : Option ℕ). lead_text l ask.page9 (read_sheet bytes).state) t
+      ∙ ap (fitted_text ask.page9) (sym (ap (state_after (read_sheet bytes).state) (lead-none ask t) ∙ after_none _)))
 
   pub nine : SheetPromise bytes (lead_calls ask)
   unfolding PageNineAfter
@@ -165,8 +171,8 @@ led-tableless l = refl
 
 lead-tableless : (ask : Ask) → tableless (lead_calls ask) ≡ true
 lead-tableless ask =
-    by_cases ask.leads
-    (λ t. ap tableless (lead-asked ask t) ∙ led-tableless ask.leader)
+    by_lead ask.lead
+    (λ leader t. ap tableless (lead-asked ask leader t) ∙ led-tableless leader)
     (λ t. ap tableless (lead-none ask t) ∙ none-tableless)
 
 module _ (ask : Ask) (bytes : List ℕ) (octets : Octets bytes) (A : Accepted ask bytes) where

@@ -1,6 +1,6 @@
 -- What the planning table promises, about the bytes of the sheet. Together with the contract of `plan_into`, which cites the same `plan_text`, it speaks of
 -- what is printed.
-use Rattle.std.specs.Prelude.{Bool, true, false, List, [], ◌∷◌, ◌++◌, ◌≡◌, ℕ, ◌<◌, length, get_or, take}
+use Rattle.std.specs.Prelude.{Bool, true, false, Option, None, Some, List, [], ◌∷◌, ◌++◌, ◌≡◌, ℕ, ◌<◌, length, get_or, take}
 use Rattle.bounded.specs.Bool.{and, if}
 use Rattle.words.specs.Word.{has}
 use Rattle.network.specs.Completion.{NONE, BUILT, follow, allowed_choice}
@@ -25,8 +25,12 @@ use Rattle.plan_text.specs.declared.Ask.{Ask}
 use Rattle.plan_text.specs.Text.{plan_text}
 
 -- The calls that are made on the sheet, in their order: the leader that is named, page nine (L7: "adds this as a table, reduces fully"), and the reductions.
+unfoldable pub calls_to_lead : Option ℕ → List Call
+calls_to_lead None = []
+calls_to_lead (Some leader) = led_reduction leader ∷ []
+
 unfoldable pub lead_calls : Ask → List Call
-lead_calls ask = if ask.leads (led_reduction ask.leader ∷ []) []
+lead_calls ask = calls_to_lead ask.lead
 
 unfoldable pub page_calls : Ask → List Call
 page_calls ask = if ask.page9 (add_table 1 2 page_nine ∷ full_reduction ∷ []) []
@@ -41,7 +45,7 @@ build_for ask bytes b = if ask.page9 (and (is_build_of bytes b) (keeps_page_nine
 -- Nothing is refused: neither the sheet, nor the leader, nor page nine.
 pub record Accepted (ask : Ask) (bytes : List ℕ) : Type 0 where
   pub sheet_read : (read_sheet bytes).number ≡ 0
-  pub leader_led : ask.leads ≡ true → (led (read_sheet bytes).state ask.leader).number ≡ 0
+  pub leader_led : (leader : ℕ) → ask.lead ≡ Some leader → (led (read_sheet bytes).state leader).number ≡ 0
   pub page_added : ask.page9 ≡ true → (fitted (last_state bytes (lead_calls ask))).number ≡ 0
 
 module _ (ask : Ask) (bytes : List ℕ) where

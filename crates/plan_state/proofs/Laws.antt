@@ -1,13 +1,14 @@
 -- The table from its parts, and how long it can be.
 use mathlib.Core.Bool.{Bool, true, false}
 use mathlib.Core.List.{List, [], ◌++◌}
-use mathlib.Core.Path.{◌≡◌, refl, sym, ◌∙◌, ap, ap₂}
-use Prim.Native.Nat.{ℕ, ◌+◌, ◌^◌, ◌≤◌, ◌<◌}
+use mathlib.Core.Path.{◌≡◌, refl, sym, ◌∙◌, ap}
+use Prim.Native.Nat.{ℕ, ◌^◌, ◌≤◌, ◌<◌}
 use native.Mathlib.Omega.{arith}
 use lib.Dec.{eqb}
 use lib.ListN.{length, get_or, length-append}
-use borrow.Author.Tests.{eq-eqb, ne_eqb, eqb-true, eqb-false}
-use Rattle.bounded.specs.Bool.{and, if}
+use borrow.Author.Tests.{ne_eqb}
+use Rattle.std.specs.Prelude.{Result, Ok, Err}
+use Rattle.bounded.specs.Bool.{and}
 use Rattle.bounded.proofs.Bool.{by_cases, if-true, if-false, true-and, false-and}
 use Rattle.bounded.proofs.Fold.{count-le}
 use Rattle.buffers.specs.Digits.{decimal}
@@ -15,20 +16,19 @@ use Rattle.buffers.proofs.Digits.{length-decimal-le}
 use Rattle.cause.specs.declared.Cause.{Cause}
 use Rattle.cause.proofs.Laws.{number-positive}
 use Rattle.network.specs.Network.{Network}
-use Rattle.answers.specs.declared.Outcome.TheVariants as outcome
 use Rattle.answers.specs.declared.Verdict.{Verdict}
-use Rattle.answers.specs.Answers.{outcome_number, VerdictTold, verdict_told}
+use Rattle.answers.specs.Answers.{VerdictTold, verdict_told, verdict_solution}
 use Rattle.head.specs.declared.Head.{Head}
 use Rattle.head.specs.Held.{HeadShaped, held, sound_in}
 use Rattle.head.proofs.Held.{held-n}
 use Rattle.state.specs.declared.state.State.{State}
 use Rattle.state.specs.View.{state_of}
 use Rattle.state.specs.Solutions.{verdict_of, search_of}
-use Rattle.state_survey.specs.declared.SurveyAnswer.{SurveyAnswer}
+use Rattle.survey.specs.declared.Surveyed.{Surveyed}
 use Rattle.state_survey.specs.Survey.{SurveyTold, survey_told, survey_of}
 use Rattle.text_lines.specs.Text.{ascii}
 use Rattle.text_put.specs.Put.{Put}
-use Rattle.text_put.proofs.Laws.{put_then, put-text, put-none}
+use Rattle.text_put.proofs.Laws.{put_then, put-text}
 use Rattle.plan_lines.specs.Lines.{option_lines, steps_of, ruling_text, stock_lines, idle_lines, builds_line}
 use Rattle.plan_lines.proofs.Lengths.{options_le, stocks-le, idles-le, ruling-le, builds-le}
 use Rattle.plan_ifs.specs.Ifs.{if_lines}
@@ -57,56 +57,52 @@ pub found-put : (n : ℕ) {told v : VerdictTold} → told ≡ v → {a b c : Lis
 unfolding found_line
 found-put n e h k = put_then h (put-text (ap (λ (w : VerdictTold). ruling_text w n) e) k)
 
-pub found-le : (n : ℕ) (k : Verdict) (build : List ℕ) {v : VerdictTold} → verdict_told k build ≡ v → n ≤ 16 → ((i : ℕ) → get_or build i 0 < 256)
-    → length (found_line v n) ≤ 160
+pub found-le : (n : ℕ) (found : Result Verdict Cause) {v : VerdictTold} → verdict_told found ≡ v → n ≤ 16
+    → ((i : ℕ) → get_or (verdict_solution (verdict_told found)) i 0 < 256) → length (found_line v n) ≤ 160
 unfolding found_line
-found-le n k build e h b = rw (sym e) (simp length-append (omega (arith, length-search, ruling-le k build n h b)))
+found-le n found e h b = rw (sym e) (simp length-append (omega (arith, length-search, ruling-le found n h b)))
 
-module _ (s : State) (k : Verdict) (build : List ℕ) (e : verdict_told k build ≡ verdict_of s) where
-  pub rulings-put : {a b c d : List ℕ} {at p q r : ℕ} → Put a b (ascii "VERDICT") at p → Put b c (ruling_text (verdict_told k build) s.n) p q
-      → Put c d (search_line (verdict_told k build) (search_of s) s.n) q r → Put a d (ruling_lines s) at r
+module _ (s : State) (k : Verdict) (e : verdict_told (Ok k) ≡ verdict_of s) where
+  pub rulings-put : {a b c d : List ℕ} {at p q r : ℕ} → Put a b (ascii "VERDICT") at p → Put b c (ruling_text (verdict_told (Ok k)) s.n) p q
+      → Put c d (search_line (verdict_told (Ok k)) (search_of s) s.n) q r → Put a d (ruling_lines s) at r
   unfolding ruling_lines verdict_line
   rulings-put h i j = rw (sym e) (put_then (put_then h i) j)
 
-  pub rulings-le : s.n ≤ 16 → ((i : ℕ) → get_or build i 0 < 256) → length (search_line (verdict_told k build) (search_of s) s.n) ≤ 160
-      → length (ruling_lines s) ≤ 321
+  pub rulings-le : s.n ≤ 16 → ((i : ℕ) → get_or (verdict_solution (verdict_told (Ok k))) i 0 < 256)
+      → length (search_line (verdict_told (Ok k)) (search_of s) s.n) ≤ 160 → length (ruling_lines s) ≤ 321
   unfolding ruling_lines verdict_line
-  rulings-le h b l = rw (sym e) (simp length-append (omega (arith, length-verdict, ruling-le k build s.n h b)))
+  rulings-le h b l = rw (sym e) (simp length-append (omega (arith, length-verdict, ruling-le (Ok k) s.n h b)))
 
 -- ---- the survey
 
-module _ (a : SurveyAnswer) where
-  told-done : a.outcome ≡ outcome.Done → (survey_told a).number ≡ 0
-  unfolding survey_told outcome_number
-  told-done e = ap outcome_number e
+module _ (c : Cause) where
+  told-refused : eqb (survey_told (Err c)).number 0 ≡ false
+  unfolding survey_told
+  told-refused = ne_eqb _ 0 (λ z. omega (arith, number-positive c))
 
-  told-refused : {c : Cause} → a.outcome ≡ outcome.Refused c → (survey_told a).number ≡ 0 → ⊥
-  unfolding survey_told outcome_number
-  told-refused {c} e z = let n = sym (ap outcome_number e) ∙ z in omega (arith, number-positive c)
-
-  pub some-build : {c : Cause} → a.outcome ≡ outcome.Refused c → false ≡ builds_none (survey_told a)
+  pub some_build : false ≡ builds_none (survey_told (Err c))
   unfolding builds_none
-  some-build e = sym (ap (λ (b : Bool). and b (eqb (survey_told a).count 0)) (ne_eqb _ 0 (told-refused e)) ∙ false-and _)
+  some_build = sym (ap (λ (b : Bool). and b (eqb (survey_told (Err c)).count 0)) told-refused ∙ false-and _)
 
-  pub counted-builds : a.outcome ≡ outcome.Done → eqb a.count 0 ≡ builds_none (survey_told a)
+  pub survey_refused : (n : ℕ) (sizes lists : List ℕ) → survey_lines n sizes lists (survey_told (Err c)) ≡ maybe_lines n sizes lists
+  unfolding survey_lines
+  survey_refused n sizes lists = if-false _ _ _ told-refused
+
+module _ (a : Surveyed) where
+  pub counted_builds : eqb a.count 0 ≡ builds_none (survey_told (Ok a))
   unfolding builds_none survey_told
-  counted-builds e = sym (ap (λ (b : Bool). and b (eqb a.count 0)) (eq-eqb _ 0 (told-done e)) ∙ true-and _)
+  counted_builds = sym (true-and _)
 
-  module _ (n : ℕ) (sizes lists : List ℕ) where
-    pub survey-done : a.outcome ≡ outcome.Done → survey_lines n sizes lists (survey_told a) ≡ used_lines n sizes (survey_told a)
-    unfolding survey_lines
-    survey-done e = if-true _ _ _ (eq-eqb _ 0 (told-done e))
-
-    pub survey-refused : {c : Cause} → a.outcome ≡ outcome.Refused c → survey_lines n sizes lists (survey_told a) ≡ maybe_lines n sizes lists
-    unfolding survey_lines
-    survey-refused e = if-false _ _ _ (ne_eqb _ 0 (told-refused e))
+  pub survey_done : (n : ℕ) (sizes lists : List ℕ) → survey_lines n sizes lists (survey_told (Ok a)) ≡ used_lines n sizes (survey_told (Ok a))
+  unfolding survey_lines survey_told
+  survey_done n sizes lists = if-true _ _ _ refl
 
   pub used-put : (n : ℕ) (sizes : List ℕ) {b c d e : List ℕ} {at p q r : ℕ} → Put b c (stock_lines (ascii "USED ") a.words n) at p
-      → Put c d (idle_lines sizes a.words n) p q → Put d e (builds_line a.more a.count) q r → Put b e (used_lines n sizes (survey_told a)) at r
+      → Put c d (idle_lines sizes a.words n) p q → Put d e (builds_line a.more a.count) q r → Put b e (used_lines n sizes (survey_told (Ok a))) at r
   unfolding used_lines survey_told
   used-put n sizes h i j = put_then h (put_then i j)
 
-  pub used_le : (n : ℕ) (sizes : List ℕ) → n ≤ 16 → a.count < 2 ^ 64 → length (used_lines n sizes (survey_told a)) ≤ 3601
+  pub used_le : (n : ℕ) (sizes : List ℕ) → n ≤ 16 → a.count < 2 ^ 64 → length (used_lines n sizes (survey_told (Ok a))) ≤ 3601
   unfolding used_lines survey_told ascii
   used_le n sizes h c =
       simp length-append
@@ -117,9 +113,9 @@ pub maybe-put : (n : ℕ) (sizes lists : List ℕ) {a b c : List ℕ} {at p r : 
 unfolding maybe_lines
 maybe-put n sizes lists h k = put_then h k
 
-pub maybe-le : (n : ℕ) (sizes lists : List ℕ) → n ≤ 16 → length (maybe_lines n sizes lists) ≤ 3601
+pub maybe_le : (n : ℕ) (sizes lists : List ℕ) → n ≤ 16 → length (maybe_lines n sizes lists) ≤ 3601
 unfolding maybe_lines ascii
-maybe-le n sizes lists h = simp length-append (omega (arith, stocks-le (ascii "MAYBE ") lists n h (omega arith), idles-le sizes lists n h))
+maybe_le n sizes lists h = simp length-append (omega (arith, stocks-le (ascii "MAYBE ") lists n h (omega arith), idles-le sizes lists n h))
 
 -- ---- the whole
 
@@ -143,9 +139,9 @@ length-end : length (ascii "END 0 REFUSED\n") ≡ 14
 unfolding ascii
 length-end = refl
 
-pub no-conditions : (N : Network) (t : SurveyTold) → builds_none t ≡ true → condition_lines N t ≡ []
+pub no_conditions : (N : Network) (t : SurveyTold) → builds_none t ≡ true → condition_lines N t ≡ []
 unfolding condition_lines
-no-conditions N t h = if-true _ _ _ h
+no_conditions N t h = if-true _ _ _ h
 
 pub conditions : (N : Network) (t : SurveyTold) → builds_none t ≡ false → condition_lines N t ≡ if_lines N
 unfolding condition_lines
@@ -166,7 +162,7 @@ module _ (head : Head) (rows : List ℕ) (t : SurveyTold) (told : t ≡ survey_o
       let n = held-n head rows sound in
       let ifs : length (condition_lines (held head rows) t) ≤ 56320 =
       by_cases (builds_none t)
-      (λ b. rw (no-conditions _ t b) (omega arith))
+      (λ b. rw (no_conditions _ t b) (omega arith))
       (λ b. rw (conditions _ t b) (ifs-le head rows S sound)) in
       rw (sym told)
       (simp length-append

@@ -1,5 +1,5 @@
 // The options, the verdict, and the search after OPEN.
-ghost use Rattle.std.specs.Prelude.{true, List, ◌≡◌, ℕ, ◌≤◌, length};
+ghost use Rattle.std.specs.Prelude.{true, ◌≡◌, ◌≤◌, length, Ok};
 ghost use Rattle.head.specs.Held.{sound_in};
 ghost use Rattle.answers.specs.Answers.{verdict_told};
 ghost use Rattle.state.specs.View.{state_of};
@@ -7,7 +7,7 @@ ghost use Rattle.state.specs.Solutions.{search_of};
 ghost use Rattle.text_put.specs.Put.{Put};
 ghost use Rattle.plan_state.specs.Plan.{options_text, found_line, search_line, ruling_lines};
 
-use answers::Verdict;
+use answers::{Verdict, verdict_solution};
 use head::{Head, Rows};
 use plan_lines::{put_options, put_ruling, steps};
 use state_search::search_parts;
@@ -38,24 +38,23 @@ fn put_found(buffer: &mut [u8], at: usize, head: Head, rows: &Rows) -> usize
         × (length (found_line (search_of (state_of head rows.now)) head.n) ≤ 160) }
 {
     let found = search_parts(head, rows);
-    let verdict = found.verdict;
-    let solution = found.solution;
+    // That a build has bytes is learnt from a copy, which the compiler drops.
+    let _ = verdict_solution(found);
     let titled = put_text(buffer, at, b"SEARCH");
-    put_ruling(buffer, titled, head.n, verdict, &solution)
+    put_ruling(buffer, titled, head.n, found)
 }
 
 // After OPEN alone.
+#[tactic(auto, unfolding(answers::specs::Answers::verdict_told, crate::specs::Plan::search_line))]
 fn put_search(buffer: &mut [u8], at: usize, head: Head, rows: &Rows, verdict: Verdict) -> usize
     requires { head.n ≤ 16 }
-    ensures { (build : List ℕ) →
-        Put buffer.old buffer.new (search_line (verdict_told verdict build) (search_of (state_of head rows.now)) head.n) at result
-        × (length (search_line (verdict_told verdict build) (search_of (state_of head rows.now)) head.n) ≤ 160) }
+    ensures { Put buffer.old buffer.new (search_line (verdict_told (Ok verdict)) (search_of (state_of head rows.now)) head.n) at result
+        × (length (search_line (verdict_told (Ok verdict)) (search_of (state_of head rows.now)) head.n) ≤ 160) }
 {
     match verdict {
         Verdict::None => at,
-        Verdict::Built => at,
+        Verdict::Built(_) => at,
         Verdict::Open => put_found(buffer, at, head, rows),
-        Verdict::Refused(_) => at,
     }
 }
 
@@ -64,10 +63,10 @@ pub(crate) fn put_rulings(buffer: &mut [u8], at: usize, head: Head, rows: &Rows)
     ensures { Put buffer.old buffer.new (ruling_lines (state_of head rows.now)) at result
         × (length (ruling_lines (state_of head rows.now)) ≤ 321) }
 {
-    let shown = verdict_of(head, rows);
-    let verdict = shown.verdict;
-    let solution = shown.solution;
+    let verdict = verdict_of(head, rows);
+    // That a build has bytes is learnt from a copy, which the compiler drops.
+    let _ = verdict_solution(Ok(verdict));
     let titled = put_text(buffer, at, b"VERDICT");
-    let ruled = put_ruling(buffer, titled, head.n, verdict, &solution);
+    let ruled = put_ruling(buffer, titled, head.n, Ok(verdict));
     put_search(buffer, ruled, head, rows, verdict)
 }

@@ -7,13 +7,11 @@ use lib.Dec.{ltb}
 use lib.ListN.{length, take}
 use lib.Seq.{take_all, length-take-le}
 use borrow.Author.Tests.{ltb-true, ltb-false}
-use Rattle.bounded.specs.Bool.{if}
 use Rattle.bounded.proofs.Bool.{by_cases}
 use Rattle.network.specs.Sheet.{Sheet}
 use Rattle.format.specs.Layout.{longest}
 use Rattle.format.specs.Parse.{Parse, parse}
 use Rattle.format.proofs.Parse.{parse-too-long}
-use Rattle.state.specs.Answers.{ReadTold}
 use Rattle.state.specs.Read.{read_as, read_sheet}
 use Rattle.text_report.specs.Text.{limit}
 use Rattle.plan_text.specs.declared.Ask.{Ask}

@@ -1,6 +1,6 @@
 -- The text that sheetplan prints, as ASCII codes, of what was asked and the bytes of a sheet: it "reads one sheet .., lets option N lead first if asked ..,
 -- then adds page nine if asked .., whatever the order of the arguments, reduces fully, runs L9 .., and prints".
-use Rattle.std.specs.Prelude.{Bool, List, ◌++◌, ℕ, eqb}
+use Rattle.std.specs.Prelude.{Bool, Option, None, Some, List, ◌++◌, ℕ, eqb}
 use Rattle.bounded.specs.Bool.{if}
 use Rattle.state.specs.declared.state.State.{State}
 use Rattle.state.specs.Answers.{ReadTold}
@@ -28,11 +28,12 @@ unfoldable pub fitted_text : Bool → State → List ℕ
 fitted_text page9 s = if page9 (unless_refused (fitted s).number (state_text (last_of (fitted s).state))) (state_text (last_of s))
 
 -- "lets option N lead first if asked (L12)": "--lead 0 or above n is REFUSED 10".
+unfoldable pub lead_text : Option ℕ → Bool → State → List ℕ
+lead_text None page9 s = fitted_text page9 s
+lead_text (Some leader) page9 s = unless_refused (led s leader).number (fitted_text page9 (led s leader).state)
+
 unfoldable pub led_text : Ask → State → List ℕ
-led_text ask s =
-    if ask.leads
-    (unless_refused (led s ask.leader).number (fitted_text ask.page9 (led s ask.leader).state))
-    (fitted_text ask.page9 s)
+led_text ask s = lead_text ask.lead ask.page9 s
 
 -- "A refusal prints `REFUSED number AT place: phrase`" of a sheet that is refused.
 unfoldable pub read_text : Ask → ReadTold → List ℕ

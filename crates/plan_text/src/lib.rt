@@ -10,13 +10,14 @@ ghost use Rattle.text_report.specs.Printed.{Printed};
 ghost use Rattle.plan_state.specs.Plan.{state_text};
 ghost use Rattle.plan_text.specs.Text.{refused_text, last_of, fitted_text, led_text, plan_text};
 
-use answers::{Outcome, ReadOutcome};
 use cause::Cause;
 use head::{Head, Rows};
 use meter_parts::fit_parts;
 use plan_state::put_plan;
-use state::{lead_parts, reduce_parts, trim_parts};
+use state::lead_parts;
 use state_read::read_parts;
+use step_alternate::alternate_sound;
+use step_reduce::reduce_sound;
 use text_phrase::{put_refusal, put_refusal_at};
 use text_put::put_text;
 
@@ -27,8 +28,7 @@ pub const ROOM: usize = 65536;
 #[derive(Clone, Copy)]
 pub struct Ask {
     pub page9: bool,
-    pub leads: bool,
-    pub leader: usize,
+    pub lead: Option<usize>,
 }
 
 fn put_refused(buffer: &mut [u8], cause: Cause) -> usize
@@ -39,14 +39,14 @@ fn put_refused(buffer: &mut [u8], cause: Cause) -> usize
     put_text(buffer, said, b"END 1 REFUSED\n")
 }
 
-// The table of the state that is left after reducing and trimming.
+// The table of the state that is left after reducing and trimming: a sound state is refused neither.
 fn put_last(buffer: &mut [u8], head: Head, rows: &mut Rows) -> usize
     requires { RowsShaped rows.old × (sound_in head rows.old ≡ true) }
     ensures { Put buffer.old buffer.new (state_text (last_of (state_of head rows.old))) 0 result
         × (length (state_text (last_of (state_of head rows.old))) < 65536) }
 {
-    let reduced = reduce_parts(head, rows);
-    let trimmed = trim_parts(reduced.head, rows);
+    let reduced = reduce_sound(head, rows);
+    let trimmed = alternate_sound(reduced.head, rows);
     put_plan(buffer, 0, trimmed.head, rows)
 }
 
@@ -59,12 +59,10 @@ fn put_fitted(buffer: &mut [u8], head: Head, rows: &mut Rows, page9: bool) -> us
     if !page9 {
         return put_last(buffer, head, rows);
     }
-    let fit = fit_parts(head, rows);
-    let outcome = fit.outcome;
-    if let Outcome::Refused(cause) = outcome {
-        return put_refused(buffer, cause);
+    match fit_parts(head, rows) {
+        Ok(fit) => put_last(buffer, fit.head, rows),
+        Err(cause) => put_refused(buffer, cause),
     }
-    put_last(buffer, fit.head, rows)
 }
 
 // After the option that is to lead first, if one is.
@@ -73,15 +71,13 @@ fn put_led(buffer: &mut [u8], head: Head, rows: &mut Rows, ask: Ask) -> usize
     ensures { Put buffer.old buffer.new (led_text ask (state_of head rows.old)) 0 result
         × (length (led_text ask (state_of head rows.old)) < 65536) }
 {
-    if !ask.leads {
+    let Some(leader) = ask.lead else {
         return put_fitted(buffer, head, rows, ask.page9);
+    };
+    match lead_parts(head, rows, leader) {
+        Ok(led) => put_fitted(buffer, led.head, rows, ask.page9),
+        Err(cause) => put_refused(buffer, cause),
     }
-    let led = lead_parts(head, rows, ask.leader);
-    let outcome = led.outcome;
-    if let Outcome::Refused(cause) = outcome {
-        return put_refused(buffer, cause);
-    }
-    put_fitted(buffer, led.head, rows, ask.page9)
 }
 
 // What sheetplan prints for the bytes of a sheet, at the start of a buffer.
@@ -90,13 +86,13 @@ fn put_text_of(buffer: &mut [u8], bytes: &[u8], rows: &mut Rows, ask: Ask) -> us
     ensures { Put buffer.old buffer.new (plan_text ask bytes.now) 0 result
         × (length (plan_text ask bytes.now) < 65536) }
 {
-    let read = read_parts(bytes, rows);
-    let outcome = read.outcome;
-    if let ReadOutcome::Refused(cause, place) = outcome {
-        let said = put_refusal_at(buffer, 0, cause, place);
-        return put_text(buffer, said, b"END 1 REFUSED\n");
+    match read_parts(bytes, rows) {
+        Ok(head) => put_led(buffer, head, rows, ask),
+        Err(refusal) => {
+            let said = put_refusal_at(buffer, 0, refusal.cause, refusal.place);
+            put_text(buffer, said, b"END 1 REFUSED\n")
+        }
     }
-    put_led(buffer, read.head, rows, ask)
 }
 
 // What sheetplan prints for the bytes of a sheet, of any length and contents, into an array, whatever that held: how many bytes it has.

@@ -1,7 +1,7 @@
 -- The body of a sheet, field after field: what each answer makes of the parse, and that the arrays hold the sheet in the end.
-use mathlib.Core.Bool.{Bool, true, false}
+use mathlib.Core.Bool.{Bool}
 use mathlib.Core.List.{List, []}
-use mathlib.Core.Path.{◌≡◌, refl, sym, ◌∙◌}
+use mathlib.Core.Path.{◌≡◌, sym, ◌∙◌}
 use Prim.Native.Nat.{ℕ, ◌-◌, ◌*◌, ◌/◌, ◌≤◌, ◌<◌}
 use native.Mathlib.Nat.{mul-le-mul}
 use native.Mathlib.Omega.{arith}
@@ -20,15 +20,16 @@ use Rattle.cause.specs.declared.Cause.TheVariants.{VariableCount, ConstraintCoun
 use Rattle.network.specs.Sheet.{Table, Sheet, network_of}
 use Rattle.pairs.specs.Pairs.{variables}
 use Rattle.pairs.proofs.Laws.{rows-rule}
-use Rattle.read_field.specs.declared.field.Read.{Read}
-use Rattle.read_field.specs.declared.field.Read.TheVariants.{Value, Refused}
+use Rattle.std.specs.Prelude.{Result, Ok, Err}
+use Rattle.cause.specs.declared.Refusal.{Refusal}
+use Rattle.read_field.specs.declared.field.Field.{Field}
 use Rattle.format.specs.Layout.{Layout, size_test, constraints_test}
 use Rattle.format.specs.Parse.{Parse, got, bad, bind, field, fields, parse_tables, ended, parse_body}
 use Rattle.read_field.specs.Fields.{read_as, range_test}
 use Rattle.read_tables.specs.Tables.{RowsIn, Sized, Held, TablesRead}
 use Rattle.read_tables.proofs.TablesLoop.{taken-length}
 use Rattle.read_body.specs.Reading.{SizesRead, Holds, SheetRead}
-use Rattle.read_field.proofs.Fields.{field-got, count-range, constraints-range, range-passed, as-got, as-bad, no_value, value-is}
+use Rattle.read_field.proofs.Fields.{field-got, count-range, constraints-range, range-passed, as-got, as-bad, no_value}
 
 -- ---- the arrays hold the sheet
 
@@ -58,14 +59,14 @@ pub pairs-fit : (n : ℕ) → n ≤ variables → Fits w64 (n * (n - 1))
 pairs-fit n h = let l : n - 1 ≤ 15 = omega arith in let b : n * (n - 1) ≤ 16 * 15 = mul-le-mul h l in omega arith
 
 -- A refusal, whatever the arrays hold.
-pub sheet-refused : (p : Parse Sheet) (sizes stated rows : List ℕ) (c : Cause) (at : ℕ) → p ≡ bad c at → SheetRead p sizes stated rows (Refused c at)
+pub sheet-refused : (p : Parse Sheet) (sizes stated rows : List ℕ) (c : Cause) (at : ℕ) → p ≡ bad c at → SheetRead p sizes stated rows (Err (record { cause = c; place = at }))
 unfolding read_as
 sheet-refused p sizes stated rows c at e =
     record {
       sheet = record { sizes = []; tables = [] };
       parsed = e;
-      count_is = λ n next. no_value c at n next;
-      holds = λ n next. no_value c at n next;
+      count_is = λ count. no_value _ count;
+      holds = λ count. no_value _ count;
     }
 
 -- What is left to parse after the sizes, after p and after the tables.
@@ -110,13 +111,13 @@ pub record Tabled (bytes : List ℕ) (k : ℕ) (filled : Bool) (most n : ℕ) (s
   pub left : (L : Layout) → RowsIn L k filled → L.values_at_most ≡ most → parse_body L bytes ≡ after_tables bytes (take n sizes) tables end
 
 -- What is answered of the body in every layout of such rows and sizes.
-abbrev pub BodyRead : List ℕ → ℕ → Bool → ℕ → List ℕ → List ℕ → List ℕ → Read → Type 0
+abbrev pub BodyRead : List ℕ → ℕ → Bool → ℕ → List ℕ → List ℕ → List ℕ → Result Field Refusal → Type 0
 BodyRead bytes k filled most sizes stated rows r =
     (L : Layout) → RowsIn L k filled → L.values_at_most ≡ most → SheetRead (parse_body L bytes) sizes stated rows r
 
 module _ (bytes : List ℕ) where
   pub no-count : {k : ℕ} {filled : Bool} {most : ℕ} {c : Cause} {place : ℕ} → field 1 (range_test 1 variables VariableCount) bytes 3 ≡ bad c place
-      → {sizes stated rows : List ℕ} → BodyRead bytes k filled most sizes stated rows (Refused c place)
+      → {sizes stated rows : List ℕ} → BodyRead bytes k filled most sizes stated rows (Err (record { cause = c; place = place }))
   unfolding parse_body bind
   no-count {c = c} {place = place} e {sizes} {stated} {rows} L told m = sheet-refused _ sizes stated rows c place (rw (count-range, e))
 
@@ -127,25 +128,25 @@ module _ (bytes : List ℕ) where
       let r = range-passed 1 variables n VariableCount g.passed in
       record { some = r.0; few = r.1; left = λ L. rw (count-range, e, g.ends) }
 
-  module _ {n : ℕ} (so_far : Counted bytes n) {most : ℕ} {sizes : List ℕ} {r : Read} (read : SizesRead bytes n most sizes r) where
-    pub no-sizes : {c : Cause} {place : ℕ} → r ≡ Refused c place → {k : ℕ} {filled : Bool} {stated rows : List ℕ} → BodyRead bytes k filled most sizes stated rows (Refused c place)
+  module _ {n : ℕ} (so_far : Counted bytes n) {most : ℕ} {sizes : List ℕ} {r : Result Field Refusal} (read : SizesRead bytes n most sizes r) where
+    pub no-sizes : {refusal : Refusal} → r ≡ Err refusal → {k : ℕ} {filled : Bool} {stated rows : List ℕ} → BodyRead bytes k filled most sizes stated rows (Err refusal)
     unfolding bind
-    no-sizes {c} {place} q {stated = stated} {rows = rows} L told m =
-        sheet-refused _ sizes stated rows c place (so_far.left L ∙ rw (m, as-bad _ r _ c place read.parsed q))
+    no-sizes {refusal} q {stated = stated} {rows = rows} L told m =
+        sheet-refused _ sizes stated rows refusal.cause refusal.place (so_far.left L ∙ rw (m, as-bad _ r _ refusal read.parsed q))
 
-    pub listed : {v next : ℕ} → r ≡ Value v next → Listed bytes most n sizes next
+    pub listed : {list : Field} → r ≡ Ok list → Listed bytes most n sizes list.next
     unfolding bind after_sizes
-    listed {v} {next} q =
+    listed {list} q =
         record {
           some = so_far.some;
           few = so_far.few;
           sized = read.sized;
-          left = λ L m. so_far.left L ∙ rw (m, as-got _ r _ v next read.parsed q);
+          left = λ L m. so_far.left L ∙ rw (m, as-got _ r _ list read.parsed q);
         }
 
   module _ {most n : ℕ} {sizes : List ℕ} {next : ℕ} (so_far : Listed bytes most n sizes next) where
     pub no-constraints : {c : Cause} {place : ℕ} → field 1 (range_test 0 (n * (n - 1) / 2) ConstraintCount) bytes next ≡ bad c place
-        → {k : ℕ} {filled : Bool} {stated rows : List ℕ} → BodyRead bytes k filled most sizes stated rows (Refused c place)
+        → {k : ℕ} {filled : Bool} {stated rows : List ℕ} → BodyRead bytes k filled most sizes stated rows (Err (record { cause = c; place = place }))
     unfolding bind
     no-constraints {c} {place} e {stated = stated} {rows = rows} L told m =
         sheet-refused _ sizes stated rows c place (so_far.left L m ∙ rw (constraints-range n, e))
@@ -163,36 +164,36 @@ module _ (bytes : List ℕ) where
 
   module _
       {most n : ℕ} {sizes : List ℕ} {p from : ℕ} (so_far : Constrained bytes most n sizes p from)
-      {k : ℕ} {filled : Bool} {stated rows : List ℕ} {r : Read} (read : TablesRead bytes from k filled n p sizes stated rows r)
+      {k : ℕ} {filled : Bool} {stated rows : List ℕ} {r : Result Field Refusal} (read : TablesRead bytes from k filled n p sizes stated rows r)
     where
-      pub no-tables : {c : Cause} {place : ℕ} → r ≡ Refused c place → BodyRead bytes k filled most sizes stated rows (Refused c place)
+      pub no-tables : {refusal : Refusal} → r ≡ Err refusal → BodyRead bytes k filled most sizes stated rows (Err refusal)
       unfolding bind
-      no-tables {c} {place} q L told m =
-          sheet-refused _ sizes stated rows c place (so_far.left L m ∙ rw (as-bad _ r _ c place (read.parsed L told) q))
+      no-tables {refusal} q L told m =
+          sheet-refused _ sizes stated rows refusal.cause refusal.place (so_far.left L m ∙ rw (as-bad _ r _ refusal (read.parsed L told) q))
 
-      pub tabled-all : {v end : ℕ} → r ≡ Value v end → Tabled bytes k filled most n sizes stated rows end
+      pub tabled-all : {end : Field} → r ≡ Ok end → Tabled bytes k filled most n sizes stated rows end.next
       unfolding bind
-      tabled-all {v} {end} q =
+      tabled-all {end} q =
           record {
             few = so_far.few;
             sized = so_far.sized;
             tables = read.tables;
             last = read.last;
-            held = read.held v end q;
-            left = λ L told m. so_far.left L m ∙ rw (as-got _ r _ v end (read.parsed L told) q);
+            held = read.held end q;
+            left = λ L told m. so_far.left L m ∙ rw (as-got _ r _ end (read.parsed L told) q);
           }
 
   module _ {k : ℕ} {filled : Bool} {most n : ℕ} {sizes stated rows : List ℕ} {end : ℕ} (so_far : Tabled bytes k filled most n sizes stated rows end) where
-    pub left_over : end < length bytes → BodyRead bytes k filled most sizes stated rows (Refused Extent end)
+    pub left_over : end < length bytes → BodyRead bytes k filled most sizes stated rows (Err (record { cause = Extent; place = end }))
     unfolding after_tables ended
     left_over h L told m = sheet-refused _ sizes stated rows Extent end (so_far.left L told m ∙ if-true _ _ _ (lt-ltb _ _ h))
 
-    pub body-read : length bytes ≤ end → BodyRead bytes k filled most sizes stated rows (Value n end)
+    pub body-read : length bytes ≤ end → BodyRead bytes k filled most sizes stated rows (Ok (record { value = n; next = end }))
     unfolding after_tables ended read_as
     body-read h L told m =
         record {
           sheet = record { sizes = take n sizes; tables = so_far.tables };
           parsed = so_far.left L told m ∙ if-false _ _ _ (le-ltb _ _ h);
-          count_is = λ w x. value-is (λ w _. w ≡ length (take n sizes)) n end w x (sym (taken-length so_far.sized so_far.few));
-          holds = λ w x d. sheet-held n so_far.last sizes so_far.tables stated rows so_far.sized so_far.few so_far.held;
+          count_is = λ count q. (let e : count.value ≡ n = cc in e) ∙ sym (taken-length so_far.sized so_far.few);
+          holds = λ count q. sheet-held n so_far.last sizes so_far.tables stated rows so_far.sized so_far.few so_far.held;
         }

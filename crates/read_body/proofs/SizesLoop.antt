@@ -1,7 +1,7 @@
 -- The loop that reads the sizes.
 use mathlib.Core.List.{List}
-use mathlib.Core.Path.{◌≡◌, refl, ◌∙◌, ap}
-use Prim.Native.Nat.{ℕ, zero, suc, ◌+◌, ◌-◌, ◌≤◌, ◌<◌}
+use mathlib.Core.Path.{◌≡◌, ◌∙◌}
+use Prim.Native.Nat.{ℕ, suc, ◌+◌, ◌-◌, ◌≤◌, ◌<◌}
 use native.Mathlib.Numerals.{add-one}
 use native.Mathlib.Omega.{arith}
 use mir.Syntax.{w8}
@@ -17,7 +17,7 @@ use Rattle.words.specs.Word.{width}
 use Rattle.pairs.specs.Pairs.{variables}
 use Rattle.cause.specs.declared.Cause.{Cause}
 use Rattle.cause.specs.declared.Cause.TheVariants.{Size}
-use Rattle.read_field.specs.declared.field.Read.TheVariants.{Value, Refused}
+use Rattle.std.specs.Prelude.{Ok, Err}
 use Rattle.format.specs.Layout.{size_test}
 use Rattle.format.specs.Parse.{got, bad, field, fields}
 use Rattle.read_field.specs.Fields.{read_as, range_test}
@@ -77,7 +77,7 @@ module _ {bytes : List ℕ} {n most : ℕ} {sizes : List ℕ} {at i : ℕ} (befo
             };
       }
 
-  pub sizes-end : n ≤ i → SizesRead bytes n most sizes (Value n at)
+  pub sizes-end : n ≤ i → SizesRead bytes n most sizes (Ok (record { value = n; next = at }))
   unfolding read_as
   sizes-end h =
       let e : i ≡ n = omega (arith, before.within) in
@@ -87,7 +87,7 @@ module _ {bytes : List ℕ} {n most : ℕ} {sizes : List ℕ} {at i : ℕ} (befo
       }
 
   pub sizes-refused : i < n → {c : Cause} {place : ℕ} → field 1 (range_test 1 most Size) bytes at ≡ bad c place
-      → SizesRead bytes n most sizes (Refused c place)
+      → SizesRead bytes n most sizes (Err (record { cause = c; place = place }))
   unfolding read_as
   sizes-refused l {c} {place} e =
       record {

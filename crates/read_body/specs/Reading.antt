@@ -1,18 +1,18 @@
 -- What the functions that read a sheet leave behind: their contracts.
-use Rattle.std.specs.Prelude.{List, ◌≡◌, ℕ, length, take}
+use Rattle.std.specs.Prelude.{List, ◌≡◌, ℕ, length, take, Result, Ok}
 use Rattle.bounded.specs.Table.{tabulate}
 use Rattle.words.specs.Word.{width, word}
 use Rattle.network.specs.Sheet.{Sheet, network_of}
 use Rattle.pairs.specs.Pairs.{variables, rows_of}
-use Rattle.read_field.specs.declared.field.Read.{Read}
-use Rattle.read_field.specs.declared.field.Read.TheVariants.{Value}
+use Rattle.cause.specs.declared.Refusal.{Refusal}
+use Rattle.read_field.specs.declared.field.Field.{Field}
 use Rattle.format.specs.Layout.{size_test}
 use Rattle.format.specs.Parse.{Parse, fields}
 use Rattle.read_field.specs.Fields.{read_as}
 use Rattle.read_tables.specs.Tables.{Sized}
 
 -- The first n entries of the array are the sizes parsed.
-pub record SizesRead (bytes : List ℕ) (n most : ℕ) (sizes : List ℕ) (r : Read) : Type 0 where
+pub record SizesRead (bytes : List ℕ) (n most : ℕ) (sizes : List ℕ) (r : Result Field Refusal) : Type 0 where
   pub parsed : fields 1 (size_test most) n bytes 4 ≡ read_as r (take n sizes)
   pub sized : Sized n sizes
 
@@ -24,8 +24,8 @@ pub record Holds (s : Sheet) (sizes stated rows : List ℕ) : Type 0 where
 
 -- A parse of a whole sheet into arrays that were zero: the answer is the parse's, its value the number of variables, and where it is not refused
 -- the arrays hold the sheet. (After a refusal they hold what had been read; no caller looks at that.)
-pub record SheetRead (p : Parse Sheet) (sizes stated rows : List ℕ) (r : Read) : Type 0 where
+pub record SheetRead (p : Parse Sheet) (sizes stated rows : List ℕ) (r : Result Field Refusal) : Type 0 where
   pub sheet : Sheet
   pub parsed : p ≡ read_as r sheet
-  pub count_is : (n next : ℕ) → r ≡ Value n next → n ≡ length sheet.sizes
-  pub holds : (n next : ℕ) → r ≡ Value n next → Holds sheet sizes stated rows
+  pub count_is : (count : Field) → r ≡ Ok count → count.value ≡ length sheet.sizes
+  pub holds : (count : Field) → r ≡ Ok count → Holds sheet sizes stated rows

@@ -9,9 +9,9 @@ ghost use Rattle.read_tables.specs.Tables.{RowsIn};
 ghost use Rattle.read_body.specs.Reading.{SheetRead};
 
 use crate::sizes;
-use cause::Cause;
+use cause::{Cause, Refusal};
 use pairs::{Rows, VARIABLES};
-use read_field::Read;
+use read_field::Field;
 
 // All that follows the count of bytes, in a layout whose rows have `k` bytes, whose sizes go to `most` and whose rows must be `filled`, or need not: n, the
 // sizes, p, the tables, and no byte more. The value is n.
@@ -23,35 +23,27 @@ pub fn read_body(
     sizes: &mut [u8; VARIABLES],
     stated: &mut [u32; VARIABLES],
     rows: &mut Rows,
-) -> Read
+) -> Result<Field, Refusal>
     requires { RowBytes k × (most ≤ width) × (sizes.old ≡ replicate variables 0) × (stated.old ≡ replicate variables 0) × (rows.old ≡ replicate 3840 0) }
     ensures { (L : Layout) → RowsIn L k filled → L.values_at_most ≡ most
         → SheetRead (parse_body L bytes.now) sizes.new stated.new rows.new result }
 {
-    let count = read_field::byte_field(bytes, 3, 1, VARIABLES, Cause::VariableCount);
-    let Read::Value(n, _) = count else {
-        return count;
-    };
-    let listed = sizes::read_sizes(bytes, n, most, sizes);
-    let Read::Value(_, after) = listed else {
-        return listed;
-    };
-    let constraints = read_field::byte_field(
-        bytes,
-        after,
-        0,
-        n * (n - 1) / 2,
-        Cause::ConstraintCount,
-    );
-    let Read::Value(p, first) = constraints else {
-        return constraints;
-    };
-    let all = read_tables::read_tables(bytes, first, k, filled, n, p, sizes, stated, rows);
-    let Read::Value(_, end) = all else {
-        return all;
-    };
+    let n = read_field::byte_field(bytes, 3, 1, VARIABLES, Cause::VariableCount)?.value;
+    let after = sizes::read_sizes(bytes, n, most, sizes)?.next;
+    let most_tables = n * (n - 1) / 2;
+    let p = read_field::byte_field(bytes, after, 0, most_tables, Cause::ConstraintCount)?;
+    let tables = read_tables::read_tables(
+        bytes, p.next, k, filled, n, p.value, sizes, stated, rows,
+    )?;
+    let end = tables.next;
     if end < bytes.len() {
-        return Read::Refused(Cause::Extent, end);
+        return Err(Refusal {
+            cause: Cause::Extent,
+            place: end,
+        });
     }
-    Read::Value(n, end)
+    Ok(Field {
+        value: n,
+        next: end,
+    })
 }

@@ -14,8 +14,9 @@ use Rattle.words.specs.Word.{has}
 use Rattle.words.proofs.Laws.{within-every}
 use Rattle.cause.specs.declared.Cause.{Cause}
 use Rattle.cause.specs.declared.Cause.TheVariants.{VariableCount, Size, ConstraintCount, PairRange, PairOrder, PairRepeated, RowRange, BlankRow, Extent}
-use Rattle.read_field.specs.declared.field.Read.{Read}
-use Rattle.read_field.specs.declared.field.Read.TheVariants.{Value, Refused}
+use Rattle.std.specs.Prelude.{Result, Ok, Err}
+use Rattle.cause.specs.declared.Refusal.{Refusal}
+use Rattle.read_field.specs.declared.field.Field.{Field}
 use Rattle.format.specs.Layout.{Test, fine, fault, count_test, size_test, constraints_test, out_of_range, pair_test, row_test, longest}
 use Rattle.format.specs.Parse.{Parse, got, bad, bind, number_at, judged, field, wrong_under, wrong_length}
 use Rattle.format.proofs.Parse.{fine-row, row_out, row-blank}
@@ -24,29 +25,26 @@ use Rattle.read_field.specs.Fields.{read_as, read_of, range_test, Decides}
 
 -- ---- any parse that came to an answer
 
-pub read-got : {p : Parse ℕ} {r : Read} {v next : ℕ} → p ≡ read_of r → r ≡ Value v next → p ≡ got v next
+pub read-got : {p : Parse ℕ} {r : Result Field Refusal} {field : Field} → p ≡ read_of r → r ≡ Ok field → p ≡ got field.value field.next
 unfolding read_of
 read-got e q = e ∙ ap read_of q
 
-pub read-bad : {p : Parse ℕ} {r : Read} {c : Cause} {at : ℕ} → p ≡ read_of r → r ≡ Refused c at → p ≡ bad c at
+pub read-bad : {p : Parse ℕ} {r : Result Field Refusal} {refusal : Refusal} → p ≡ read_of r → r ≡ Err refusal → p ≡ bad refusal.cause refusal.place
 unfolding read_of
 read-bad e q = e ∙ ap read_of q
 
-pub as-got : {A : Type 0} (p : Parse A) (r : Read) (x : A) (v next : ℕ) → p ≡ read_as r x → r ≡ Value v next → p ≡ got x next
+pub as-got : {A : Type 0} (p : Parse A) (r : Result Field Refusal) (x : A) (field : Field) → p ≡ read_as r x → r ≡ Ok field → p ≡ got x field.next
 unfolding read_as
-as-got p r x v next e q = e ∙ ap (λ r. read_as r x) q
+as-got p r x field e q = e ∙ ap (λ r. read_as r x) q
 
-pub as-bad : {A : Type 0} (p : Parse A) (r : Read) (x : A) (c : Cause) (at : ℕ) → p ≡ read_as r x → r ≡ Refused c at → p ≡ bad c at
+pub as-bad : {A : Type 0} (p : Parse A) (r : Result Field Refusal) (x : A) (refusal : Refusal) → p ≡ read_as r x → r ≡ Err refusal
+    → p ≡ bad refusal.cause refusal.place
 unfolding read_as
-as-bad p r x c at e q = e ∙ ap (λ r. read_as r x) q
+as-bad p r x refusal e q = e ∙ ap (λ r. read_as r x) q
 
 -- No answer is both a value and a refusal.
-pub no_value : {A : Type 0} (c : Cause) (at v next : ℕ) → Refused c at ≡ Value v next → A
-no_value c at v next q = absurd (let z : ◌≡◌ {A = ℕ} 0 1 = cc in let x : ⊥ = omega arith in x)
-
--- What holds of a value that was answered.
-pub value-is : (P : ℕ → ℕ → Type 0) (v next w x : ℕ) → P v next → Value v next ≡ Value w x → P w x
-value-is P v next w x h q = rw (let m : v ≡ w = cc in m, let m : next ≡ x = cc in m) at h
+pub no_value : {A : Type 0} (refusal : Refusal) (field : Field) → ◌≡◌ {A = Result Field Refusal} (Err refusal) (Ok field) → A
+no_value refusal field q = absurd (let z : ◌≡◌ {A = ℕ} 0 1 = cc in let x : ⊥ = omega arith in x)
 
 -- What came of one parser and then another came of both.
 pub bind-got : {A B C : Type 0} {p : Parse A} {f : A → ℕ → Parse B} {y : B} {end : ℕ} → bind p f ≡ got y end
@@ -56,10 +54,10 @@ bind-got {p = got x next} e k = k x next refl e
 bind-got {p = bad c at} e k = absurd (let z : ◌≡◌ {A = ℕ} 0 1 = cc in let x : ⊥ = omega arith in x)
 
 -- An answer of which something is made.
-pub bind-as : {A B : Type 0} (r : Read) (x : A) (f : A → B) → bind (read_as r x) (λ y end. got (f y) end) ≡ read_as r (f x)
+pub bind-as : {A B : Type 0} (r : Result Field Refusal) (x : A) (f : A → B) → bind (read_as r x) (λ y end. got (f y) end) ≡ read_as r (f x)
 unfolding bind read_as
-bind-as (Value v next) x f = refl
-bind-as (Refused c at) x f = refl
+bind-as (Ok field) x f = refl
+bind-as (Err refusal) x f = refl
 
 -- ---- any field
 
@@ -70,17 +68,17 @@ pub record FieldGot (k : ℕ) (test : ℕ → Test) (bytes : List ℕ) (at v nex
   pub inside : next ≤ length bytes
 
 module _ (k : ℕ) (test : ℕ → Test) (bytes : List ℕ) (at : ℕ) where
-  pub field_cut : length bytes < at + k → field k test bytes at ≡ read_of (Refused Extent at)
+  pub field_cut : length bytes < at + k → field k test bytes at ≡ read_of (Err (record { cause = Extent; place = at }))
   unfolding field read_of
   field_cut h = if-true _ _ _ (lt-ltb _ _ h)
 
   pub field-fault : {v : ℕ} {c : Cause} → v ≡ number_at k bytes at → at + k ≤ length bytes → test v ≡ fault c
-      → field k test bytes at ≡ read_of (Refused c at)
+      → field k test bytes at ≡ read_of (Err (record { cause = c; place = at }))
   unfolding field judged read_of
   field-fault e h t = rw (le-ltb _ _ h, ← e, t) (if-false false _ _ refl)
 
   pub field-fine : {v next : ℕ} → v ≡ number_at k bytes at → next ≡ at + k → next ≤ length bytes → test v ≡ fine
-      → field k test bytes at ≡ read_of (Value v next)
+      → field k test bytes at ≡ read_of (Ok (record { value = v; next = next }))
   unfolding field judged read_of
   field-fine e p h t = rw (p, le-ltb (length bytes) (at + k) (rw p at h), ← e, t) (if-false false _ _ refl)
 

@@ -4,5 +4,5 @@
 mod field;
 mod header;
 
-pub use field::{Read, byte_field, pair_field, pair_passes, row_field};
+pub use field::{Field, byte_field, pair_field, pair_passes, row_field};
 pub use header::wrong_length;

@@ -1,6 +1,6 @@
 -- The number in one byte, in two and in four, and where rows of them stand.
 use mathlib.Core.List.{List}
-use mathlib.Core.Path.{◌≡◌}
+use mathlib.Core.Path.{◌≡◌, sym, ◌∙◌}
 use Prim.Native.Nat.{ℕ, suc, ◌+◌, ◌*◌, ◌/◌, ◌%◌, ◌≤◌, ◌<◌}
 use native.Mathlib.Nat.{mul-suc, mul-le-mul_left}
 use native.Mathlib.Numerals.{add-one}
@@ -9,6 +9,7 @@ use mir.Syntax.{w8, w16, w32, w64}
 use mir.Val.{Fits}
 use lib.ListN.{get_or}
 use Rattle.format.specs.Parse.{number_at}
+use Rattle.read_number.specs.Standing.{standing_at}
 
 -- What is known of the bytes of a slice, as the machine asks it.
 module _ (bytes : List ℕ) (known : (j : ℕ) → Fits w8 (get_or bytes j 0)) where
@@ -45,13 +46,27 @@ pub number-one : (bytes : List ℕ) (at : ℕ) → get_or bytes at 0 ≡ number_
 unfolding number_at
 number-one bytes at = omega arith
 
--- and in two, of which the first came to stand in the lowest bits.
-pub number-two : (bytes : List ℕ) (at : ℕ) → ((j : ℕ) → Fits w8 (get_or bytes j 0)) → (x : ℕ) → x ≡ get_or bytes (at + 1) 0 * 256 + get_or bytes at 0
-    → number_at 2 bytes at ≡ x % 256 * 256 + x / 256
-unfolding number_at
-number-two bytes at known x e = rw (← add-one at) (omega (arith, known at, known (at + 1)))
+-- and two and four as they stand: the first in the lowest bits.
+pub standing-two : (bytes : List ℕ) (at : ℕ) → get_or bytes (at + 1) 0 * 256 + get_or bytes at 0 ≡ standing_at 2 bytes at
+unfolding standing_at
+standing-two bytes at = rw (← add-one at) (omega arith)
 
--- Four bytes of a number: each byte is what x has of its weight.
+pub standing-four : (bytes : List ℕ) (at : ℕ)
+    → get_or bytes (at + 3) 0 * 16777216 + get_or bytes (at + 2) 0 * 65536 + get_or bytes (at + 1) 0 * 256 + get_or bytes at 0 ≡ standing_at 4 bytes at
+unfolding standing_at
+standing-four bytes at =
+    let one : suc at ≡ at + 1 = omega arith in
+    let two : suc (at + 1) ≡ at + 2 = omega arith in
+    let three : suc (at + 2) ≡ at + 3 = omega arith in
+    rw (one, two, three) (omega arith)
+
+-- Turned round they make the number in two bytes,
+pub number-two : (bytes : List ℕ) (at : ℕ) → ((j : ℕ) → Fits w8 (get_or bytes j 0)) → (x : ℕ) → x ≡ standing_at 2 bytes at
+    → x % 256 * 256 + x / 256 ≡ number_at 2 bytes at
+unfolding number_at
+number-two bytes at known x e = rw (← add-one at) (omega (arith, known at, known (at + 1), standing-two bytes at))
+
+-- and in four: each byte is what x has of its weight.
 low_digit : (q r y : ℕ) → r < 256 → y ≡ q * 256 + r → y % 256 ≡ r
 low_digit q r y h e = omega arith
 
@@ -64,16 +79,15 @@ digits {a} {b} {c} {d} x ha hb hc hd e =
     let highest : x / 16777216 ≡ d = omega arith in
     rw (lowest, second, third, highest)
 
-pub number-four : (bytes : List ℕ) (at : ℕ) → ((j : ℕ) → Fits w8 (get_or bytes j 0)) → (x : ℕ)
-    → x ≡ get_or bytes (at + 3) 0 * 16777216 + get_or bytes (at + 2) 0 * 65536 + get_or bytes (at + 1) 0 * 256 + get_or bytes at 0
-    → number_at 4 bytes at ≡ x % 256 * 16777216 + x / 256 % 256 * 65536 + x / 65536 % 256 * 256 + x / 16777216
+pub number-four : (bytes : List ℕ) (at : ℕ) → ((j : ℕ) → Fits w8 (get_or bytes j 0)) → (x : ℕ) → x ≡ standing_at 4 bytes at
+    → x % 256 * 16777216 + x / 256 % 256 * 65536 + x / 65536 % 256 * 256 + x / 16777216 ≡ number_at 4 bytes at
 unfolding number_at
 number-four bytes at known x e =
     let one : suc at ≡ at + 1 = omega arith in
     let two : suc (at + 1) ≡ at + 2 = omega arith in
     let three : suc (at + 2) ≡ at + 3 = omega arith in
     rw (one, two, three)
-    (omega (arith, digits x (known at) (known (at + 1)) (known (at + 2)) (known (at + 3)) e))
+    (omega (arith, digits x (known at) (known (at + 1)) (known (at + 2)) (known (at + 3)) (e ∙ sym (standing-four bytes at))))
 
 -- Of so many rows of k bytes each ends at or before the end of all.
 pub row_inside : (k : ℕ) {count a : ℕ} → a < count → k * a + k ≤ k * count

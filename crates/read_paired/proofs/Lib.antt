@@ -1,3 +1,4 @@
 pub mod OnePass
 pub mod Turned
 pub mod Walk
+pub mod Named

@@ -2,9 +2,10 @@
 use mathlib.Core.Bool.{Bool, true, false, ◌&&◌}
 use mathlib.Core.Bool as machine
 use mathlib.Core.Path.{◌≡◌, refl, sym, ap, ap₂, ◌∙◌}
-use Prim.Native.Nat.{ℕ, suc, ◌+◌, ◌^◌, ◌≤◌, ◌<◌}
+use Prim.Native.Nat.{ℕ, suc, ◌+◌, ◌-◌, ◌%◌, ◌^◌, ◌≤◌, ◌<◌}
 use native.Mathlib.Numerals.{add-one}
 use native.Mathlib.Omega.{arith}
+use lib.Bits.{bit_and, and_le_l}
 use lib.Dec.{eqb, leb, ltb}
 use lib.Pow.{pow_pos}
 use borrow.Author.Tests.{ltb-true, ltb-false, eqb-true, eqb-false, eq-eqb, le-leb, lt-leb, leb-true, leb-false}
@@ -13,7 +14,7 @@ use Rattle.bounded.specs.Fold.{every, some, count, first}
 use Rattle.bounded.proofs.Bool.{by_cases, bool-ext, not-true→false, and_i, and_l, and_r, or_comm, or-false-l, or-false-r, or-false-i, not-i, not-e, bit-true, bit-false, bit_le, machine-and}
 use Rattle.bounded.proofs.Fold.{every-i, every-e, every-cong, some-e, some-none, sum-cong, sum-add, count-cong, count-widen, count_none, count-pos, count-le}
 use Rattle.words.specs.Word.{has, word}
-use Rattle.words.proofs.Laws.{has-below, has-ruled, has-zero, word_lt, word-cong, word_none, empty, nonempty, crowded-dropped}
+use Rattle.words.proofs.Laws.{dropped-is, has-below, has-ruled, has-zero, word_lt, word-cong, word_none, empty, nonempty, crowded-dropped}
 use Rattle.format.specs.Profile.{rows_paired}
 use Rattle.format.proofs.Profile.{rows_pass}
 
@@ -53,16 +54,22 @@ count-one-or w x h l =
     (λ t. some-e w _ (nonempty w x h (eqb-false x 0 t)) λ v lv m. omega (arith, count-pos w (has x) v lv m, bit-false _ t))
 
 -- The test for two values: nothing is left past the lowest.
-pub none-past : (w : ℕ) {x : ℕ} → x ≡ 0 → eqb 0 0 ≡ leb (count w (has x)) 1
-none-past w e = eq-eqb 0 0 refl ∙ sym (le-leb (count w (has _)) 1 (omega (arith, count-empty w e)))
-
-pub dropped-past : (w x : ℕ) {d : ℕ} → x < 2 ^ w → (x ≡ 0 → ⊥) → d ≡ word w (λ (u : ℕ). and (has x u) (not (eqb u (first w (has x)))))
+dropped-past : (w x : ℕ) {d : ℕ} → x < 2 ^ w → (x ≡ 0 → ⊥) → d ≡ word w (λ (u : ℕ). and (has x u) (not (eqb u (first w (has x)))))
     → eqb d 0 ≡ leb (count w (has x)) 1
 dropped-past w x {d} h n de =
     let e = crowded-dropped w x h n de in
     by_cases (eqb d 0)
     (λ t. t ∙ sym (le-leb (count w (has x)) 1 (omega (arith, leb-false 2 (count w (has x)) (sym e ∙ ap machine.not t)))))
     (λ t. t ∙ sym (lt-leb (count w (has x)) 1 (omega (arith, leb-true 2 (count w (has x)) (sym e ∙ ap machine.not t)))))
+
+pub none-past : {x : ℕ} → x < 2 ^ 32 → eqb (bit_and x ((x + 4294967295) % 4294967296)) 0 ≡ leb (count 32 (has x)) 1
+none-past {x} h =
+    by_cases (eqb x 0)
+    (λ t. let z : x ≡ 0 = eqb-true x 0 t in
+    eq-eqb _ 0 (omega (arith, and_le_l x ((x + 4294967295) % 4294967296), z)) ∙ sym (le-leb (count 32 (has x)) 1 (omega (arith, count-empty 32 z))))
+    (λ t. let n = eqb-false x 0 t in
+    let e : (x + 4294967295) % 4294967296 ≡ x - 1 = omega arith in
+    rw e (dropped-past 32 x h n (dropped-is 32 x h (omega arith))))
 
 -- ---- the pass
 

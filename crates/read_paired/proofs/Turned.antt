@@ -5,7 +5,6 @@ use mathlib.Core.List.{List}
 use mathlib.Core.Path.{◌≡◌, refl, sym, ap, ap₂, ◌∙◌}
 use Prim.Native.Nat.{ℕ, zero, suc, ◌+◌, ◌-◌, ◌*◌, ◌/◌, ◌%◌, ◌^◌, ◌≤◌, ◌<◌}
 use native.Mathlib.Nat.{pow-suc}
-use native.Mathlib.Numerals.{add-one}
 use native.Mathlib.Omega.{arith}
 use lib.Dec.{leb}
 use lib.ListN.{get_or}
@@ -20,23 +19,8 @@ use Rattle.words.proofs.Laws.{has-digit, digit-is, has_word, word_mod}
 use Rattle.format.specs.Parse.{Octets, number_at}
 use Rattle.format.specs.Profile.{rows_paired}
 use Rattle.format.proofs.Numbers.{number-below}
-use Rattle.read_paired.specs.Standing.{standing_at}
+use Rattle.read_number.specs.Standing.{standing_at}
 use Rattle.read_paired.proofs.OnePass.{rows-widen}
-
--- ---- the bytes of a row
-
-pub standing-two : (bytes : List ℕ) (at : ℕ) → get_or bytes (at + 1) 0 * 256 + get_or bytes at 0 ≡ standing_at 2 bytes at
-unfolding standing_at
-standing-two bytes at = rw (← add-one at) (omega arith)
-
-pub standing-four : (bytes : List ℕ) (at : ℕ)
-    → get_or bytes (at + 3) 0 * 16777216 + get_or bytes (at + 2) 0 * 65536 + get_or bytes (at + 1) 0 * 256 + get_or bytes at 0 ≡ standing_at 4 bytes at
-unfolding standing_at
-standing-four bytes at =
-    let one : suc at ≡ at + 1 = omega arith in
-    let two : suc (at + 1) ≡ at + 2 = omega arith in
-    let three : suc (at + 2) ≡ at + 3 = omega arith in
-    rw (one, two, three) (omega arith)
 
 -- ---- bits of a number in two parts
 

@@ -1,3 +1,3 @@
--- A sheet that was accepted, and its bytes as they stand.
+-- A sheet that was accepted.
 pub mod Accepted
-pub mod Standing
+pub mod Named

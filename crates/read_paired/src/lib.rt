@@ -8,73 +8,37 @@ ghost use Rattle.words.specs.Word.{width, has};
 ghost use Rattle.format.specs.Parse.{number_at};
 ghost use Rattle.format.specs.Profile.{rows_paired, unpaired_place};
 ghost use Rattle.read_number.specs.Bytes.{RowBytes};
+ghost use Rattle.read_number.specs.Standing.{standing_at};
 ghost use Rattle.read_paired.specs.Accepted.{Accepted};
-ghost use Rattle.read_paired.specs.Standing.{standing_at};
+ghost use Rattle.read_paired.specs.Named.{place_named};
 
-use words::{count, dropped, either, wide};
+use read_number::standing;
+use words::{count, either, wide};
 
 // The bytes of a row: two in version 1, and four in those after it.
 fn row_bytes(version: u8) -> usize
     ensures { result ≡ if (eqb version 1) 2 4 }
 {
-    if version == 1 {
-        return 2;
-    }
-    4
-}
-
-// Two bytes as they stand, the first in the lowest bits: one load. Turning them round changes neither how many values a row has nor whether rows share one.
-fn two(bytes: &[u8], at: usize) -> u16
-    requires { at + 2 ≤ length bytes.now }
-    ensures { result ≡ standing_at 2 bytes.now at }
-{
-    bytes[at + 1] as u16 * 256 + bytes[at] as u16
-}
-
-// Four bytes as they stand.
-fn four(bytes: &[u8], at: usize) -> u32
-    requires { at + 4 ≤ length bytes.now }
-    ensures { result ≡ standing_at 4 bytes.now at }
-{
-    bytes[at + 3] as u32 * 16777216
-        + bytes[at + 2] as u32 * 65536
-        + bytes[at + 1] as u32 * 256
-        + bytes[at] as u32
-}
-
-// The row of `k` bytes, two or four, as they stand.
-fn standing(bytes: &[u8], at: usize, k: usize) -> u32
-    requires { RowBytes k × (at + k ≤ length bytes.now) }
-    ensures { result ≡ standing_at k bytes.now at }
-{
-    if k == 2 {
-        return two(bytes, at) as u32;
-    }
-    four(bytes, at)
+    if version == 1 { 2 } else { 4 }
 }
 
 // The values of a row past its lowest one: some, if it has two.
 fn past_lowest(row: u32) -> u32
     ensures { eqb result 0 ≡ leb (count width (has row)) 1 }
 {
-    if row == 0 {
-        return 0;
-    }
-    dropped(row)
+    row & row.wrapping_sub(1)
 }
 
 // 1 for a row that has no value.
 fn blank(row: u32) -> u32
     ensures { result ≡ bit (eqb row 0) }
 {
-    if row == 0 {
-        return 1;
-    }
-    0
+    u32::from(row == 0)
 }
 
-// So many rows of `k` bytes each: a table of them is functional both ways. Where no row has two values they have as many values together as rows are not
-// blank, unless two rows share one. The pass has no branch, so that the compiler takes several rows at once.
+// So many rows of `k` bytes each, as they stand: a table of them is functional both ways. Turning their bytes round changes neither how many values a row has
+// nor whether rows share one. Where no row has two values they have as many values together as rows are not blank, unless two rows share one. The pass has no
+// branch, so that the compiler takes several rows at once.
 fn pass_rows(bytes: &[u8], from: usize, k: usize, rows: usize) -> bool
     requires { RowBytes k × (from + k * rows ≤ length bytes.now) × (rows < 256) }
     ensures { result ≡ rows_paired rows width (λ (a : ℕ). standing_at k bytes.now (from + k * a)) }
@@ -102,10 +66,10 @@ fn rows_paired(bytes: &[u8], from: usize, k: usize, rows: usize) -> bool
     pass_rows(bytes, from, 4, rows)
 }
 
-// The place of the first such pair, or 0: no table stands at the first byte.
-pub fn unpaired_place(bytes: &[u8]) -> usize
+// The place of the first such pair, if there is one.
+pub fn unpaired_place(bytes: &[u8]) -> Option<usize>
     requires { Accepted bytes.now }
-    ensures { result ≡ unpaired_place bytes.now }
+    ensures { result ≡ place_named (unpaired_place bytes.now) }
 {
     let k = row_bytes(bytes[0]);
     let n = wide(bytes[3]);
@@ -116,9 +80,9 @@ pub fn unpaired_place(bytes: &[u8]) -> usize
         let rows = wide(bytes[3 + a]);
         let first = at + 2;
         if !rows_paired(bytes, first, k, rows) {
-            return at;
+            return Some(at);
         }
         at = first + k * rows;
     }
-    0
+    None
 }

@@ -6,10 +6,8 @@ use Prim.Native.Nat.{ℕ, zero, suc, ◌+◌, ◌-◌, ◌*◌, ◌^◌, ◌≤�
 use native.Mathlib.Nat.{mul-suc, mul-zero, mul-le-mul, pow-le-pow_right}
 use native.Mathlib.Numerals.{add-one}
 use native.Mathlib.Omega.{arith}
-use mir.Syntax.{w8}
-use mir.Val.{Fits}
 use lib.Dec.{ltb}
-use lib.ListN.{length, get_or}
+use lib.ListN.{length}
 use borrow.Author.Tests.{ltb-true, lt-ltb}
 use Rattle.bounded.specs.Bool.{or, implies}
 use Rattle.bounded.specs.Fold.{every, some}
@@ -26,8 +24,7 @@ use Rattle.format.specs.Parse.{Octets, got, bad, number_at, field, many, fields}
 use Rattle.format.proofs.Numbers.{number-below}
 use Rattle.format.proofs.Parse.{fine-row, row-of-fine}
 use Rattle.read_number.proofs.Numbers.{row_inside}
-use Rattle.read_field.specs.declared.field.Read.{Read}
-use Rattle.read_field.specs.declared.field.Read.TheVariants.{Value, Refused}
+use Rattle.std.specs.Prelude.{Ok, Err}
 use Rattle.read_field.specs.Fields.{read_as, read_of}
 use Rattle.read_field.proofs.Fields.{FieldGot, field-got, field-fine, bind-got}
 use Rattle.read_field.proofs.Many.{prepend, prepend-none, fields-end, fields-go-on, fields-stop}
@@ -74,11 +71,11 @@ module _ {k : ℕ} {test : ℕ → Test} {bytes : List ℕ} {from count at a : �
       }
 
   pub rows-refused : a < count → {c : Cause} {place : ℕ} → field k test bytes at ≡ bad c place
-      → RowsWalked k test bytes from count (Refused c place)
+      → RowsWalked k test bytes from count (Err (record { cause = c; place = place }))
   unfolding read_as
   rows-refused l {c} {place} e = fields-stop k test bytes _ _ (count - a) at so_far.parsed (count - suc a) (omega arith) c place e
 
-  pub rows_end : count ≤ a → RowsWalked k test bytes from count (Value count at)
+  pub rows_end : count ≤ a → RowsWalked k test bytes from count (Ok (record { value = count; next = at }))
   unfolding read_as
   rows_end h =
       let e : a ≡ count = omega (arith, so_far.within) in

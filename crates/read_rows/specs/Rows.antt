@@ -1,10 +1,11 @@
 -- The rows of a table in its bytes, and what reading them leaves behind in an array of rows of w bits.
-use Rattle.std.specs.Prelude.{Bool, true, List, ◌≡◌, ℕ, ◌+◌, ◌*◌, ◌≤◌, ◌<◌, ltb, length}
+use Rattle.std.specs.Prelude.{Bool, true, List, ◌≡◌, ℕ, ◌+◌, ◌*◌, ◌≤◌, ◌<◌, ltb, length, Result}
 use Rattle.bounded.specs.Fold.{every, some}
 use Rattle.bounded.specs.Table.{tabulate}
 use Rattle.words.specs.Word.{has, word}
 use Rattle.pairs.specs.Frames.{Stored}
-use Rattle.read_field.specs.declared.field.Read.{Read}
+use Rattle.cause.specs.declared.Refusal.{Refusal}
+use Rattle.read_field.specs.declared.field.Field.{Field}
 use Rattle.read_field.specs.Fields.{read_as, Decides}
 use Rattle.format.specs.Layout.{Test, fine}
 use Rattle.format.specs.Parse.{number_at, fields}
@@ -34,5 +35,5 @@ pub record RowsTaken (w k : ℕ) (test : ℕ → Test) (bytes : List ℕ) (from 
   pub stored : r ≡ true → RowsStored w k bytes from i j count before after
 
 -- The rows parsed, by a row test, are those in the bytes.
-abbrev pub RowsWalked : ℕ → (ℕ → Test) → List ℕ → ℕ → ℕ → Read → Type 0
+abbrev pub RowsWalked : ℕ → (ℕ → Test) → List ℕ → ℕ → ℕ → Result Field Refusal → Type 0
 RowsWalked k test bytes from count r = fields k test count bytes from ≡ read_as r (tabulate count (row_in k bytes from))

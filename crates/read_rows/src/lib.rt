@@ -9,8 +9,9 @@ ghost use Rattle.format.specs.Layout.{row_test};
 ghost use Rattle.read_number.specs.Bytes.{RowBytes};
 ghost use Rattle.read_rows.specs.Rows.{RowsJoined, RowsTaken, RowsWalked};
 
+use cause::Refusal;
 use pairs::Rows;
-use read_field::Read;
+use read_field::Field;
 
 // What rows have together, and whether none of them is all-zero.
 #[derive(Clone, Copy)]
@@ -99,17 +100,17 @@ pub fn walk_rows(
     count: usize,
     size: usize,
     filled: bool,
-) -> Read
+) -> Result<Field, Refusal>
     requires { (from ≤ length bytes.now) × RowBytes k × (size ≤ width) }
     ensures { RowsWalked k (row_test filled size) bytes.now from count result }
 {
     let mut at = from;
     for _ in 0..count {
-        let row = read_field::row_field(bytes, at, size, k, filled);
-        let Read::Value(_, next) = row else {
-            return row;
-        };
-        at = next;
+        let row = read_field::row_field(bytes, at, size, k, filled)?;
+        at = row.next;
     }
-    Read::Value(count, at)
+    Ok(Field {
+        value: count,
+        next: at,
+    })
 }

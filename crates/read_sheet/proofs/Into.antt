@@ -6,8 +6,9 @@ use Prim.Native.Nat.{ℕ, ◌<◌}
 use native.Mathlib.Omega.{arith}
 use lib.ListN.{length, get_or}
 use Rattle.cause.specs.declared.Cause.TheVariants.{Length, Version}
-use Rattle.read_field.specs.declared.field.Read.{Read}
-use Rattle.read_field.specs.declared.field.Read.TheVariants.{Refused}
+use Rattle.std.specs.Prelude.{Result, Err}
+use Rattle.cause.specs.declared.Refusal.{Refusal}
+use Rattle.read_field.specs.declared.field.Field.{Field}
 use Rattle.format.specs.Layout.{Layout, found, layout_of}
 use Rattle.format.specs.Parse.{wrong_length, parse}
 use Rattle.format.proofs.Layouts.{other-unknown}
@@ -21,16 +22,16 @@ some_byte bytes right = omega (arith, (length-fits bytes right).at_least_three)
 
 module _ (bytes : List ℕ) {sizes stated rows : List ℕ} where
   -- 1 before all else.
-  pub into-wrong-length : wrong_length bytes ≡ true → SheetRead (parse bytes) sizes stated rows (Refused Length 0)
+  pub into-wrong-length : wrong_length bytes ≡ true → SheetRead (parse bytes) sizes stated rows (Err (record { cause = Length; place = 0 }))
   into-wrong-length h = sheet-refused _ sizes stated rows Length 0 (parse-wrong-length bytes h)
 
   module _ (right : wrong_length bytes ≡ false) where
     -- Then 2.
     pub into-wrong-version : (get_or bytes 0 0 ≡ 1 → ⊥) → (get_or bytes 0 0 ≡ 2 → ⊥) → (get_or bytes 0 0 ≡ 3 → ⊥)
-        → SheetRead (parse bytes) sizes stated rows (Refused Version 0)
+        → SheetRead (parse bytes) sizes stated rows (Err (record { cause = Version; place = 0 }))
     into-wrong-version h k l = sheet-refused _ sizes stated rows Version 0 (parse-wrong-version bytes right (other-unknown _ h k l))
 
     -- Then the fields, in the layout of the version.
     pub into-body : (L : Layout) → layout_of (get_or bytes 0 0) ≡ found L
-        → {r : Read} → BodyRead bytes L.bytes_per_row L.filled L.values_at_most sizes stated rows r → SheetRead (parse bytes) sizes stated rows r
+        → {r : Result Field Refusal} → BodyRead bytes L.bytes_per_row L.filled L.values_at_most sizes stated rows r → SheetRead (parse bytes) sizes stated rows r
     into-body L version body = rw (parse-is-body bytes right L version) (body L (record { row_bytes = refl; rows_filled = refl }) refl)

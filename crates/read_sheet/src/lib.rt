@@ -6,10 +6,10 @@ ghost use Rattle.pairs.specs.Pairs.{variables};
 ghost use Rattle.format.specs.Parse.{parse};
 ghost use Rattle.read_body.specs.Reading.{SheetRead};
 
-use cause::Cause;
+use cause::{Cause, Refusal};
 use pairs::{Rows, VARIABLES};
 use read_body::read_body;
-use read_field::Read;
+use read_field::Field;
 
 // Reads a sheet; the value is n. After a refusal the arrays hold what had been read. A sheet of version 1 has rows of two bytes, and sizes to 16; one of
 // version 2 has rows of four bytes, and sizes to 32; one of version 3 the same, and no all-zero row.
@@ -18,12 +18,15 @@ pub fn read_into(
     sizes: &mut [u8; VARIABLES],
     stated: &mut [u32; VARIABLES],
     rows: &mut Rows,
-) -> Read
+) -> Result<Field, Refusal>
     requires { (sizes.old ≡ replicate variables 0) × (stated.old ≡ replicate variables 0) × (rows.old ≡ replicate 3840 0) }
     ensures { SheetRead (parse bytes.now) sizes.new stated.new rows.new result }
 {
     if read_field::wrong_length(bytes) {
-        return Read::Refused(Cause::Length, 0);
+        return Err(Refusal {
+            cause: Cause::Length,
+            place: 0,
+        });
     }
     let version = bytes[0];
     if version == 1 {
@@ -35,5 +38,8 @@ pub fn read_into(
     if version == 3 {
         return read_body(bytes, 4, 32, true, sizes, stated, rows);
     }
-    Read::Refused(Cause::Version, 0)
+    Err(Refusal {
+        cause: Cause::Version,
+        place: 0,
+    })
 }

@@ -12,8 +12,9 @@ use Rattle.words.specs.Word.{width}
 use Rattle.pairs.specs.Pairs.{variables}
 use Rattle.cause.specs.declared.Cause.{Cause}
 use Rattle.network.specs.Sheet.{Table}
-use Rattle.read_field.specs.declared.field.Read.{Read}
-use Rattle.read_field.specs.declared.field.Read.TheVariants.{Value, Refused}
+use Rattle.std.specs.Prelude.{Some, None, Result, Ok, Err}
+use Rattle.cause.specs.declared.Refusal.{Refusal}
+use Rattle.read_field.specs.declared.field.Field.{Field}
 use Rattle.format.specs.Layout.{Test, Layout, fine, pair_test, row_test}
 use Rattle.format.specs.Parse.{got, bad, bind, number_at, field, fields, pair_of, size_of, parse_table, parse_tables}
 use Rattle.format.proofs.Pairs.{pair-of-fine}
@@ -21,8 +22,6 @@ use Rattle.read_field.specs.Fields.{read_as}
 use Rattle.read_rows.specs.Rows.{row_in, RowsTaken, RowsWalked}
 use Rattle.read_rows.proofs.Rows.{parsed-fine, fine-parsed}
 use Rattle.read_tables.specs.Tables.{RowsIn, Sized, marked, Held, TableIn, NoTable, TableTaken, TableWalked, TablesRead, TablesStop, TablesTaken}
-use Rattle.read_tables.specs.declared.Taken.TheVariants as taken
-use Rattle.read_tables.specs.declared.Stop.TheVariants as stop
 use Rattle.read_field.proofs.Fields.{FieldGot, no_value, field-got, bind-got, bind-as}
 use Rattle.read_tables.proofs.Held.{held_none, held_more}
 use Rattle.read_field.proofs.Many.{prepend, many-begins, many-ends, many-goes-on, many-stops}
@@ -84,7 +83,7 @@ module _ {n : ℕ} {sizes : List ℕ} (sized : Sized n sizes) (few : n ≤ varia
   module _ (bytes : List ℕ) (at : ℕ) {k : ℕ} {filled : Bool} (previous : ℕ) where
     -- The pair is refused: in the walk,
     pub pair-walked : {c : Cause} {place : ℕ} → field 2 (pair_test n previous) bytes at ≡ bad c place
-        → TableWalked bytes at k filled n previous sizes (Refused c place)
+        → TableWalked bytes at k filled n previous sizes (Err (record { cause = c; place = place }))
     unfolding parse_table bind read_as
     pair-walked e = record { table = no_table; parsed = λ L told. rw (taken-length, e) }
 
@@ -110,7 +109,7 @@ module _ {n : ℕ} {sizes : List ℕ} (sized : Sized n sizes) (few : n ≤ varia
           )
 
       -- The rows are walked.
-      pub rows_walked : {r : Read}
+      pub rows_walked : {r : Result Field Refusal}
           → RowsWalked k (row_test filled (get_or sizes (pair % 256 - 1) 0)) bytes next (get_or sizes (pair / 256 - 1) 0) r
           → TableWalked bytes at k filled n previous sizes r
       unfolding table_at
@@ -160,17 +159,17 @@ module _
     {bytes : List ℕ} {at k : ℕ} {filled : Bool} {n previous : ℕ} {sizes stated rows stated' rows' : List ℕ}
   where
     pub taken-one : {pair next : ℕ} → TableIn bytes at k filled n previous sizes stated rows stated' rows' pair next
-        → TableTaken bytes at k filled n previous sizes stated rows stated' rows' (taken.One pair next)
+        → TableTaken bytes at k filled n previous sizes stated rows stated' rows' (Some (record { value = pair; next = next }))
     taken-one {pair} {next} i =
         record {
-          one = λ p x q. rw (let m : pair ≡ p = cc in m, let m : next ≡ x = cc in m) at i;
+          one = λ field q. rw (let m : pair ≡ field.value = cc in m, let m : next ≡ field.next = cc in m) at i;
           none = λ q. absurd (let z : ◌≡◌ {A = ℕ} 0 1 = cc in let x : ⊥ = omega arith in x);
         }
 
-    pub taken_none : NoTable bytes at k filled n previous sizes → TableTaken bytes at k filled n previous sizes stated rows stated' rows' taken.Fault
+    pub taken_none : NoTable bytes at k filled n previous sizes → TableTaken bytes at k filled n previous sizes stated rows stated' rows' None
     taken_none i =
         record {
-          one = λ p x q. absurd (let z : ◌≡◌ {A = ℕ} 0 1 = cc in let y : ⊥ = omega arith in y);
+          one = λ field q. absurd (let z : ◌≡◌ {A = ℕ} 0 1 = cc in let y : ⊥ = omega arith in y);
           none = λ q. i;
         }
 
@@ -199,14 +198,14 @@ module _
     {bytes : List ℕ} {from k : ℕ} {filled : Bool} {n count : ℕ} {sizes stated rows : List ℕ} {at previous t : ℕ}
     (so_far : TablesSoFar bytes from k filled n count sizes stated rows at previous t)
   where
-    pub tables_end : count ≤ t → TablesRead bytes from k filled n count sizes stated rows (Value count at)
+    pub tables_end : count ≤ t → TablesRead bytes from k filled n count sizes stated rows (Ok (record { value = count; next = at }))
     unfolding parse_tables read_as
     tables_end h =
         record {
           tables = so_far.done;
           parsed = λ L told. many-ends _ _ _ bytes so_far.done (count - t) previous at (so_far.parsed L told) (omega arith);
           last = previous;
-          held = λ v next q. so_far.held;
+          held = λ end q. so_far.held;
         }
 
     module _ (one_left : t < count) where
@@ -238,33 +237,33 @@ module _
 
 -- Where taking tables stopped.
 module _ {bytes : List ℕ} {from k : ℕ} {filled : Bool} {n count : ℕ} {sizes stated rows : List ℕ} where
-  pub stop-end : {end : ℕ} → TablesRead bytes from k filled n count sizes stated rows (Value count end)
-      → TablesTaken bytes from k filled n count sizes stated rows (stop.End end)
+  pub stop-end : {end : ℕ} → TablesRead bytes from k filled n count sizes stated rows (Ok (record { value = count; next = end }))
+      → TablesTaken bytes from k filled n count sizes stated rows (Ok end)
   stop-end {end} all =
       record {
         ended = λ x q. rw (let m : end ≡ x = cc in m) at all;
-        stopped = λ x y q. absurd (let z : ◌≡◌ {A = ℕ} 0 1 = cc in let w : ⊥ = omega arith in w);
+        stopped = λ stop q. absurd (let z : ◌≡◌ {A = ℕ} 0 1 = cc in let w : ⊥ = omega arith in w);
       }
 
   pub stop-fault : {at previous : ℕ} → TablesStop bytes from k filled n count sizes at previous
-      → TablesTaken bytes from k filled n count sizes stated rows (stop.Fault at previous)
+      → TablesTaken bytes from k filled n count sizes stated rows (Err (record { at = at; previous = previous }))
   stop-fault {at} {previous} here =
       record {
         ended = λ x q. absurd (let z : ◌≡◌ {A = ℕ} 0 1 = cc in let w : ⊥ = omega arith in w);
-        stopped = λ x y q. rw (let m : at ≡ x = cc in m, let m : previous ≡ y = cc in m) at here;
+        stopped = λ stop q. rw (let m : at ≡ stop.at = cc in m, let m : previous ≡ stop.previous = cc in m) at here;
       }
 
   -- A table that is refused, walked: what it answers is the answer of all. It can't be a table.
-  pub tables-walked : {at previous : ℕ} → TablesStop bytes from k filled n count sizes at previous → {r : Read} → TableWalked bytes at k filled n previous sizes r
+  pub tables-walked : {at previous : ℕ} → TablesStop bytes from k filled n count sizes at previous → {r : Result Field Refusal} → TableWalked bytes at k filled n previous sizes r
       → TablesRead bytes from k filled n count sizes stated rows r
   unfolding read_as
-  tables-walked here {r = Value v next} walked =
-      absurd (here.none (record { version = 0; bytes_per_row = k; values_at_most = 0; filled = filled }) (record { row_bytes = refl; rows_filled = refl }) walked.table next
+  tables-walked here {r = Ok field} walked =
+      absurd (here.none (record { version = 0; bytes_per_row = k; values_at_most = 0; filled = filled }) (record { row_bytes = refl; rows_filled = refl }) walked.table field.next
       (walked.parsed _ (record { row_bytes = refl; rows_filled = refl })))
-  tables-walked here {r = Refused c place} walked =
+  tables-walked here {r = Err refusal} walked =
       record {
         tables = [];
-        parsed = λ L told. here.refuses L told c place (walked.parsed L told);
+        parsed = λ L told. here.refuses L told refusal.cause refusal.place (walked.parsed L told);
         last = 0;
-        held = λ v next. no_value c place v next;
+        held = λ end. no_value refusal end;
       }

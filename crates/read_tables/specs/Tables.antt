@@ -1,20 +1,17 @@
 -- What the functions that read tables leave behind: their contracts.
-use Rattle.std.specs.Prelude.{Bool, true, List, [], ◌∷◌, ◌++◌, ◌≡◌, ℕ, suc, ◌+◌, ◌*◌, ◌≤◌, ◌<◌, eqb, length, get_or, set, take}
+use Rattle.std.specs.Prelude.{Bool, true, List, [], ◌∷◌, ◌++◌, ◌≡◌, ℕ, suc, ◌+◌, ◌*◌, ◌≤◌, ◌<◌, eqb, length, get_or, set, take, Option, Some, None, Result, Ok, Err}
 use Rattle.bounded.specs.Bool.{or}
 use Rattle.words.specs.Word.{width, has, word}
 use Rattle.network.specs.Sheet.{Table, tabled, row_for}
 use Rattle.pairs.specs.Pairs.{variables, allows_of}
 use Rattle.pairs.specs.Frames.{Words}
-use Rattle.read_field.specs.declared.field.Read.{Read}
-use Rattle.read_field.specs.declared.field.Read.TheVariants.{Value}
 use Rattle.cause.specs.declared.Cause.{Cause}
+use Rattle.cause.specs.declared.Refusal.{Refusal}
+use Rattle.read_field.specs.declared.field.Field.{Field}
 use Rattle.format.specs.Layout.{Layout}
 use Rattle.format.specs.Parse.{got, bad, pair_of, parse_table, parse_tables}
 use Rattle.read_field.specs.Fields.{read_as}
-use Rattle.read_tables.specs.declared.Taken.{Taken}
-use Rattle.read_tables.specs.declared.Taken.TheVariants as taken
 use Rattle.read_tables.specs.declared.Stop.{Stop}
-use Rattle.read_tables.specs.declared.Stop.TheVariants as stop
 
 -- What reading is told of a layout's rows: how many bytes each has, and whether one may be all-zero.
 pub record RowsIn (L : Layout) (k : ℕ) (filled : Bool) : Type 0 where
@@ -65,21 +62,21 @@ NoTable bytes at k filled n previous sizes =
     (L : Layout) → RowsIn L k filled → (table : Table) (end : ℕ) → parse_table L (take n sizes) previous bytes at ≡ got table end → ⊥
 
 -- A table is taken exactly where one is parsed.
-pub record TableTaken (bytes : List ℕ) (at k : ℕ) (filled : Bool) (n previous : ℕ) (sizes stated rows stated' rows' : List ℕ) (r : Taken) : Type 0 where
-  pub one : (pair next : ℕ) → r ≡ taken.One pair next → TableIn bytes at k filled n previous sizes stated rows stated' rows' pair next
-  pub none : r ≡ taken.Fault → NoTable bytes at k filled n previous sizes
+pub record TableTaken (bytes : List ℕ) (at k : ℕ) (filled : Bool) (n previous : ℕ) (sizes stated rows stated' rows' : List ℕ) (r : Option Field) : Type 0 where
+  pub one : (pair : Field) → r ≡ Some pair → TableIn bytes at k filled n previous sizes stated rows stated' rows' pair.value pair.next
+  pub none : r ≡ None → NoTable bytes at k filled n previous sizes
 
 -- A table parsed, in every layout of such rows; nothing is stored.
-pub record TableWalked (bytes : List ℕ) (at k : ℕ) (filled : Bool) (n previous : ℕ) (sizes : List ℕ) (r : Read) : Type 0 where
+pub record TableWalked (bytes : List ℕ) (at k : ℕ) (filled : Bool) (n previous : ℕ) (sizes : List ℕ) (r : Result Field Refusal) : Type 0 where
   pub table : Table
   pub parsed : (L : Layout) → RowsIn L k filled → parse_table L (take n sizes) previous bytes at ≡ read_as r table
 
 -- All tables parsed, and where none is refused, the arrays hold them.
-pub record TablesRead (bytes : List ℕ) (from k : ℕ) (filled : Bool) (n count : ℕ) (sizes stated rows : List ℕ) (r : Read) : Type 0 where
+pub record TablesRead (bytes : List ℕ) (from k : ℕ) (filled : Bool) (n count : ℕ) (sizes stated rows : List ℕ) (r : Result Field Refusal) : Type 0 where
   pub tables : List Table
   pub parsed : (L : Layout) → RowsIn L k filled → parse_tables L (take n sizes) count 0 bytes from ≡ read_as r tables
   pub last : ℕ
-  pub held : (v next : ℕ) → r ≡ Value v next → Held tables last stated rows
+  pub held : (end : Field) → r ≡ Ok end → Held tables last stated rows
 
 -- The table at a place is the first that is refused: what refuses it refuses all.
 pub record TablesStop (bytes : List ℕ) (from k : ℕ) (filled : Bool) (n count : ℕ) (sizes : List ℕ) (at previous : ℕ) : Type 0 where
@@ -89,6 +86,6 @@ pub record TablesStop (bytes : List ℕ) (from k : ℕ) (filled : Bool) (n count
       → parse_tables L (take n sizes) count 0 bytes from ≡ bad c place
 
 -- All tables taken, or those before the first that is refused.
-pub record TablesTaken (bytes : List ℕ) (from k : ℕ) (filled : Bool) (n count : ℕ) (sizes stated rows : List ℕ) (r : Stop) : Type 0 where
-  pub ended : (end : ℕ) → r ≡ stop.End end → TablesRead bytes from k filled n count sizes stated rows (Value count end)
-  pub stopped : (at previous : ℕ) → r ≡ stop.Fault at previous → TablesStop bytes from k filled n count sizes at previous
+pub record TablesTaken (bytes : List ℕ) (from k : ℕ) (filled : Bool) (n count : ℕ) (sizes stated rows : List ℕ) (r : Result ℕ Stop) : Type 0 where
+  pub ended : (end : ℕ) → r ≡ Ok end → TablesRead bytes from k filled n count sizes stated rows (Ok (record { value = count; next = end }))
+  pub stopped : (stop : Stop) → r ≡ Err stop → TablesStop bytes from k filled n count sizes stop.at stop.previous

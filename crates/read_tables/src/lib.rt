@@ -6,8 +6,9 @@ ghost use Rattle.pairs.specs.Pairs.{variables};
 ghost use Rattle.read_number.specs.Bytes.{RowBytes};
 ghost use Rattle.read_tables.specs.Tables.{Sized, marked, TableTaken, TableWalked, TablesTaken, TablesRead};
 
+use cause::Refusal;
 use pairs::{Rows, VARIABLES};
-use read_field::Read;
+use read_field::Field;
 
 // States `j` with `i`, on the side of `i`.
 fn mark(stated: &mut [u32; VARIABLES], i: usize, j: usize)
@@ -17,25 +18,15 @@ fn mark(stated: &mut [u32; VARIABLES], i: usize, j: usize)
     stated[i] = words::either(stated[i], words::single(j));
 }
 
-// What taking a table comes to.
+// Where a table that is refused stands, and the pair before it.
 #[derive(Clone, Copy)]
-enum Taken {
-    // Its pair, and the place after it.
-    One(usize, usize),
-    // Something in it is refused.
-    Fault,
+struct Stop {
+    at: usize,
+    previous: usize,
 }
 
-// Where taking tables stops.
-#[derive(Clone, Copy)]
-enum Stop {
-    // The place after the last.
-    End(usize),
-    // The place of a table that is refused, and the pair before it.
-    Fault(usize, usize),
-}
-
-// Takes one table, its pair after `previous`: states the pair on both sides and stores its rows. Why and where one is refused is not found out here.
+// Takes one table, its pair after `previous`: states the pair on both sides and stores its rows. What is read is the pair. Why and where a table is refused
+// is not found out here.
 fn take_table(
     bytes: &[u8],
     at: usize,
@@ -46,18 +37,18 @@ fn take_table(
     sizes: &[u8; VARIABLES],
     stated: &mut [u32; VARIABLES],
     rows: &mut Rows,
-) -> Taken
+) -> Option<Field>
     requires { (at ≤ length bytes.now) × RowBytes k × (n ≤ variables) × (length rows.old ≡ 3840) × Sized n sizes.now }
     ensures { TableTaken bytes.now at k filled n previous sizes.now
         stated.old rows.old stated.new rows.new result }
 {
     let first_row = at + 2;
     if bytes.len() < first_row {
-        return Taken::Fault;
+        return None;
     }
     let pair = read_number::number(bytes, at, 2) as usize;
     if !read_field::pair_passes(pair, n, previous) {
-        return Taken::Fault;
+        return None;
     }
     let i = pair / 256 - 1;
     let j = pair % 256 - 1;
@@ -66,12 +57,15 @@ fn take_table(
     let count = sizes[i] as usize;
     let size = sizes[j] as usize;
     if !read_rows::take_rows(bytes, first_row, k, i, j, count, size, filled, rows) {
-        return Taken::Fault;
+        return None;
     }
-    Taken::One(pair, first_row + k * count)
+    Some(Field {
+        value: pair,
+        next: first_row + k * count,
+    })
 }
 
-// Takes so many tables, up to the first that is refused.
+// Takes so many tables, up to the first that is refused: the place after the last.
 fn take_tables(
     bytes: &[u8],
     from: usize,
@@ -82,7 +76,7 @@ fn take_tables(
     sizes: &[u8; VARIABLES],
     stated: &mut [u32; VARIABLES],
     rows: &mut Rows,
-) -> Stop
+) -> Result<usize, Stop>
     requires { (from ≤ length bytes.now) × RowBytes k × (n ≤ variables) × (stated.old ≡ replicate variables 0) × (rows.old ≡ replicate 3840 0) × Sized n sizes.now }
     ensures { TablesTaken bytes.now from k filled n count sizes.now stated.new rows.new result }
 {
@@ -90,13 +84,13 @@ fn take_tables(
     let mut previous = 0;
     for _ in 0..count {
         let table = take_table(bytes, at, k, filled, n, previous, sizes, stated, rows);
-        let Taken::One(pair, next) = table else {
-            return Stop::Fault(at, previous);
+        let Some(pair) = table else {
+            return Err(Stop { at, previous });
         };
-        previous = pair;
-        at = next;
+        previous = pair.value;
+        at = pair.next;
     }
-    Stop::End(at)
+    Ok(at)
 }
 
 // The fields of one table one by one, up to the first that is refused: why, and where.
@@ -108,17 +102,14 @@ fn walk_table(
     n: usize,
     previous: usize,
     sizes: &[u8; VARIABLES],
-) -> Read
+) -> Result<Field, Refusal>
     requires { (at ≤ length bytes.now) × RowBytes k × (n ≤ variables) × Sized n sizes.now }
     ensures { TableWalked bytes.now at k filled n previous sizes.now result }
 {
-    let head = read_field::pair_field(bytes, at, n, previous);
-    let Read::Value(pair, next) = head else {
-        return head;
-    };
-    let count = sizes[pair / 256 - 1] as usize;
-    let size = sizes[pair % 256 - 1] as usize;
-    read_rows::walk_rows(bytes, next, k, count, size, filled)
+    let pair = read_field::pair_field(bytes, at, n, previous)?;
+    let count = sizes[pair.value / 256 - 1] as usize;
+    let size = sizes[pair.value % 256 - 1] as usize;
+    read_rows::walk_rows(bytes, pair.next, k, count, size, filled)
 }
 
 // So many tables. Only one that is refused is walked, outside the loop over all.
@@ -132,13 +123,12 @@ pub fn read_tables(
     sizes: &[u8; VARIABLES],
     stated: &mut [u32; VARIABLES],
     rows: &mut Rows,
-) -> Read
+) -> Result<Field, Refusal>
     requires { (from ≤ length bytes.now) × RowBytes k × (n ≤ variables) × (stated.old ≡ replicate variables 0) × (rows.old ≡ replicate 3840 0) × Sized n sizes.now }
     ensures { TablesRead bytes.now from k filled n count sizes.now stated.new rows.new result }
 {
-    let stop = take_tables(bytes, from, k, filled, n, count, sizes, stated, rows);
-    match stop {
-        Stop::End(end) => Read::Value(count, end),
-        Stop::Fault(at, previous) => walk_table(bytes, at, k, filled, n, previous, sizes),
+    match take_tables(bytes, from, k, filled, n, count, sizes, stated, rows) {
+        Ok(next) => Ok(Field { value: count, next }),
+        Err(stop) => walk_table(bytes, stop.at, k, filled, n, stop.previous, sizes),
     }
 }

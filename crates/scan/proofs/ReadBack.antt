@@ -1,12 +1,12 @@
 -- Entries and bins that are printed in strict form are read back.
 use mathlib.Core.Bool.{Bool, true, false}
-use mathlib.Core.List.{List, [], ◌∷◌, ◌++◌}
-use mathlib.Core.Path.{◌≡◌, refl, sym, ◌∙◌, ap}
+use mathlib.Core.List.{List, [], ◌∷◌}
+use mathlib.Core.Path.{◌≡◌, refl, ◌∙◌, ap}
 use Prim.Native.Nat.{ℕ, zero, suc, ◌+◌, ◌-◌, ◌*◌, ◌/◌, ◌%◌, ◌≤◌, ◌<◌}
 use native.Mathlib.Omega.{arith}
 use native.Mathlib.Numerals.{add-one}
 use lib.Dec.{eqb, ltb}
-use lib.ListN.{length, set, replicate, length-append}
+use lib.ListN.{length, replicate, length-append}
 use lib.Seq.{sets}
 use borrow.Author.Tests.{le-ltb, lt-ltb, le-leb, ltb-true, ltb-false, eq-eqb, ne_eqb}
 use Rattle.bounded.specs.Bool.{if, and, or, not}
@@ -16,7 +16,7 @@ use Rattle.buffers.proofs.Digits.{decimal-one, decimal-more}
 use Rattle.scan.specs.declared.Scan.{Scan}
 use Rattle.scan.specs.declared.Line.{Line}
 use Rattle.scan.specs.Bytes.{within, one_of, is_digit, is_letter, is_separator, is_blank, kind_of}
-use Rattle.scan.specs.Scan.{first_kind, opening, up, phased, going, digit_on, first_digit, digit, kept, stored, close, separated, separator, end_place, ended_after, ended, kinded, lettered, letter, taken, begin_after, ticked, step, scan}
+use Rattle.scan.specs.Scan.{first_kind, opening, up, phased, going, digit_on, first_digit, digit, kept, stored, close, separated, separator, ended_after, ended, kinded, lettered, letter, taken, begin_after, ticked, step, scan}
 use Rattle.scan.specs.Line.{miscounted, line_kind, told, judged, finish, line_of}
 use Rattle.scan.specs.Strict.{numbers_text, entry_text, line_with, ReadAs, Small}
 use Rattle.scan.proofs.Laws.{scan-append, step-taken}

@@ -51,38 +51,29 @@ pub struct Line {
 fn within(byte: u8, low: u8, high: u8) -> bool
     ensures { result ≡ within low high byte }
 {
-    if byte < low {
-        return false;
-    }
-    byte <= high
+    (low..=high).contains(&byte)
 }
 
 fn one_of(byte: u8, a: u8, b: u8) -> bool
     ensures { result ≡ one_of a b byte }
 {
-    if byte == a {
-        return true;
-    }
-    byte == b
+    byte == a || byte == b
 }
 
 fn is_letter(byte: u8) -> bool
     ensures { result ≡ is_letter byte }
 {
-    if within(byte, 65, 90) {
-        return true;
-    }
-    within(byte, 97, 122)
+    byte.is_ascii_alphabetic()
 }
 
 // 1 D, 2 C, in either case; 0 no kind.
 fn kind_of(byte: u8) -> u8
     ensures { result ≡ kind_of byte }
 {
-    if one_of(byte, 68, 100) {
+    if one_of(byte, b'D', b'd') {
         return 1;
     }
-    if one_of(byte, 67, 99) {
+    if one_of(byte, b'C', b'c') {
         return 2;
     }
     0
@@ -128,54 +119,28 @@ pub fn up(x: usize) -> usize
 fn faulted(s: Scan, fault: u8, place: usize) -> Scan
     ensures { result ≡ faulted fault place s }
 {
-    let cells = s.cells;
     Scan {
-        cells,
-        value: s.value,
-        count: s.count,
         place,
-        column: s.column,
-        begin: s.begin,
-        cr: s.cr,
         phase: 4,
         fault,
-        kind: s.kind,
+        ..s
     }
 }
 
 fn phased(s: Scan, phase: u8) -> Scan
     ensures { result ≡ phased phase s }
 {
-    let cells = s.cells;
-    Scan {
-        cells,
-        value: s.value,
-        count: s.count,
-        place: s.place,
-        column: s.column,
-        begin: s.begin,
-        cr: s.cr,
-        phase,
-        fault: s.fault,
-        kind: s.kind,
-    }
+    Scan { phase, ..s }
 }
 
 fn going(s: Scan, value: u32, place: usize) -> Scan
     ensures { result ≡ going value place s }
 {
-    let cells = s.cells;
     Scan {
-        cells,
         value,
-        count: s.count,
         place,
-        column: s.column,
-        begin: s.begin,
-        cr: s.cr,
         phase: 1,
-        fault: s.fault,
-        kind: s.kind,
+        ..s
     }
 }
 
@@ -225,15 +190,9 @@ fn stored(s: Scan) -> Scan
         cells[count] = s.value;
         return Scan {
             cells,
-            value: s.value,
             count: count + 1,
-            place: s.place,
-            column: s.column,
-            begin: s.begin,
-            cr: s.cr,
             phase: 3,
-            fault: s.fault,
-            kind: s.kind,
+            ..s
         };
     }
     faulted(s, 103, s.place)
@@ -294,18 +253,10 @@ fn lettered(s: Scan, kind: u8) -> Scan
     if kind == 0 {
         return faulted(s, 105, s.begin);
     }
-    let cells = s.cells;
     Scan {
-        cells,
-        value: s.value,
-        count: s.count,
-        place: s.place,
-        column: s.column,
-        begin: s.begin,
-        cr: s.cr,
         phase: 5,
-        fault: s.fault,
         kind,
+        ..s
     }
 }
 
@@ -325,38 +276,26 @@ fn letter(s: Scan, byte: u8) -> Scan
 fn returned(s: Scan) -> Scan
     ensures { result ≡ returned s }
 {
-    let cells = s.cells;
-    Scan {
-        cells,
-        value: s.value,
-        count: s.count,
-        place: s.place,
-        column: s.column,
-        begin: s.begin,
-        cr: s.column,
-        phase: s.phase,
-        fault: s.fault,
-        kind: s.kind,
-    }
+    Scan { cr: s.column, ..s }
 }
 
 // What a byte does where nothing is wrong yet and no comment has begun.
 fn taken(s: Scan, byte: u8) -> Scan
     ensures { result ≡ taken s byte }
 {
-    if within(byte, 48, 57) {
-        return digit(s, byte - 48);
+    if within(byte, b'0', b'9') {
+        return digit(s, byte - b'0');
     }
-    if one_of(byte, 44, 59) {
+    if one_of(byte, b',', b';') {
         return separator(s);
     }
-    if one_of(byte, 32, 9) {
+    if one_of(byte, b' ', b'\t') {
         return close(s);
     }
     if is_letter(byte) {
         return letter(s, byte);
     }
-    if byte == 35 {
+    if byte == b'#' {
         return phased(ended(s), 4);
     }
     faulted(s, 101, s.column)
@@ -378,19 +317,7 @@ fn ticked(s: Scan) -> Scan
 {
     let column = up(s.column);
     let begin = begin_after(s.phase, s.begin, column);
-    let cells = s.cells;
-    Scan {
-        cells,
-        value: s.value,
-        count: s.count,
-        place: s.place,
-        column,
-        begin,
-        cr: s.cr,
-        phase: s.phase,
-        fault: s.fault,
-        kind: s.kind,
-    }
+    Scan { column, begin, ..s }
 }
 
 // A byte of a line.
@@ -403,7 +330,7 @@ pub fn step(s: Scan, byte: u8) -> Scan
     if s.cr != 0 {
         return faulted(s, 101, s.cr);
     }
-    if byte == 13 {
+    if byte == b'\r' {
         return returned(s);
     }
     ticked(taken(s, byte))

@@ -1,63 +1,27 @@
 -- The turns of the search on lent arrays: each way through the code has its law of the network's turns.
 use mathlib.Core.Bool.{Bool, true, false}
 use mathlib.Core.List.{List}
-use mathlib.Core.Path.{◌≡◌, refl, sym, ap, ap₂, fun_ext, ◌∙◌}
+use mathlib.Core.Path.{◌≡◌, refl, sym, ap, ap₂, ◌∙◌}
 use Prim.Native.Nat.{ℕ, zero, suc, ◌+◌, ◌-◌, ◌^◌, ◌≤◌, ◌<◌}
 use native.Mathlib.Omega.{arith}
-use lib.Dec.{eqb, ltb}
+use lib.Dec.{eqb}
 use lib.ListN.{length, get_or, set}
 use lib.Seq.{get_or-set_same, get_or-set_other}
-use borrow.Author.Tests.{eqb-false, eq-eqb, ne_eqb, lt-ltb, ltb-true, ltb-false, le-leb, leb-true}
-use Rattle.bounded.specs.Bool.{and, not}
+use borrow.Author.Tests.{ne_eqb, lt-ltb, ltb-true, le-leb, leb-true}
+use Rattle.bounded.specs.Bool.{and, not, implies}
 use Rattle.bounded.specs.Fold.{first}
-use Rattle.bounded.proofs.Bool.{by_cases, clash, bool-ext, not-true→false, and_i, and_l, and_r, and-true, and-false, and-fails, implies_true, implies-false, not-i, not-e, if-true, if-false}
-use Rattle.bounded.proofs.Fold.{is-or-not, first_below}
+use Rattle.bounded.proofs.Bool.{clash, bool-ext, not-true→false, and_i, and_l, and_r, and-true, and-fails, not-i}
+use Rattle.bounded.proofs.Fold.{first_below}
 use Rattle.words.specs.Word.{has, word}
-use Rattle.words.proofs.Laws.{word_lt, has_word, has-ruled, has-past, has-below, has_all, has-zero}
+use Rattle.words.proofs.Laws.{has_word, has-past, has-below, has_all, has-zero}
 use Rattle.network.specs.Network.{Network, free}
 use Rattle.network.specs.Turns.{FirstFrom, Narrows}
 use Rattle.network.proofs.Turns.{first-end, first-skip, first-none, first-hit, first-miss, first-stuck}
-use Rattle.pairs.proofs.Frames.{past-second}
-use Rattle.pairs.proofs.Laws.{higher}
-use Rattle.pairs.proofs.Runs.{lowest-in, rest-is, rest_lt}
-use Rattle.search.specs.Turns.{to_choose, Left, listed, untried, Chooses, cut_by, Narrowed}
-
--- A member of both words is one of the second.
-pub in-second : (w x y z j : ℕ) → z ≡ word w (λ (u : ℕ). and (has x u) (has y u)) → has z j ≡ true → has y j ≡ true
-in-second w x y z j e t =
-    let l = has-below w z j t (rw e (word_lt w _)) in
-    and_r _ _ (sym (has-ruled w _ e j l) ∙ t)
-
--- A word without its lowest member, a, has members above it alone.
-pub above-lowest : (w rest rest' a : ℕ) → rest < 2 ^ w → (rest ≡ 0 → ⊥) → a ≡ first w (has rest)
-    → rest' ≡ word w (λ (u : ℕ). and (has rest u) (not (eqb u (first w (has rest)))))
-    → (j : ℕ) → has rest' j ≡ true → (has rest j ≡ true) × (a < j)
-above-lowest w rest rest' a fits more low e j t =
-    let l = has-below w rest' j t (rest_lt w fits more low e) in
-    let q = sym (rest-is w fits more low e j l) ∙ t in
-    let d : j ≡ a → ⊥ = eqb-false j a (not-e _ (and_r _ _ q)) in
-    by_cases (ltb j a)
-    (λ b. clash (and_l _ _ q) (first_below w (has rest) j (omega (arith, ltb-true j a b))))
-    (λ b. (and_l _ _ q, higher (ltb-false j a b) d))
-
--- ---- the values to be tried
-
-module _ (domains : List ℕ) (k : ℕ) where
-  untried-here : (rest a : ℕ) → untried domains k rest k a ≡ has rest a
-  unfolding untried
-  untried-here rest a = if-true _ _ _ (eq-eqb k k refl)
-
-  untried-there : (rest i a : ℕ) → (i ≡ k → ⊥) → untried domains k rest i a ≡ listed domains i a
-  unfolding untried listed
-  untried-there rest i a d = if-false _ _ _ (ne_eqb i k d)
-
-  -- At first they are all those in the domain.
-  all-untried : untried domains k (get_or domains k 0) ≡ listed domains
-  unfolding listed
-  all-untried =
-      fun_ext (is-or-not k (λ (i : ℕ). untried domains k (get_or domains k 0) i ≡ listed domains i)
-      (fun_ext (untried-here (get_or domains k 0)))
-      (λ i d. fun_ext (λ a. untried-there (get_or domains k 0) i a d)))
+use Rattle.pairs.proofs.Runs.{lowest-in, rest-is}
+use Rattle.search_narrow.specs.Narrow.{listed, untried, Narrowed}
+use Rattle.search_narrow.proofs.Members.{above-lowest, untried-here, untried-there, all-untried}
+use Rattle.search_narrow.proofs.Narrowing.{narrowed-has}
+use Rattle.search.specs.Turns.{to_choose, Left, Chooses}
 
 -- ---- the variables to be chosen
 
@@ -172,20 +136,13 @@ module _ {w : ℕ} {N : Network} {stated rows : List ℕ} {k left : ℕ} {domain
   others-after i h = T.chosen.others i (fewer N k (k + 1) i (omega arith) h)
 
   narrows : Narrows N (untried domains k rest) k v (listed later)
-  unfolding cut_by listed
+  unfolding listed
   narrows =
       record {
         later = λ j u l m t.
-            let same = sym (untried-there domains k rest j u (λ e. let x : ⊥ = omega arith in x)) in
-            let b = among-is j l m t in
-            ap (λ (x : ℕ). has x u) (T.narrowed.narrowed j)
-            ∙ by_cases (N.stated k j)
-            (λ s. ap (λ (x : ℕ). has x u) (if-true _ _ _ (b ∙ s))
-            ∙ has_all w _ u (λ l. ap (and _) (past-second w rows k j v u l) ∙ and-false _)
-            ∙ ap₂ and same (sym (T.left_after.allows_are k j v u) ∙ sym (implies_true _ _ s)))
-            (λ s. ap (λ (x : ℕ). has x u) (if-false _ _ _ (b ∙ s))
-            ∙ same
-            ∙ sym (ap (and _) (implies-false _ _ s) ∙ and-true _));
+            narrowed-has T.narrowed j u
+            ∙ ap₂ and (sym (untried-there domains k rest j u (λ e. let x : ⊥ = omega arith in x)))
+            (ap₂ implies (among-is j l m t) (sym (T.left_after.allows_are k j v u)));
       }
     where
       among-is : (j : ℕ) → k < j → j < N.n → free N j ≡ true

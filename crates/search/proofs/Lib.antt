@@ -1,4 +1,3 @@
-mod Narrowing
 mod Choosing
 mod Completing
 pub mod Settling

@@ -5,36 +5,27 @@ use mathlib.Core.Path.{◌≡◌, refl, sym, ap, ◌∙◌}
 use Prim.Native.Nat.{ℕ, ◌≤◌, ◌<◌}
 use native.Mathlib.Omega.{arith}
 use lib.Dec.{ltb}
-use lib.ListN.{length, get_or, replicate, length-replicate, get_or-replicate}
+use lib.ListN.{length, get_or, replicate, get_or-replicate}
 use borrow.Author.Tests.{le-ltb, ltb-true, ltb-false, le-leb}
 use Rattle.bounded.specs.Bool.{and}
-use Rattle.bounded.proofs.Bool.{by_cases, clash, and-fails, and-holds, and-false}
+use Rattle.bounded.proofs.Bool.{by_cases, and-fails, and-holds, and-false}
+use Rattle.bounded.specs.Table.{tabulate}
 use Rattle.bounded.proofs.Table.{is-table}
 use Rattle.words.specs.Word.{width, has}
 use Rattle.words.proofs.Laws.{has_word, has-word-past, has-below, word_lt}
 use Rattle.network.specs.Network.{Network, free}
-use Rattle.network.specs.Search.{none, found, searched, choice_product}
+use Rattle.network.specs.Search.{none, searched, sought, choice_product}
 use Rattle.network.specs.Turns.{FirstFrom}
-use Rattle.network.proofs.Search.{sought-case, found-is-not-none, sought-none, sought-past, product-none}
+use Rattle.network.proofs.Search.{sought-past, product-none}
 use Rattle.network.proofs.Turns.{turns-found, turns-none}
 use Rattle.pairs.specs.Pairs.{variables}
 use Rattle.head.specs.declared.Head.{Head}
 use Rattle.head.specs.Held.{HeadShaped, held, sound_in}
 use Rattle.head.proofs.Held.{held-sound, held-n}
 use Rattle.solutions.specs.Choices.{free_word, Led, Completed}
-use Rattle.search.specs.declared.Found.{Found}
-use Rattle.search.specs.Turns.{to_choose, Left, listed, Chooses}
-use Rattle.search.specs.Found.{FoundIn}
+use Rattle.search_narrow.specs.Narrow.{listed}
+use Rattle.search.specs.Turns.{to_choose, Left, Chooses}
 use Rattle.search.proofs.Completing.{choice-led, value-is-completed}
-
--- None is found.
-settled-none : (N : Network) → searched N ≡ none → FoundIn N (record { found = false; solution = replicate variables 0 })
-settled-none N e =
-    record {
-      found_exactly = (λ h. clash h refl, λ h. absurd (h e));
-      solution_is =
-          is-table variables _ (replicate variables 0) 0 (length-replicate {A = ℕ} variables 0) (λ i l. get_or-replicate variables i 0 0 l ∙ sym (sought-none N e i));
-    }
 
 -- At the start all free variables are left.
 pub start-below : (n left : ℕ) (leaders : List ℕ) → left ≡ free_word n leaders → (j : ℕ) → has left j ≡ true → j < n
@@ -42,8 +33,8 @@ unfolding free_word
 start-below n left leaders e j t = has-below n left j t (rw e (word_lt n _))
 
 module _ {h : Head} (rows : List ℕ) (S : HeadShaped h) (t : sound_in h rows ≡ true) where
-  pub product-settled : choice_product (held h rows) ≡ 0 → FoundIn (held h rows) (record { found = false; solution = replicate variables 0 })
-  product-settled e = settled-none (held h rows) (product-none (held h rows) (held-sound h rows S t) e)
+  pub product-settled : choice_product (held h rows) ≡ 0 → searched (held h rows) ≡ none
+  product-settled e = product-none (held h rows) (held-sound h rows S t) e
 
   module _ {left : ℕ} (e : left ≡ free_word h.n h.leaders) {found : Bool} {values : List ℕ}
       (C : (N : Network) (k : ℕ) → Left width N h.stated rows k left → Chooses N (listed h.domains) k found (replicate variables 0) values) where
@@ -65,8 +56,8 @@ module _ {h : Head} (rows : List ℕ) (S : HeadShaped h) (t : sound_in h rows �
     unfolding held listed
     settled = (C (held h rows) 0 start).first_from
 
-    pub chosen_none : found ≡ false → FoundIn (held h rows) (record { found = false; solution = replicate variables 0 })
-    chosen_none q = settled-none (held h rows) (turns-none (held h rows) (held-sound h rows S t) _ _ settled q)
+    pub chosen_none : found ≡ false → searched (held h rows) ≡ none
+    chosen_none q = turns-none (held h rows) (held-sound h rows S t) _ _ settled q
 
     module _ (q : found ≡ true) where
       choice : (i : ℕ) → i < h.n → free (held h rows) i ≡ true → has (get_or h.domains i 0) (get_or values i 0) ≡ true
@@ -84,21 +75,14 @@ module _ {h : Head} (rows : List ℕ) (S : HeadShaped h) (t : sound_in h rows �
           ∙ get_or-replicate variables i 0 0 b
 
       pub chosen-found : {solution : List ℕ} → length solution ≡ variables → Completed width h.n h.domains h.leaders rows values solution
-          → FoundIn (held h rows) (record { found = true; solution = solution })
+          → (searched (held h rows) ≡ none → ⊥) × (solution ≡ tabulate variables (sought (held h rows)))
       unfolding held
       chosen-found {solution} m D =
           let N = held h rows in
-          let F = turns-found N (held-sound h rows S t) _ _ settled q in
-          record {
-            found_exactly = (λ _. F.0, λ _. refl);
-            solution_is = is-table variables _ solution 0 m (λ i b. by_cases (ltb i h.n)
+          let F = turns-found N (held-sound h rows S t) _ _ settled q in (
+            F.0,
+            is-table variables _ solution 0 m (λ i b. by_cases (ltb i h.n)
                 (λ u. let l = ltb-true i h.n u in
                 D.value_completed i l ∙ value-is-completed h rows S t values choice i ∙ sym (F.1 i l))
-                (λ u. let l = ltb-false i h.n u in D.value_past i l ∙ past i b l ∙ sym (sought-past N i l)));
-          }
-
--- ---- what a caller learns
-
-module _ (N : Network) (r : Found) (F : FoundIn N r) where
-  pub found_none : r.found ≡ false → searched N ≡ none
-  found_none q = sought-case (searched N) (λ e. e) (λ f e. clash (F.found_exactly.1 (found-is-not-none (searched N) f e)) q)
+                (λ u. let l = ltb-false i h.n u in D.value_past i l ∙ past i b l ∙ sym (sought-past N i l))),
+          )

@@ -1,10 +1,11 @@
 -- What the turns of the search promise, on lent arrays, for any number w of values: of every network that these are of.
-use Rattle.std.specs.Prelude.{Bool, true, false, List, ◌≡◌, ℕ, ◌+◌, ◌≤◌, eqb, leb, ltb, length, get_or}
-use Rattle.bounded.specs.Bool.{and, if}
-use Rattle.words.specs.Word.{has, word}
+use Rattle.std.specs.Prelude.{Bool, true, false, List, ◌≡◌, ℕ, ◌+◌, ◌≤◌, leb, ltb, length, get_or}
+use Rattle.bounded.specs.Bool.{and}
+use Rattle.words.specs.Word.{has}
 use Rattle.network.specs.Network.{Network, free}
 use Rattle.network.specs.Turns.{FirstFrom}
 use Rattle.pairs.specs.Pairs.{variables, allows_of}
+use Rattle.search_narrow.specs.Narrow.{listed, untried}
 
 -- ---- the variables that are left
 
@@ -18,26 +19,6 @@ pub record Left (w : ℕ) (N : Network) (stated rows : List ℕ) (k left : ℕ) 
   pub stated_are : (i j : ℕ) → N.stated i j ≡ has (get_or stated i 0) j
   pub allows_are : (i j a b : ℕ) → N.allows i j a b ≡ allows_of w rows i j a b
   pub left_are : (i : ℕ) → has left i ≡ to_choose N k i
-
--- ---- their domains
-
--- The values in each domain, by the array of domains,
-unfoldable pub listed : List ℕ → ℕ → ℕ → Bool
-listed domains i a = has (get_or domains i 0) a
-
--- and where those of k that are not tried yet are `rest`.
-unfoldable pub untried : List ℕ → ℕ → ℕ → ℕ → ℕ → Bool
-untried domains k rest i a = if (eqb i k) (has rest a) (has (get_or domains i 0) a)
-
--- The values in a domain of j that go with value v of k.
-unfoldable pub cut_by : ℕ → List ℕ → ℕ → ℕ → ℕ → ℕ → ℕ
-cut_by w rows k v j domain = word w (λ (u : ℕ). and (has domain u) (allows_of w rows k j v u))
-
--- The domains of the variables in `among` are cut, and the others are as before. Where no change is said there is none.
-pub record Narrowed (w : ℕ) (rows : List ℕ) (among k v : ℕ) (changed : Bool) (before after : List ℕ) : Type 0 where
-  pub whole : length after ≡ length before
-  pub narrowed : (j : ℕ) → get_or after j 0 ≡ if (has among j) (cut_by w rows k v j (get_or before j 0)) (get_or before j 0)
-  pub unchanged : changed ≡ false → (j : ℕ) → get_or after j 0 ≡ get_or before j 0
 
 -- ---- what is chosen
 

@@ -11,39 +11,19 @@ use head::Head;
 use pairs::{Rows, VARIABLES};
 use search_product::product;
 
-// Whether there is a solution, and the first one: all zero where there is none.
-#[derive(Clone, Copy)]
-pub struct Found {
-    pub found: bool,
-    pub solution: [u8; VARIABLES],
-}
-
 // The first solution of a sound state. A product of 0 says none before any value is tried.
-pub fn search_sound(head: Head, rows: &Rows) -> Found
+pub fn search_sound(head: Head, rows: &Rows) -> Option<[u8; VARIABLES]>
     requires { sound_in head rows.now ≡ true }
     ensures { FoundIn (held head rows.now) result }
 {
     if product(head) == 0 {
-        return Found {
-            found: false,
-            solution: [0u8; VARIABLES],
-        };
+        return None;
     }
-    let n = head.n;
-    let domains = head.domains;
-    let leaders = head.leaders;
-    let stated = head.stated;
-    let left = solutions::free_variables(n, &leaders);
+    let left = solutions::free_variables(head.n, &head.leaders);
     let mut solution = [0u8; VARIABLES];
-    if !turns::choose(&stated, rows, &domains, left, &mut solution) {
-        return Found {
-            found: false,
-            solution: [0u8; VARIABLES],
-        };
+    if !turns::choose(&head.stated, rows, &head.domains, left, &mut solution) {
+        return None;
     }
-    solutions::complete_values(n, &domains, &leaders, rows, &mut solution);
-    Found {
-        found: true,
-        solution,
-    }
+    solutions::complete_values(head.n, &head.domains, &head.leaders, rows, &mut solution);
+    Some(solution)
 }

@@ -4,37 +4,11 @@ ghost use Rattle.std.specs.Prelude.{true, ◌≡◌, ℕ, ◌<◌, length};
 ghost use Rattle.bounded.specs.Fold.{first};
 ghost use Rattle.words.specs.Word.{width, has};
 ghost use Rattle.pairs.specs.Pairs.{variables};
-ghost use Rattle.search.specs.Turns.{cut_by, Narrowed, ChosenFrom, TriedFrom};
+ghost use Rattle.search.specs.Turns.{ChosenFrom, TriedFrom};
 
 use pairs::{Rows, VARIABLES};
-use pairs_read::stored_row;
+use search_narrow::narrow;
 use words::{both, dropped, lowest};
-
-// The values in the domain of `j` that go with value `v` of the lower `k`.
-fn cut(domain: u32, rows: &Rows, k: usize, j: usize, v: usize) -> u32
-    requires { (k < j) × (j < variables) × (v < width) }
-    ensures { result ≡ cut_by width rows.now k v j domain }
-{
-    both(domain, stored_row(rows, k, j, v))
-}
-
-// Narrows the domains of the variables in `among`, all above `k`, once `k` has taken the value `v`. It says whether any of them lost a value.
-fn narrow(domains: &mut [u32; VARIABLES], rows: &Rows, among: u32, k: usize, v: usize) -> bool
-    requires { (v < width) × ((j : ℕ) → has among j ≡ true → (k < j) × (j < variables)) × (length domains.old ≡ variables) }
-    ensures { Narrowed width rows.now among k v result domains.old domains.new }
-{
-    let mut changed = false;
-    let mut rest = among;
-    while rest != 0 {
-        let j = lowest(rest);
-        let before = domains[j];
-        let after = cut(before, rows, k, j, v);
-        changed |= after != before;
-        domains[j] = after;
-        rest = dropped(rest);
-    }
-    changed
-}
 
 // "It picks the next option": the lowest of those that are left. Where a choice is found its values are written.
 #[cycle(attempt_choose)]

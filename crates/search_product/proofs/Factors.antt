@@ -8,11 +8,11 @@ use native.Mathlib.Numerals.{add-one}
 use native.Mathlib.Omega.{arith}
 use lib.Dec.{eqb, leb}
 use lib.ListN.{get_or}
-use borrow.Author.Tests.{eq-eqb, ne_eqb, eqb-true, eqb-false, leb-true, leb-false}
+use borrow.Author.Tests.{eq-eqb, ne_eqb, leb-true, leb-false}
 use Rattle.bounded.specs.Bool.{if}
 use Rattle.bounded.specs.Fold.{product, count}
 use Rattle.bounded.proofs.Bool.{by_cases, not-true→false, if-true, if-false}
-use Rattle.bounded.proofs.Fold.{product-cong, product-capped, count-le, count-widen}
+use Rattle.bounded.proofs.Fold.{product-cong, product-capped, count-widen}
 use Rattle.words.specs.Word.{width, has}
 use Rattle.network.specs.Network.{Network, free}
 use Rattle.network.specs.Search.{open_values, choice_product, search_refusal}
@@ -33,22 +33,20 @@ module _ (leader domain : ℕ) where
   unfolding open_of
   open_free h = sym (if-true _ _ _ (eq-eqb leader 0 h))
 
-  pub open-most : open_of leader domain ≤ width
-  open-most =
-      by_cases (eqb leader 0)
-      (λ t. omega (arith, open_free (eqb-true leader 0 t), count-le width (has domain)))
-      (λ t. omega (arith, open-led (eqb-false leader 0 t)))
-
 -- ---- the product
+
+min-within : (a b c : ℕ) → c ≤ b → min (min a b) c ≡ min a c
+min-within a b c l = omega arith
 
 pub capped-none : (f : ℕ → ℕ) → 1 ≡ min (product 0 f) 1000001
 unfolding product
 capped-none f = refl
 
 -- One factor more.
-pub capped-more : (cap : ℕ) (f : ℕ → ℕ) (i : ℕ) {p q : ℕ} → p ≡ min (product i f) cap → q ≡ min (f i * p) cap → q ≡ min (product (i + 1) f) cap
+pub capped-more : (f : ℕ → ℕ) (i : ℕ) {p x : ℕ} → p ≡ min (product i f) 1000001 → x ≡ f i
+    → min (min (x * p) 18446744073709551615) 1000001 ≡ min (product (i + 1) f) 1000001
 unfolding product
-capped-more cap f i e g = rw (g, e, add-one i) (product-capped cap (product i f) (f i))
+capped-more f i e xe = min-within _ _ _ (omega arith) ∙ rw (xe, e, add-one i) (product-capped 1000001 (product i f) (f i))
 
 module _ (h : Head) (rows : List ℕ) (S : HeadShaped h) (t : sound_in h rows ≡ true) where
   -- In a sound state the values of a domain are below its size.

@@ -4,15 +4,13 @@
 mod sheets;
 mod states;
 
-pub use answers::{
-    Outcome, ReadOutcome, TestAnswer, ValueAnswer, Verdict, VerdictAnswer, WriteAnswer,
-};
+pub use answers::Verdict;
 pub use bins::Bin;
-pub use cause::{Cause, number as cause_number};
+pub use cause::{Cause, Refusal, number as cause_number};
 pub use sheets::{cut, read, read_paired, write};
 pub use state::{Answer, CutAnswer, ReadAnswer, State};
 pub use state_bins::{call_off, deliver};
-pub use state_survey::SurveyAnswer;
+pub use state_survey::Surveyed;
 pub use states::{
     complete, find_order, follower_value, is_sound, search, survey, test, test_order, verdict,
 };

@@ -18,8 +18,7 @@ pub fn run(rt: &(impl Input + Print + Eprint)) {
     let mut input = [0u8; INPUT];
     let count = read_input(rt.reader(), &mut input);
     let text = report_input(input, count);
-    let bytes = text.bytes;
-    if rt.write_all(&bytes[..text.length]).is_err() {
+    if rt.write_all(&text.bytes[..text.length]).is_err() {
         let _ = rt.eprintln("sheetcut: the text could not be written whole");
     }
 }

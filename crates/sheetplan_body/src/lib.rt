@@ -25,27 +25,15 @@ fn say(rt: &impl Print, line: &[u8]) {
     let _ = rt.write_all(line);
 }
 
-fn say_help(rt: &impl Print) {
-    say(rt, b"usage: sheetplan [--page9] [--lead N] [FILE]\n");
-    say(
-        rt,
-        b"  plans the parts of an option sheet: which options are live and which follow, which value goes with which,\n",
-    );
-    say(
-        rt,
-        b"  which values some build has, which to stock nothing of, and how many builds there are.\n",
-    );
-    say(
-        rt,
-        b"  FILE      the sheet; without it standard input is read\n",
-    );
-    say(rt, b"  --page9   adds page nine of the flat meter\n");
-    say(rt, b"  --lead N  lets option N take its followers first\n");
-    say(
-        rt,
-        b"  The last line is END n REFUSED: n is 1 where something is refused, and else 0.\n",
-    );
-}
+const HELP: &[u8] = b"\
+usage: sheetplan [--page9] [--lead N] [FILE]
+  plans the parts of an option sheet: which options are live and which follow, which value goes with which,
+  which values some build has, which to stock nothing of, and how many builds there are.
+  FILE      the sheet; without it standard input is read
+  --page9   adds page nine of the flat meter
+  --lead N  lets option N take its followers first
+  The last line is END n REFUSED: n is 1 where something is refused, and else 0.
+";
 
 // The arguments are at fault, or a file can't be opened: a line on standard error says why.
 fn say_refused(rt: &impl Print) {
@@ -81,8 +69,7 @@ fn print_plan(rt: &(impl Print + Eprint), reader: impl Read + Drop, asked: Asked
     let count = read_input(reader, &mut input);
     let ask = Ask {
         page9: asked.page9,
-        leads: asked.leads,
-        leader: asked.leader,
+        lead: asked.lead,
     };
     let mut text = [0u8; ROOM];
     let length = plan_into(&input[..count], ask, &mut text);
@@ -98,10 +85,9 @@ fn say_why(rt: &impl Eprint, name: &str, error: io::Error) {
     let _ = write!(room, "{error}");
     let length = REASON.saturating_sub(room.len());
     let all = str::from_utf8(&words[..length]).unwrap_or("");
-    let reason = match all.split_once(" (os error ") {
-        Some((reason, _)) => reason,
-        None => all,
-    };
+    let reason = all
+        .split_once(" (os error ")
+        .map_or(all, |(reason, _)| reason);
     let _ = eprintln!(rt; "{name}: {reason}");
 }
 
@@ -119,10 +105,7 @@ fn print_named<R: Files + Print + Eprint>(rt: &R, name: &str, asked: Asked) {
 // The table of the file that the `k`-th word names.
 fn print_file<R: Env + Files + Print + Eprint>(rt: &R, k: usize, asked: Asked) {
     let mut path = [0u8; PATH];
-    let length = match rt.arg(k, &mut path) {
-        Ok(length) => length,
-        Err(_) => 0,
-    };
+    let length = rt.arg(k, &mut path).unwrap_or(0);
     match str::from_utf8(&path[..length]) {
         Ok(name) => print_named(rt, name, asked),
         Err(_) => {
@@ -133,20 +116,18 @@ fn print_file<R: Env + Files + Print + Eprint>(rt: &R, k: usize, asked: Asked) {
 }
 
 fn print_asked<R: Env + Files + Input + Print + Eprint>(rt: &R, asked: Asked) {
-    if asked.file == 0 {
-        print_plan(rt, rt.reader(), asked);
-        return;
+    match asked.file {
+        Some(k) => print_file(rt, k, asked),
+        None => print_plan(rt, rt.reader(), asked),
     }
-    print_file(rt, asked.file, asked);
 }
 
 pub fn run<R: Env + Files + Input + Print + Eprint>(rt: &R) {
     let asked = all_words(rt);
-    let phase = asked.phase;
-    match phase {
+    match asked.phase {
         Phase::Words => print_asked(rt, asked),
         Phase::Leader => say_refused(rt),
-        Phase::Help => say_help(rt),
+        Phase::Help => say(rt, HELP),
         Phase::Fault => {
             let _ = rt.eprintln(
                 "sheetplan: the arguments are [--page9] [--lead N] [FILE]; --help says more",

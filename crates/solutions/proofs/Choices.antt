@@ -6,10 +6,10 @@ use mathlib.Core.Path.{◌≡◌, refl, sym, ap, ◌∙◌}
 use Prim.Native.Nat.{ℕ, suc, pred, ◌+◌, ◌^◌, ◌≤◌, ◌<◌}
 use native.Mathlib.Omega.{arith}
 use lib.Dec.{eqb, ltb}
-use lib.ListN.{get_or, set, length-set, replicate, length-replicate, get_or-replicate}
+use lib.ListN.{get_or, set, length-set}
 use lib.Seq.{get_or-set_same, get_or-set_other}
 use borrow.Author.Tests.{lt-ltb, le-ltb, eq-eqb, ne_eqb, ltb-true, ltb-false, eqb-true, eqb-false}
-use Rattle.bounded.specs.Bool.{and, implies, not, if}
+use Rattle.bounded.specs.Bool.{and, implies, not}
 use Rattle.bounded.specs.Fold.{every, first}
 use Rattle.bounded.specs.Table.{tabulate}
 use Rattle.bounded.proofs.Bool.{by_cases, clash, bool-ext, not-true→false, true-and, false-and, and_i, and_l, and_r}
@@ -18,11 +18,11 @@ use Rattle.bounded.proofs.Fold.{below_suc, every-i, every-e, first_cong}
 use Rattle.bounded.proofs.Table.{length-tabulate, get_d_tabulate, is-table}
 use Rattle.words.specs.Word.{has, word}
 use Rattle.words.proofs.Laws.{word_lt, has-ruled, has_all, has-below, has-zero, empty}
-use Rattle.pairs.specs.Pairs.{variables, allows_of}
+use Rattle.pairs.specs.Pairs.{allows_of}
 use Rattle.pairs.proofs.Laws.{allows-alike}
 use Rattle.pairs.proofs.Frames.{past-second}
 use Rattle.pairs.proofs.Runs.{Within, lowest-in, rest-is, rest_lt, rest-within}
-use Rattle.solutions.specs.Choices.{value_kept, pair_kept, side_kept, pairs_kept, Mirrored, among_kept, partner_of, completed_value, Led, Completed, LeaderReady, domain_open, lowest_of, free_word, side_apart, fresh_value}
+use Rattle.solutions.specs.Choices.{value_kept, pair_kept, side_kept, pairs_kept, Mirrored, among_kept, partner_of, completed_value, Led, Completed, LeaderReady, domain_open, free_word, side_apart, fresh_value}
 
 -- ---- the value of a variable
 
@@ -51,9 +51,6 @@ module _ (w set : ℕ) (p : ℕ → Bool) where
     pub rest_fits : rest < 2 ^ w
     pub rest_in : Within rest set
     pub seen : (v : ℕ) → v < w → has set v ≡ true → has rest v ≡ false → p v ≡ true
-
-  pub seen_none : set < 2 ^ w → Seen set
-  seen_none f = record { rest_fits = f; rest_in = λ v t. t; seen = λ v l t z. clash t z }
 
   pub seen_all : (rest : ℕ) → Seen rest → rest ≡ 0 → every w (λ (v : ℕ). implies (has set v) (p v)) ≡ true
   seen_all rest s z = every-i w _ (λ v l. implies-i _ _ (λ t. s.seen v l t (rw z (has-zero v))))
@@ -268,18 +265,3 @@ set-table n f g i v l e h =
     (λ k m. by_cases (eqb k i)
     (λ t. rw (eqb-true k i t) (get_or-set_same (tabulate n f) i v 0 (omega (arith, length-tabulate n f)) ∙ e))
     (λ t. get_or-set_other (tabulate n f) i k v 0 (eqb-false k i t) ∙ get_d_tabulate n f k 0 m ∙ h k (eqb-false k i t)))
-
--- No lowest value yet, and one more.
-pub lowest-none : (w : ℕ) (domains : List ℕ) → replicate variables 0 ≡ tabulate variables (lowest_of w 0 domains)
-unfolding lowest_of
-lowest-none w domains =
-    is-table variables _ (replicate variables 0) 0 (length-replicate {A = ℕ} variables 0) (λ k l. get_or-replicate variables k 0 0 l ∙ sym (if-false _ _ _ (le-ltb k 0 (omega arith))))
-
-pub lowest-more : (w : ℕ) (domains : List ℕ) {values : List ℕ} {i v : ℕ} → i < variables → values ≡ tabulate variables (lowest_of w i domains)
-    → v ≡ first w (has (get_or domains i 0))
-    → set values i v ≡ tabulate variables (lowest_of w (i + 1) domains)
-unfolding lowest_of
-lowest-more w domains {i} {v} l e f =
-    rw e (set-table variables _ _ i v l (f ∙ sym (if-true _ _ _ (lt-ltb i (i + 1) (omega arith))))
-    (λ k d. ap (λ (t : Bool). if t (first w (has (get_or domains k 0))) 0)
-    (bool-ext _ _ (λ t. lt-ltb k (i + 1) (omega (arith, ltb-true k i t))) (λ t. lt-ltb k i (omega (arith, ltb-true k (i + 1) t))))))

@@ -7,6 +7,7 @@ ghost use Rattle.words.specs.Word.{width};
 ghost use Rattle.pairs.specs.Pairs.{variables};
 ghost use Rattle.solutions.specs.Choices.{Led, Completed, domain_open, domains_open, lowest_of, side_apart, free_apart, fresh_value, fresh_parts};
 
+use folds::{every, table};
 use head::Head;
 use pairs::{Rows, VARIABLES};
 use solutions::{complete_values, free_variables, lowest_value};
@@ -29,11 +30,7 @@ pub fn domains_open<'a>(
     requires { n ≤ variables }
     ensures { result ≡ domains_open n leaders.now domains.now }
 {
-    let mut all = true;
-    for i in 0..n {
-        all &= domain_open(leaders[i], domains[i]);
-    }
-    all
+    every(n, |i| domain_open(leaders[i], domains[i]))
 }
 
 // A free variable is stated with none of the free ones.
@@ -52,11 +49,7 @@ pub fn free_apart<'a>(n: usize, leaders: &'a [u8; VARIABLES], stated: &'a [u32; 
     ensures { result ≡ free_apart n leaders.now stated.now }
 {
     let free = free_variables(n, leaders);
-    let mut all = true;
-    for i in 0..n {
-        all &= side_apart(leaders[i], stated[i], free);
-    }
-    all
+    every(n, |i| side_apart(leaders[i], stated[i], free))
 }
 
 // The lowest value of each domain.
@@ -64,11 +57,7 @@ fn lowest_values(n: usize, domains: &[u32; VARIABLES]) -> [u8; VARIABLES]
     requires { n ≤ variables }
     ensures { result ≡ tabulate variables (lowest_of width n domains.now) }
 {
-    let mut values = [0u8; VARIABLES];
-    for i in 0..n {
-        values[i] = lowest_value(domains[i]);
-    }
-    values
+    table(|i| if i < n { lowest_value(domains[i]) } else { 0 })
 }
 
 // The solution in which free variables take their lowest values.
@@ -103,12 +92,8 @@ pub fn fresh_parts(head: Head) -> bool
     ensures { result ≡ fresh_parts width head.n head.sizes head.domains head.leaders }
 {
     let n = head.n;
-    let sizes = head.sizes;
-    let domains = head.domains;
-    let leaders = head.leaders;
-    let mut all = true;
-    for i in 0..n {
-        all &= fresh_value(leaders[i], domains[i], sizes[i]);
-    }
-    all
+    every(
+        n,
+        |i| fresh_value(head.leaders[i], head.domains[i], head.sizes[i]),
+    )
 }

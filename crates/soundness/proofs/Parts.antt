@@ -17,8 +17,8 @@ use Rattle.words.proofs.Laws.{has_word, has-zero, is_word, word-widen, empty}
 use Rattle.network.specs.Network.{partner}
 use Rattle.network.specs.Sound.{Sound}
 use Rattle.pairs.specs.Pairs.{variables, slot, row_at, allows_of, partners_of, partners_at, partners_within}
-use Rattle.pairs.proofs.Places.{Placed, placed, every-place, slot-before, slot-after}
-use Rattle.pairs.proofs.Laws.{Inside, allows-up, allows-inside, allows_apart, allows-alike}
+use Rattle.pairs.proofs.Places.{placed, every-place, slot-before, slot-after}
+use Rattle.pairs.proofs.Laws.{allows-up, allows-inside, allows_apart, allows-alike}
 use Rattle.head.specs.declared.Head.{Head}
 use Rattle.head.specs.Held.{values_at_most, HeadShaped, held, sound_in}
 use Rattle.head.proofs.Held.{held-bounded, held-sound, held-n, held-size, sound-held}

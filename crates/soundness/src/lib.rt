@@ -7,6 +7,7 @@ ghost use Rattle.pairs.specs.Pairs.{variables};
 ghost use Rattle.head.specs.Held.{sound_in};
 ghost use Rattle.soundness.specs.Parts.{trimmed_to, follower_fits, free_or_fits, followers_fit};
 
+use folds::every;
 use head::{Head, Rows, VARIABLES};
 use soundness_head::head_sound;
 use soundness_rows::rows_sound;
@@ -74,14 +75,10 @@ fn followers_sound(head: Head, rows: &Rows) -> bool
     ensures { result ≡ followers_fit head rows.now }
 {
     let n = head.n;
-    let domains = head.domains;
-    let leaders = head.leaders;
-    let stated = head.stated;
-    let mut all = true;
-    for i in 0..VARIABLES {
-        all &= free_or_sound(n, &domains, &leaders, rows, i, stated[i]);
-    }
-    all
+    every(
+        VARIABLES,
+        |i| free_or_sound(n, &head.domains, &head.leaders, rows, i, head.stated[i]),
+    )
 }
 
 // The whole test.
@@ -92,9 +89,7 @@ pub fn sound_parts(head: Head, rows: &Rows) -> bool
         return false;
     }
     let n = head.n;
-    let sizes = head.sizes;
-    let stated = head.stated;
-    if !rows_sound(n, &sizes, &stated, rows) {
+    if !rows_sound(n, &head.sizes, &head.stated, rows) {
         return false;
     }
     followers_sound(head, rows)

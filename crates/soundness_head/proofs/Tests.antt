@@ -17,10 +17,6 @@ use Rattle.head.specs.declared.Head.{Head}
 use Rattle.head.specs.Held.{values_at_most, HeadShaped}
 use Rattle.soundness_head.specs.Fits.{size_fits, sizes_all_fit, within, domains_fit, stated_with, variable_fits, pairs_fit, head_fits}
 
--- The bound of a word's members, known by another name.
-pub within_same : (w : ℕ) {r : Bool} (x : ℕ) {k k' : ℕ} → r ≡ within w x k → k ≡ k' → r ≡ within w x k'
-within_same w x h e = rw e at h
-
 -- ---- a size
 
 module _ (n i size : ℕ) where
@@ -35,9 +31,6 @@ module _ (n i size : ℕ) where
   pub size-some : i < n → 1 ≤ size → leb size values_at_most ≡ size_fits n i size
   unfolding size_fits
   size-some h k = sym (if-true _ _ _ (lt-ltb i n h) ∙ and-holds _ _ (le-leb 1 size k))
-
-pub size_same : {r : Bool} (n i : ℕ) {x y : ℕ} → r ≡ size_fits n i x → x ≡ y → r ≡ size_fits n i y
-size_same n i h e = rw e at h
 
 -- ---- the stated pairs of a variable
 

@@ -7,6 +7,7 @@ ghost use Rattle.pairs.specs.Pairs.{variables};
 ghost use Rattle.head.specs.Held.{values_at_most};
 ghost use Rattle.soundness_head.specs.Fits.{size_fits, sizes_all_fit, domains_fit, stated_with, variable_fits, pairs_fit, head_fits};
 
+use folds::{every, gather};
 use head::{Head, VALUES, VARIABLES};
 use words::{member, wide, within};
 
@@ -26,11 +27,7 @@ fn size_sound(n: usize, i: usize, size: usize) -> bool
 fn sizes_sound(n: usize, sizes: &[u8; VARIABLES]) -> bool
     ensures { result ≡ sizes_all_fit n sizes.now }
 {
-    let mut all = true;
-    for i in 0..VARIABLES {
-        all &= size_sound(n, i, wide(sizes[i]));
-    }
-    all
+    every(VARIABLES, |i| size_sound(n, i, wide(sizes[i])))
 }
 
 // Each domain lies within its size.
@@ -38,11 +35,7 @@ fn domains_sound(sizes: &[u8; VARIABLES], domains: &[u32; VARIABLES]) -> bool
     requires { (i : ℕ) → get_or sizes.now i 0 ≤ values_at_most }
     ensures { result ≡ domains_fit sizes.now domains.now }
 {
-    let mut all = true;
-    for i in 0..VARIABLES {
-        all &= within(domains[i], wide(sizes[i]));
-    }
-    all
+    every(VARIABLES, |i| within(domains[i], wide(sizes[i])))
 }
 
 // The variables that say that they are stated with `i`.
@@ -50,11 +43,7 @@ fn stated_with(stated: &[u32; VARIABLES], i: usize) -> u32
     requires { i < variables }
     ensures { result ≡ stated_with stated.now i }
 {
-    let mut members: u32 = 0;
-    for j in 0..VARIABLES {
-        members |= (member(stated[j], i) as u32) << j;
-    }
-    members
+    gather(VARIABLES, |j| member(stated[j], i))
 }
 
 // The pairs of `i` lie below `n`, none is with `i` itself, and the others say the same. Past `n` there is none.
@@ -79,11 +68,7 @@ fn pairs_sound(n: usize, stated: &[u32; VARIABLES]) -> bool
     requires { n ≤ variables }
     ensures { result ≡ pairs_fit n stated.now }
 {
-    let mut all = true;
-    for i in 0..VARIABLES {
-        all &= variable_sound(n, stated, i);
-    }
-    all
+    every(VARIABLES, |i| variable_sound(n, stated, i))
 }
 
 // What the head says by itself. `n` is tested before any loop.
@@ -97,14 +82,11 @@ pub fn head_sound(head: Head) -> bool
     if VARIABLES < n {
         return false;
     }
-    let sizes = head.sizes;
-    if !sizes_sound(n, &sizes) {
+    if !sizes_sound(n, &head.sizes) {
         return false;
     }
-    let domains = head.domains;
-    if !domains_sound(&sizes, &domains) {
+    if !domains_sound(&head.sizes, &head.domains) {
         return false;
     }
-    let stated = head.stated;
-    pairs_sound(n, &stated)
+    pairs_sound(n, &head.stated)
 }

@@ -13,7 +13,7 @@ use Rattle.bounded.proofs.Fold.{every-e}
 use Rattle.pairs.specs.Pairs.{pair_count, slot, join_of}
 use Rattle.pairs.proofs.Runs.{join-none}
 use Rattle.soundness_head.specs.Fits.{within}
-use Rattle.soundness_rows.specs.Fits.{past_fits, constraint_fits, pair_rows_fit}
+use Rattle.soundness_rows.specs.Fits.{past_fits, constraint_fits}
 
 pub run-same : (w : ℕ) (rows : List ℕ) {r at at' n m : ℕ} → r ≡ join_of w rows at n → at ≡ at' → n ≡ m → r ≡ join_of w rows at' m
 run-same w rows h e k = rw (e, k) at h
@@ -30,11 +30,6 @@ unfolding constraint_fits
 whole_is w rows at other e h k =
     let past : w - w ≡ 0 = omega arith in
     rw (e, past) (k ∙ ap (λ (x : ℕ). within w x other) h ∙ sym (and-holds _ _ (eq-eqb _ _ (sym (join-none w rows (at + w))))))
-
--- A pair, its sizes known by other names.
-pub pair_same : (w : ℕ) (rows : List ℕ) (i j : ℕ) {r s s' : Bool} {x x' y y' : ℕ} → r ≡ pair_rows_fit w rows s i j x y → s ≡ s' → x ≡ x' → y ≡ y'
-    → r ≡ pair_rows_fit w rows s' i j x' y'
-pair_same w rows i j h es ex ey = rw (es, ex, ey) at h
 
 past-known : every 17 (λ (n : ℕ). and (leb (n * (n - 1)) 240) (leb (slot 0 n) 120)) ≡ true
 unfolding every slot and

@@ -7,6 +7,7 @@ ghost use Rattle.pairs.specs.Pairs.{variables};
 ghost use Rattle.head.specs.Held.{values_at_most};
 ghost use Rattle.soundness_rows.specs.Fits.{past_fits, constraint_fits, pair_rows_fit, lower_rows_fit, rows_fit};
 
+use folds::every;
 use head::{Rows, VARIABLES};
 use pairs::{PLACES, joined};
 use words::{WIDTH, member, wide, within};
@@ -53,11 +54,10 @@ fn lower_rows_sound(sizes: &[u8; VARIABLES], stated: u32, rows: &Rows, j: usize)
     ensures { result ≡ lower_rows_fit width sizes.now stated rows.now j }
 {
     let other = wide(sizes[j]);
-    let mut all = true;
-    for i in 0..j {
-        all &= pair_rows_sound(rows, member(stated, i), i, j, wide(sizes[i]), other);
-    }
-    all
+    every(
+        j,
+        |i| pair_rows_sound(rows, member(stated, i), i, j, wide(sizes[i]), other),
+    )
 }
 
 pub fn rows_sound(n: usize, sizes: &[u8; VARIABLES], stated: &[u32; VARIABLES], rows: &Rows) -> bool
@@ -67,9 +67,5 @@ pub fn rows_sound(n: usize, sizes: &[u8; VARIABLES], stated: &[u32; VARIABLES], 
     if !past_sound(n, rows) {
         return false;
     }
-    let mut all = true;
-    for j in 0..n {
-        all &= lower_rows_sound(sizes, stated[j], rows, j);
-    }
-    all
+    every(n, |j| lower_rows_sound(sizes, stated[j], rows, j))
 }

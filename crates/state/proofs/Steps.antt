@@ -21,8 +21,7 @@ use Rattle.network.proofs.Trimming.{alternate-at-rest, alternate-taken, alternat
 use Rattle.network.proofs.Sound.{free-e}
 use Rattle.network.proofs.Lead.{lead-taken, lead-most, lead-stops, lead-only, lead-free, lead-refuses}
 use Rattle.network.proofs.Reduction.{reduce-count, reduce-taken, reduce-most, reduce-stops}
-use Rattle.answers.specs.declared.Outcome.{Outcome}
-use Rattle.answers.specs.declared.Outcome.TheVariants as outcome
+use Rattle.std.specs.Prelude.{Err}
 use Rattle.answers.specs.Answers.{outcome_number}
 use Rattle.state.specs.declared.state.State.{State}
 use Rattle.state.specs.View.{view, pack, sound_state}
@@ -46,12 +45,11 @@ module _ (s : State) (l f : ℕ) where
   stepped-taken e = call-taken s (follow_step l f) e
 
 -- A refusal that the code answers hands back the state given, whatever would have been done.
-pub refusal-told : {s : State} {number : ℕ} {o : Outcome} {c : Cause} (done : Told) → o ≡ outcome.Refused c → outcome_number o ≡ number
-    → ◌≡◌ {A = Told} (record { number = outcome_number o; state = s; steps = 0 }) (if (eqb number 0) done (refused number s))
+pub refusal-told : {s : State} {number : ℕ} (done : Told) (c : Cause) → outcome_number (Err c) ≡ number
+    → ◌≡◌ {A = Told} (record { number = number_of c; state = s; steps = 0 }) (if (eqb number 0) done (refused number s))
 unfolding outcome_number refused
-refusal-told {s} {number} {o} {c} done e q =
-    let p : outcome_number o ≡ number_of c = ap outcome_number e in
-    ap (λ (k : ℕ). refused k s) q ∙ sym (if-false _ _ _ (ne_eqb number 0 (omega (arith, number-positive c))))
+refusal-told {s} {number} done c q =
+    ap (λ (k : ℕ). refused k s) q ∙ sym (if-false _ _ _ (ne_eqb number 0 (omega (arith, q, number-positive c))))
 
 -- The full reduction, case by case.
 module _ (s : State) where

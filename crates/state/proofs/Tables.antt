@@ -13,8 +13,7 @@ use Rattle.network.specs.Added.{traced, meets_table, add_refusal, added, Adds}
 use Rattle.network.specs.Calls.{add_table, refuses, made, tables_of}
 use Rattle.network.proofs.Added.{not_refused, table-keeps, added-adds}
 use Rattle.network.proofs.Calls.{keeps-to-one}
-use Rattle.answers.specs.declared.Outcome.{Outcome}
-use Rattle.answers.specs.declared.Outcome.TheVariants as outcome
+use Rattle.std.specs.Prelude.{Ok}
 use Rattle.answers.specs.Answers.{outcome_number}
 use Rattle.step_add_judge.proofs.Judging.{counted-from-0}
 use Rattle.head.specs.declared.Head.{Head}
@@ -90,11 +89,11 @@ pub record TableTaken (s : State) (x y : ℕ) (rows : List ℕ) : Type 0 where
   pub second_some : 1 ≤ y
   pub fits : add_refusal (view s) (suc (x - 1)) (suc (y - 1)) rows ≡ 0
 
-pub not-refused-table : {s : State} {x y : ℕ} {rows : List ℕ} {o : Outcome} → o ≡ outcome.Done → outcome_number o ≡ table_refusal s x y rows
+pub not-refused-table : {s : State} {x y : ℕ} {rows : List ℕ} (u : Unit {0}) → outcome_number (Ok u) ≡ table_refusal s x y rows
     → TableTaken s x y rows
 unfolding outcome_number
-not-refused-table {s} {x} {y} {rows} e q =
-    let taken : table_refusal s x y rows ≡ 0 = sym q ∙ ap outcome_number e in
+not-refused-table {s} {x} {y} {rows} u q =
+    let taken : table_refusal s x y rows ≡ 0 = sym q in
     let from-0 = counted-from-0 (view s) x y rows (taken-fits s x y rows taken) in
     record {
       number_0 = taken;

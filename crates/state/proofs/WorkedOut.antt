@@ -11,8 +11,8 @@ use Rattle.network.specs.Reduction.{Reduced, reduce, lead}
 use Rattle.network.specs.Trimming.{alternate}
 use Rattle.network.proofs.Step.{refusal-0, legal-i}
 use Rattle.network.proofs.Lead.{lead-refuses}
-use Rattle.answers.specs.declared.Outcome.{Outcome}
-use Rattle.answers.specs.declared.Outcome.TheVariants as outcome
+use Rattle.std.specs.Prelude.{Ok}
+use Rattle.cause.specs.Number.{number_of}
 use Rattle.answers.specs.Answers.{outcome_number}
 use Rattle.step_reduce.specs.declared.Reduction.{Reduction}
 use Rattle.step_reduce.specs.Reduced.{RanTo}
@@ -34,24 +34,23 @@ unfolding pack
 represents-state R = λ z. state_of (R.head_is z) (R.rows_are z)
 
 -- A call that is not refused is told as what it makes.
-module _ (s : State) (c : Call) {o : Outcome} (taken : call_refusal s c ≡ 0) (done : o ≡ outcome.Done) where
+module _ (s : State) (c : Call) (taken : call_refusal s c ≡ 0) where
   pub taken-told : {told : Reduced} {steps : ℕ} {r : Head} {after : List ℕ} → told ≡ made (view s) c → Represents told.network r after → steps ≡ told.steps
-      → record { number = outcome_number o; state = state_of r after; steps = steps } ≡ called s c
-  unfolding outcome_number
+      → record { number = 0; state = state_of r after; steps = steps } ≡ called s c
   taken-told m R k =
-      (λ z. record { number = ap outcome_number done z; state = represents-state R z; steps = k z })
+      (λ z. record { number = 0; state = represents-state R z; steps = k z })
       ∙ ap (λ (t : Reduced). record { number = 0; state = pack t.network; steps = t.steps }) m
       ∙ sym (call-taken s c taken)
 
   -- So is a run.
   pub ran-told : {r : Reduction} {after : List ℕ} → RanTo (made (view s) c) r after
-      → record { number = outcome_number o; state = state_of r.head after; steps = r.steps } ≡ called s c
+      → record { number = 0; state = state_of r.head after; steps = r.steps } ≡ called s c
   ran-told R = taken-told refl R.becomes R.steps_are
 
 -- A call on a state that is not sound is told as refused.
 pub unsound-told : (s : State) (c : Call) → sound_state s ≡ false
-    → record { number = outcome_number (outcome.Refused cause.Unsound); state = s; steps = 0 } ≡ called s c
-unfolding outcome_number refused
+    → record { number = number_of cause.Unsound; state = s; steps = 0 } ≡ called s c
+unfolding refused
 unsound-told s c t = sym (call-9 s c t)
 
 -- ---- the follow step
@@ -64,10 +63,10 @@ pub record StepTaken (s : State) (l f : ℕ) : Type 0 where
   pub follower_some : 1 ≤ f
   pub is_legal : legal (view s) (l - 1) (f - 1) ≡ true
 
-pub not-refused-step : {s : State} {l f : ℕ} {o : Outcome} → o ≡ outcome.Done → outcome_number o ≡ step_refusal s l f → StepTaken s l f
+pub not-refused-step : {s : State} {l f : ℕ} (u : Unit {0}) → outcome_number (Ok u) ≡ step_refusal s l f → StepTaken s l f
 unfolding outcome_number
-not-refused-step {s} {l} {f} e q =
-    let taken : step_refusal s l f ≡ 0 = sym q ∙ ap outcome_number e in
+not-refused-step {s} {l} {f} u q =
+    let taken : step_refusal s l f ≡ 0 = sym q in
     let sound = taken-sound s (follow_step l f) taken in
     let both = (refusal-0 (view s) l f).0 (sym (sound-step s l f sound) ∙ taken) in
     record {
@@ -88,14 +87,14 @@ step-made N l f = ap₂ (λ (x y : ℕ). record { network = followed N x y; step
 -- The full reduction of a sound state, and the one that alternates with the trimming of live lists.
 module _ (h : Head) (before : List ℕ) {r : Reduction} {after : List ℕ} (t : sound_in h before ≡ true) where
   pub reduction-told : RanTo (reduce (held h before)) r after
-      → record { number = outcome_number outcome.Done; state = state_of r.head after; steps = r.steps } ≡ reduced (state_of h before)
+      → record { number = 0; state = state_of r.head after; steps = r.steps } ≡ reduced (state_of h before)
   unfolding made refuses
-  reduction-told R = let s = state_of h before in ran-told s full_reduction (call-sound s full_reduction t) refl R
+  reduction-told R = let s = state_of h before in ran-told s full_reduction (call-sound s full_reduction t) R
 
   pub alternation-told : RanTo (alternate (held h before)) r after
-      → record { number = outcome_number outcome.Done; state = state_of r.head after; steps = r.steps } ≡ trimmed (state_of h before)
+      → record { number = 0; state = state_of r.head after; steps = r.steps } ≡ trimmed (state_of h before)
   unfolding made refuses
-  alternation-told R = let s = state_of h before in ran-told s trimmed_reduction (call-sound s trimmed_reduction t) refl R
+  alternation-told R = let s = state_of h before in ran-told s trimmed_reduction (call-sound s trimmed_reduction t) R
 
 -- A run of a leader that is named, which nothing refuses, is one of a sound state. The code counts the leader from 0.
 pub record LeadTaken (s : State) (l : ℕ) : Type 0 where
@@ -103,10 +102,10 @@ pub record LeadTaken (s : State) (l : ℕ) : Type 0 where
   pub of_sound : sound_state s ≡ true
   pub leader_some : 1 ≤ l
 
-pub not-refused-lead : {s : State} {l : ℕ} {o : Outcome} → o ≡ outcome.Done → outcome_number o ≡ lead_number s l → LeadTaken s l
+pub not-refused-lead : {s : State} {l : ℕ} (u : Unit {0}) → outcome_number (Ok u) ≡ lead_number s l → LeadTaken s l
 unfolding outcome_number refuses
-not-refused-lead {s} {l} e q =
-    let taken : lead_number s l ≡ 0 = sym q ∙ ap outcome_number e in
+not-refused-lead {s} {l} u q =
+    let taken : lead_number s l ≡ 0 = sym q in
     let sound = taken-sound s (led_reduction l) taken in
     record {
       number_0 = taken;

@@ -23,7 +23,7 @@ cut_told r =
       place = read_place r.outcome;
       state = r.state;
       steps = r.steps;
-      verdict = verdict_told r.verdict r.solution;
+      verdict = verdict_told r.verdict;
     }
 
 -- An accepted sheet is reduced, and the verdict is that of the reduced state.

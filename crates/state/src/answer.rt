@@ -1,18 +1,18 @@
 // The answers that hold a state. The definitions in specs/ say what each call answers.
 use crate::state::State;
-use answers::{Outcome, ReadOutcome, Verdict};
-use head::VARIABLES;
+use answers::Verdict;
+use cause::{Cause, Refusal};
 
 #[derive(Clone, Copy)]
 pub struct ReadAnswer {
-    pub outcome: ReadOutcome,
+    pub outcome: Result<(), Refusal>,
     pub state: State,
 }
 
 // A step or a reduction: the state handed back and how many steps were taken.
 #[derive(Clone, Copy)]
 pub struct Answer {
-    pub outcome: Outcome,
+    pub outcome: Result<(), Cause>,
     pub state: State,
     pub steps: usize,
 }
@@ -20,9 +20,8 @@ pub struct Answer {
 // Reading, the full reduction and the verdict, one after the other.
 #[derive(Clone, Copy)]
 pub struct CutAnswer {
-    pub outcome: ReadOutcome,
+    pub outcome: Result<(), Refusal>,
     pub state: State,
     pub steps: usize,
-    pub verdict: Verdict,
-    pub solution: [u8; VARIABLES],
+    pub verdict: Result<Verdict, Cause>,
 }

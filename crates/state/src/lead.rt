@@ -7,47 +7,32 @@ ghost use Rattle.state.specs.Steps.{lead_number, led};
 ghost use Rattle.state.specs.Worked.{worked_told};
 
 use crate::answer::Answer;
-use crate::reduction::{Worked, handed_back};
+use crate::reduction::handed_back;
 use crate::state::{State, head_in};
-use answers::Outcome;
 use cause::Cause;
 use head::{Head, Rows, whole};
 use soundness::sound_parts;
 use step_choice::judge_leader;
-use step_reduce::lead_sound;
+use step_reduce::{Reduction, lead_sound};
 
-// Why a run that `leader` is to lead is refused, or `Done`: soundness is tested first.
-fn refuse_lead(head: Head, rows: &Rows, leader: usize) -> Outcome
+// Why a run that `leader` is to lead is refused, or `Ok`: soundness is tested first.
+fn refuse_lead(head: Head, rows: &Rows, leader: usize) -> Result<(), Cause>
     ensures { outcome_number result ≡ lead_number (state_of head rows.now) leader }
 {
     if !sound_parts(head, rows) {
-        return Outcome::Refused(Cause::Unsound);
+        return Err(Cause::Unsound);
     }
     judge_leader(head, leader)
 }
 
 // The run that `leader` leads. A refusal comes before anything is stored.
-pub fn lead_parts(head: Head, rows: &mut Rows, leader: usize) -> Worked
-    ensures { worked_told result rows.new ≡ led (state_of head rows.old) leader }
+pub fn lead_parts(head: Head, rows: &mut Rows, leader: usize) -> Result<Reduction, Cause>
+    ensures { worked_told head result rows.new ≡ led (state_of head rows.old) leader }
 {
-    let outcome = refuse_lead(head, rows, leader);
-    let Outcome::Done = outcome else {
-        return Worked {
-            outcome,
-            steps: 0,
-            head,
-        };
-    };
+    refuse_lead(head, rows, leader)?;
     // What the type of lent rows says is learnt from a copy, which the compiler drops.
-    let given = *rows;
-    whole(given);
-    let run = lead_sound(head, rows, leader - 1);
-    let left = run.head;
-    Worked {
-        outcome,
-        steps: run.steps,
-        head: left,
-    }
+    whole(*rows);
+    Ok(lead_sound(head, rows, leader - 1))
 }
 
 impl State {
@@ -58,6 +43,6 @@ impl State {
         let head = head_in(self);
         let mut rows = self.rows;
         let worked = lead_parts(head, &mut rows, leader);
-        handed_back(worked, rows)
+        handed_back(head, worked, rows)
     }
 }

@@ -10,7 +10,8 @@ mod trim;
 
 pub use answer::{Answer, CutAnswer, ReadAnswer};
 pub use lead::lead_parts;
-pub use reduction::{Worked, eliminate_parts, reduce_parts};
+pub use reduction::{eliminate_parts, reduce_parts};
 pub use state::{State, head_in, state_of};
+pub use step_reduce::Reduction;
 pub use table::add_parts;
 pub use trim::trim_parts;

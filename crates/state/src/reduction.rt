@@ -9,89 +9,70 @@ ghost use Rattle.state.specs.Worked.{worked_told};
 
 use crate::answer::Answer;
 use crate::state::{State, head_in, state_of};
-use answers::Outcome;
 use cause::Cause;
 use head::{Head, Rows, whole};
 use soundness::sound_parts;
 use step_choice::judge;
-use step_reduce::reduce_sound;
+use step_reduce::{Reduction, reduce_sound};
 use step_rules::step;
 
-// What a step or a reduction makes of the head, and its count.
-#[derive(Clone, Copy)]
-pub struct Worked {
-    pub outcome: Outcome,
-    pub steps: usize,
-    pub head: Head,
-}
-
-// Why a follow step is refused, or `Done`: soundness is tested first.
-fn refuse_step(head: Head, rows: &Rows, leader: usize, follower: usize) -> Outcome
+// Why a follow step is refused, or `Ok`: soundness is tested first.
+fn refuse_step(head: Head, rows: &Rows, leader: usize, follower: usize) -> Result<(), Cause>
     ensures { outcome_number result ≡ step_refusal (state_of head rows.now) leader follower }
 {
     if !sound_parts(head, rows) {
-        return Outcome::Refused(Cause::Unsound);
+        return Err(Cause::Unsound);
     }
     judge(head, rows, leader, follower)
 }
 
 // One follow step. A refusal comes before anything is stored.
-pub fn eliminate_parts(head: Head, rows: &mut Rows, leader: usize, follower: usize) -> Worked
-    ensures { worked_told result rows.new ≡ stepped (state_of head rows.old) leader follower }
+pub fn eliminate_parts(
+    head: Head,
+    rows: &mut Rows,
+    leader: usize,
+    follower: usize,
+) -> Result<Reduction, Cause>
+    ensures { worked_told head result rows.new ≡ stepped (state_of head rows.old) leader follower }
 {
-    let outcome = refuse_step(head, rows, leader, follower);
-    let Outcome::Done = outcome else {
-        return Worked {
-            outcome,
-            steps: 0,
-            head,
-        };
-    };
+    refuse_step(head, rows, leader, follower)?;
     // What the type of lent rows says is learnt from a copy, which the compiler drops.
-    let given = *rows;
-    whole(given);
+    whole(*rows);
     let after = step(head, rows, leader - 1, follower - 1);
-    Worked {
-        outcome,
-        steps: 1,
+    Ok(Reduction {
         head: after,
-    }
+        steps: 1,
+    })
 }
 
 // The full reduction. A refusal comes before anything is stored.
-pub fn reduce_parts(head: Head, rows: &mut Rows) -> Worked
-    ensures { worked_told result rows.new ≡ reduced (state_of head rows.old) }
+pub fn reduce_parts(head: Head, rows: &mut Rows) -> Result<Reduction, Cause>
+    ensures { worked_told head result rows.new ≡ reduced (state_of head rows.old) }
 {
     if !sound_parts(head, rows) {
-        return Worked {
-            outcome: Outcome::Refused(Cause::Unsound),
-            steps: 0,
-            head,
-        };
+        return Err(Cause::Unsound);
     }
     // What the type of lent rows says is learnt from a copy, which the compiler drops.
-    let given = *rows;
-    whole(given);
-    let cut = reduce_sound(head, rows);
-    let left = cut.head;
-    Worked {
-        outcome: Outcome::Done,
-        steps: cut.steps,
-        head: left,
-    }
+    whole(*rows);
+    Ok(reduce_sound(head, rows))
 }
 
-// "It hands back the state and the number of steps".
-pub fn handed_back(worked: Worked, rows: Rows) -> Answer
-    ensures { told result ≡ worked_told worked rows }
+// "It hands back the state and the number of steps": a refused call the state given.
+#[tactic(auto, unfolding(crate::specs::Answers::told, answers::specs::Answers::outcome_number))]
+pub(crate) fn handed_back(given: Head, worked: Result<Reduction, Cause>, rows: Rows) -> Answer
+    ensures { told result ≡ worked_told given worked rows }
 {
-    let outcome = worked.outcome;
-    let head = worked.head;
-    let state = state_of(head, rows);
-    Answer {
-        outcome,
-        state,
-        steps: worked.steps,
+    match worked {
+        Ok(run) => Answer {
+            outcome: Ok(()),
+            state: state_of(run.head, rows),
+            steps: run.steps,
+        },
+        Err(cause) => Answer {
+            outcome: Err(cause),
+            state: state_of(given, rows),
+            steps: 0,
+        },
     }
 }
 
@@ -103,7 +84,7 @@ impl State {
         let head = head_in(self);
         let mut rows = self.rows;
         let worked = eliminate_parts(head, &mut rows, leader, follower);
-        handed_back(worked, rows)
+        handed_back(head, worked, rows)
     }
 
     // The full reduction: the state that no step is legal in any more, and how many steps led there.
@@ -113,6 +94,6 @@ impl State {
         let head = head_in(self);
         let mut rows = self.rows;
         let worked = reduce_parts(head, &mut rows);
-        handed_back(worked, rows)
+        handed_back(head, worked, rows)
     }
 }

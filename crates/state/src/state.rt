@@ -26,6 +26,7 @@ pub struct State {
 pub fn head_in(state: State) -> Head
     ensures { result ≡ head_in state }
 {
+    // An array of a struct goes into another by way of a variable: the check asks for it.
     let sizes = state.sizes;
     let domains = state.domains;
     let leaders = state.leaders;

@@ -7,46 +7,49 @@ ghost use Rattle.state.specs.Tables.{table_refusal, table_added};
 ghost use Rattle.state.specs.Worked.{worked_told};
 
 use crate::answer::Answer;
-use crate::reduction::{Worked, handed_back};
+use crate::reduction::handed_back;
 use crate::state::{State, head_in};
-use answers::Outcome;
 use cause::Cause;
 use head::{Head, Rows, whole};
 use soundness::sound_parts;
 use step_add::add;
 use step_add_judge::judge_table;
+use step_reduce::Reduction;
 
-// Why a table is refused, or `Done`: soundness is tested first.
-fn refuse_table(head: Head, rows: &Rows, first: usize, second: usize, table: &[u32]) -> Outcome
+// Why a table is refused, or `Ok`: soundness is tested first.
+fn refuse_table(
+    head: Head,
+    rows: &Rows,
+    first: usize,
+    second: usize,
+    table: &[u32],
+) -> Result<(), Cause>
     ensures { outcome_number result ≡ table_refusal (state_of head rows.now) first second table.now }
 {
     if !sound_parts(head, rows) {
-        return Outcome::Refused(Cause::Unsound);
+        return Err(Cause::Unsound);
     }
     judge_table(head, first, second, table)
 }
 
-// One table. A refusal comes before anything is stored.
-pub fn add_parts(head: Head, rows: &mut Rows, first: usize, second: usize, table: &[u32]) -> Worked
-    ensures { worked_told result rows.new ≡ table_added (state_of head rows.old) first second table.now }
+// One table, which takes no step. A refusal comes before anything is stored.
+pub fn add_parts(
+    head: Head,
+    rows: &mut Rows,
+    first: usize,
+    second: usize,
+    table: &[u32],
+) -> Result<Reduction, Cause>
+    ensures { worked_told head result rows.new ≡ table_added (state_of head rows.old) first second table.now }
 {
-    let outcome = refuse_table(head, rows, first, second, table);
-    let Outcome::Done = outcome else {
-        return Worked {
-            outcome,
-            steps: 0,
-            head,
-        };
-    };
+    refuse_table(head, rows, first, second, table)?;
     // What the type of lent rows says is learnt from a copy, which the compiler drops.
-    let given = *rows;
-    whole(given);
+    whole(*rows);
     let after = add(head, rows, first - 1, second - 1, table);
-    Worked {
-        outcome,
-        steps: 0,
+    Ok(Reduction {
         head: after,
-    }
+        steps: 0,
+    })
 }
 
 impl State {
@@ -58,6 +61,6 @@ impl State {
         let head = head_in(self);
         let mut rows = self.rows;
         let worked = add_parts(head, &mut rows, first, second, table);
-        handed_back(worked, rows)
+        handed_back(head, worked, rows)
     }
 }

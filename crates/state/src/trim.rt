@@ -7,35 +7,24 @@ ghost use Rattle.state.specs.Steps.{trimmed};
 ghost use Rattle.state.specs.Worked.{worked_told};
 
 use crate::answer::Answer;
-use crate::reduction::{Worked, handed_back};
+use crate::reduction::handed_back;
 use crate::state::{State, head_in};
-use answers::Outcome;
 use cause::Cause;
 use head::{Head, Rows, whole};
 use soundness::sound_parts;
 use step_alternate::alternate_sound;
+use step_reduce::Reduction;
 
 // "It refuses only with 9." A refusal comes before anything is stored.
-pub fn trim_parts(head: Head, rows: &mut Rows) -> Worked
-    ensures { worked_told result rows.new ≡ trimmed (state_of head rows.old) }
+pub fn trim_parts(head: Head, rows: &mut Rows) -> Result<Reduction, Cause>
+    ensures { worked_told head result rows.new ≡ trimmed (state_of head rows.old) }
 {
     if !sound_parts(head, rows) {
-        return Worked {
-            outcome: Outcome::Refused(Cause::Unsound),
-            steps: 0,
-            head,
-        };
+        return Err(Cause::Unsound);
     }
     // What the type of lent rows says is learnt from a copy, which the compiler drops.
-    let given = *rows;
-    whole(given);
-    let cut = alternate_sound(head, rows);
-    let left = cut.head;
-    Worked {
-        outcome: Outcome::Done,
-        steps: cut.steps,
-        head: left,
-    }
+    whole(*rows);
+    Ok(alternate_sound(head, rows))
 }
 
 impl State {
@@ -46,6 +35,6 @@ impl State {
         let head = head_in(self);
         let mut rows = self.rows;
         let worked = trim_parts(head, &mut rows);
-        handed_back(worked, rows)
+        handed_back(head, worked, rows)
     }
 }

@@ -10,10 +10,11 @@ ghost use Rattle.state_bins.specs.Bins.{delivery_number, delivered_bins, call_of
 ghost use Rattle.state_bins.specs.Asked.{delivery_refusal, call_off_refusal, Delivers, CallsOff};
 ghost use Rattle.state_bins.specs.Numbers.{one_of};
 
-use answers::{Outcome, test_agrees, test_number};
+use answers::{test_agrees, test_number};
 use bins::{Bin, Plan};
 use bins_post::post;
 use cause::Cause;
+use folds::table;
 use head::{Head, Rows, VARIABLES};
 use soundness::sound_parts;
 use state::{State, head_in};
@@ -33,13 +34,7 @@ fn byte(solution: &[u8], i: usize) -> u8
 fn sixteen(solution: &[u8]) -> [u8; VARIABLES]
     ensures { result ≡ tabulate 16 (values_of solution.now) }
 {
-    let mut values = [0u8; VARIABLES];
-    let mut i = 0;
-    while i < 16 {
-        values[i] = byte(solution, i);
-        i = i + 1;
-    }
-    values
+    table(|i| byte(solution, i))
 }
 
 // What is refused whatever the bins hold: 9 or 28. A value that no list has is taken.
@@ -139,15 +134,15 @@ pub fn plan_call_off(state: State, solution: &[u8], amount: u32) -> Plan
 }
 
 // The answer of a number that `post` gives.
-pub fn outcome_of(code: u8) -> Outcome
+pub fn outcome_of(code: u8) -> Result<(), Cause>
     ensures { outcome_number result ≡ one_of code }
 {
     match code {
-        0 => Outcome::Done,
-        9 => Outcome::Refused(Cause::Unsound),
-        27 => Outcome::Refused(Cause::BinRecords),
-        28 => Outcome::Refused(Cause::NotInStock),
-        _ => Outcome::Refused(Cause::BinTooLow),
+        0 => Ok(()),
+        9 => Err(Cause::Unsound),
+        27 => Err(Cause::BinRecords),
+        28 => Err(Cause::NotInStock),
+        _ => Err(Cause::BinTooLow),
     }
 }
 
@@ -158,7 +153,7 @@ pub fn deliver(
     variable: usize,
     value: usize,
     amount: u32,
-) -> Outcome
+) -> Result<(), Cause>
     ensures { (outcome_number result ≡ delivery_number state bins.old variable value amount)
         × (bins.new ≡ delivered_bins state bins.old variable value amount) }
 {
@@ -168,7 +163,7 @@ pub fn deliver(
 }
 
 // "A call-off names a build and a number, and draws that number from the bin of each of its values, or from none."
-pub fn call_off(state: State, bins: &mut [Bin], solution: &[u8], amount: u32) -> Outcome
+pub fn call_off(state: State, bins: &mut [Bin], solution: &[u8], amount: u32) -> Result<(), Cause>
     ensures { (outcome_number result ≡ call_off_number state bins.old solution.now amount)
         × (bins.new ≡ called_off_bins state bins.old solution.now amount) }
 {

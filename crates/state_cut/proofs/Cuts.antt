@@ -16,11 +16,11 @@ use Rattle.format.specs.Parse.{Octets, parse, got, bad}
 use Rattle.format.specs.Layout.{longest}
 use Rattle.format.proofs.Places.{refused-place}
 use Rattle.state.specs.declared.state.State.{State}
-use Rattle.answers.specs.declared.ReadOutcome.TheVariants as readOutcome
-use Rattle.state_read.specs.declared.ReadParts.{ReadParts}
-use Rattle.answers.specs.declared.Verdict.TheVariants as verdict
+use Rattle.std.specs.Prelude.{Ok, Err}
+use Rattle.cause.specs.declared.Refusal.{Refusal}
+use Rattle.head.specs.declared.Head.{Head}
 use Rattle.state.specs.View.{state_of, view, sound_state, state_of_zeros}
-use Rattle.answers.specs.Answers.{number_read, read_place, VerdictTold, verdict_told, no_verdict}
+use Rattle.answers.specs.Answers.{VerdictTold, no_verdict}
 use Rattle.state.specs.Answers.{ReadTold, Told}
 use Rattle.state.specs.Read.{read_sheet}
 use Rattle.state.specs.Steps.{reduced}
@@ -33,41 +33,21 @@ use Rattle.state.proofs.Steps.{reduced-keeps, reduced-most}
 use Rattle.state.proofs.Cut.{cut-taken, cut-away}
 use Rattle.state_read.proofs.RoundTrip.{AsRead, got-or-bad, read-refused, read-got, read-sound}
 
--- Parts that tell what reading says, and their rows.
-module _ (bytes : List ℕ) (a : ReadParts) (rows : List ℕ) (e : read_parts_told a rows ≡ read_sheet bytes) where
+-- What refuses the sheet refuses its verdict.
+pub cut-refused : (bytes rows : List ℕ) (r : Refusal) → read_parts_told (Err r) rows ≡ read_sheet bytes → cut_parts_told (Err r) rows ≡ cut_sheet bytes
+unfolding cut_parts_told cut_sheet cut_refused read_parts_told
+cut-refused bytes rows r e =
+    sym (cut-away (record { number = number_of r.cause; place = r.place; state = state_of zero_head rows }) (λ z. omega (arith, number-positive r.cause))) ∙ ap cut_as e
+
+-- A head and rows that tell what reading says.
+module _ (bytes : List ℕ) (h : Head) (rows : List ℕ) (e : read_parts_told (Ok h) rows ≡ read_sheet bytes) where
   abbrev pub state_read : State
-  state_read = state_of a.head rows
-
-  told-number : number_read a.outcome ≡ (read_sheet bytes).number
-  unfolding read_parts_told
-  told-number = ap (λ (r : ReadTold). r.number) e
-
-  told-state : state_read ≡ (read_sheet bytes).state
-  unfolding read_parts_told
-  told-state = ap (λ (r : ReadTold). r.state) e
-
-  -- What refuses the sheet refuses its verdict.
-  pub cut-refused : {c : Cause} {at : ℕ} → a.outcome ≡ readOutcome.Refused c at
-      → cut_parts_told
-      (record {
-        outcome = readOutcome.Refused c at;
-        head = a.head;
-        steps = 0;
-        verdict = verdict.Refused c;
-        solution = replicate variables 0;
-      })
-      rows
-      ≡ cut_sheet bytes
-  unfolding cut_parts_told cut_sheet cut_refused read_parts_told number_read read_place verdict_told
-  cut-refused {c} {at} h =
-      let told : ◌≡◌ {A = ReadTold} (record { number = number_of c; place = at; state = state_read }) (read_sheet bytes) =
-      sym (λ z. record { number = ap number_read h z; place = ap read_place h z; state = state_read }) ∙ e in
-      sym (cut-away (record { number = number_of c; place = at; state = state_read }) (λ z. omega (arith, number-positive c))) ∙ ap cut_as told
+  state_read = state_of h rows
 
   -- An accepted sheet gives a sound state,
-  pub cut-read : Octets bytes → a.outcome ≡ readOutcome.Accepted → AsRead state_read
-  unfolding number_read
-  cut-read octets h = rw told-state (read-sound bytes octets (sym told-number ∙ ap number_read h))
+  pub cut-read : Octets bytes → AsRead state_read
+  unfolding read_parts_told
+  cut-read octets = rw (ap (λ (r : ReadTold). r.state) e) (read-sound bytes octets (sym (ap (λ (r : ReadTold). r.number) e)))
 
   module _ (r : AsRead state_read) {b : Told} (told-reduced : b ≡ reduced state_read) where
     -- which the reduction keeps sound,
@@ -78,15 +58,13 @@ module _ (bytes : List ℕ) (a : ReadParts) (rows : List ℕ) (e : read_parts_to
     cut-sound = kept.kept_sound r.is_sound
 
     -- and its verdict is that of the reduced state.
-    pub cut-accepted : a.outcome ≡ readOutcome.Accepted → {v : VerdictTold} → v ≡ verdict_of b.state
-        → ◌≡◌ {A = CutTold}
-        (record { number = number_read a.outcome; place = read_place a.outcome; state = b.state; steps = b.steps; verdict = v })
-        (cut_sheet bytes)
-    unfolding cut_accepted cut_sheet read_parts_told number_read
-    cut-accepted h g =
-        (λ z. record { number = number_read a.outcome; place = read_place a.outcome; state = b.state; steps = b.steps; verdict = g z })
-        ∙ ap (cut_accepted (read_parts_told a rows)) told-reduced
-        ∙ sym (cut-taken (read_parts_told a rows) (ap number_read h))
+    pub cut-accepted : {v : VerdictTold} → v ≡ verdict_of b.state
+        → ◌≡◌ {A = CutTold} (record { number = 0; place = 0; state = b.state; steps = b.steps; verdict = v }) (cut_sheet bytes)
+    unfolding cut_accepted cut_sheet read_parts_told
+    cut-accepted g =
+        (λ z. record { number = 0; place = 0; state = b.state; steps = b.steps; verdict = g z })
+        ∙ ap (cut_accepted (read_parts_told (Ok h) rows)) told-reduced
+        ∙ sym (cut-taken (read_parts_told (Ok h) rows) refl)
         ∙ ap cut_as e
 
 -- How large the numbers of an answer are: a place is within the largest sheet, and there are at most 16 variables and so fewer steps.

@@ -12,24 +12,19 @@ use Rattle.bounded.proofs.Bool.{by_cases, not-i, not-false-i, if-true, if-false}
 use Rattle.network.specs.Order.{order_refusal, find_refusal, test_order, find_order}
 use Rattle.network.specs.Sound.{Sound}
 use Rattle.network.proofs.Order.{order-30, find-0, find-14}
-use Rattle.answers.specs.Answers.{TestTold, says, refuses}
-use Rattle.order.specs.Orders.{order_tested, found_buffer}
-use Rattle.order.specs.declared.test.Tested.{Tested}
-use Rattle.order.specs.declared.test.Tested.TheVariants as tested
+use Rattle.answers.specs.Answers.{says, refuses, test_told, outcome_number}
+use Rattle.order.specs.Orders.{order_tested, OrderFound, found_buffer}
+use Rattle.std.specs.Prelude.{Result, Ok, Err}
+use Rattle.cause.specs.declared.Cause.{Cause}
+use Rattle.cause.specs.declared.Cause.TheVariants.{OrderNumbers, SolutionLength}
+use Rattle.cause.specs.Number.{number_of}
 use Rattle.state.specs.declared.state.State.{State}
 use Rattle.state.specs.View.{view, sound_state}
 use Rattle.state_order.specs.Orders.{order_number, order_told, find_number, order_buffer}
 
--- What the test of a sound state's order tells.
-unfoldable pub told_as : Tested → TestTold
-told_as tested.Good = says true
-told_as tested.Not = says false
-told_as tested.Refused = refuses 30
-
-told-if : (b g : Bool) → told_as (if b (if g tested.Good tested.Not) tested.Refused) ≡ if b (says g) (refuses 30)
-unfolding told_as if
-told-if true true = refl
-told-if true false = refl
+told-if : (b g : Bool) → test_told (if b (Ok g) (Err OrderNumbers)) ≡ if b (says g) (refuses 30)
+unfolding test_told if
+told-if true g = refl
 told-if false g = refl
 
 module _ (s : State) (order : List ℕ) where
@@ -53,10 +48,10 @@ module _ (s : State) (order : List ℕ) where
   told-9 h = sym (told-refuses 9 (order-unsound h) (omega arith))
 
   -- Of a sound state the call tells what the kernel does.
-  pub told-tested : (S : Sound (view s)) → sound_state s ≡ true → (r : Tested) → r ≡ order_tested (view s) order → told_as r ≡ order_told s order
+  pub told-tested : (S : Sound (view s)) → sound_state s ≡ true → (r : Result Bool Cause) → r ≡ order_tested (view s) order → test_told r ≡ order_told s order
   unfolding order_tested
   told-tested S h r e =
-      ap told_as e ∙ told-if _ _
+      ap test_told e ∙ told-if _ _
       ∙ by_cases (eqb (order_refusal (view s) order) 0)
       (λ t. if-true _ _ _ t ∙ sym (told-says (order-own h ∙ eqb-true _ 0 t)))
       (λ t. if-false _ _ _ t ∙ sym (told-refuses 30 (order-own h ∙ order-30 (view s) S order (eqb-false _ 0 t)) (omega arith)))
@@ -88,12 +83,11 @@ module _ (s : State) (buffer : List ℕ) where
     unfolding found_buffer order_buffer
     own-buffer = e ∙ ap (λ (k : ℕ). if (eqb k 0) (find_order (view s)) buffer) (sym (find-own h))
 
-    pub find-refused : (S : Sound (view s)) → false ≡ eqb (find_refusal (view s) (length buffer)) 0
-        → (14 ≡ find_number s buffer) × (after ≡ order_buffer s buffer)
-    find-refused S r = (
-      sym (find-own h ∙ find-14 (view s) S (length buffer) (λ q. eqb-false _ 0 (sym r) ((find-0 (view s) S (length buffer)).1 q))),
+    pub find-told : (S : Sound (view s)) (r : Result (Unit {0}) Cause) → OrderFound (view s) (length buffer) r
+        → (outcome_number r ≡ find_number s buffer) × (after ≡ order_buffer s buffer)
+    unfolding outcome_number
+    find-told S (Ok done) r = (sym (find-own h ∙ r), own-buffer)
+    find-told S (Err cause) r = (
+      ap number_of r.1 ∙ sym (find-own h ∙ find-14 (view s) S (length buffer) (λ q. r.0 ((find-0 (view s) S (length buffer)).1 q))),
       own-buffer,
     )
-
-    pub find-done : true ≡ eqb (find_refusal (view s) (length buffer)) 0 → (0 ≡ find_number s buffer) × (after ≡ order_buffer s buffer)
-    find-done r = (sym (find-own h ∙ eqb-true _ 0 (sym r)), own-buffer)

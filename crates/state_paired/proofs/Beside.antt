@@ -18,13 +18,13 @@ use Rattle.format.specs.Profile.{unpaired_place}
 use Rattle.format.proofs.Places.{refused-number}
 use Rattle.format.proofs.Profile.{no_place, a-place, none_other, first-other, place_none, place-first, place-there}
 use Rattle.format.proofs.Profile as format
-use Rattle.answers.specs.declared.ReadOutcome.TheVariants as readOutcome
-use Rattle.answers.specs.Answers.{number_read}
+use Rattle.std.specs.Prelude.{Result, Ok, Err}
+use Rattle.cause.specs.declared.Refusal.{Refusal}
+use Rattle.head.specs.declared.Head.{Head}
 use Rattle.read_paired.specs.Accepted.{Accepted}
 use Rattle.state.specs.View.{state_of_zeros}
 use Rattle.state.specs.Answers.{ReadTold}
 use Rattle.state.specs.Read.{read_as, read_sheet, read_paired}
-use Rattle.state_read.specs.declared.ReadParts.{ReadParts}
 use Rattle.state_read.specs.Parts.{read_parts_told}
 use Rattle.state_read.proofs.RoundTrip.{read-got, read-refused, got-or-bad, got-accepted}
 use Rattle.state_paired.specs.Beside.{network_old, BesideReading, PairedBeside}
@@ -48,35 +48,32 @@ module _ (bytes : List ℕ) where
 
 -- ---- as the function goes: parts that tell what reading says
 
-module _ (bytes : List ℕ) (a : ReadParts) (rows : List ℕ) (told : read_parts_told a rows ≡ read_sheet bytes) where
-  told-number : number_read a.outcome ≡ (read_sheet bytes).number
-  unfolding read_parts_told
-  told-number = ap (λ (r : ReadTold). r.number) told
-
+module _ (bytes rows : List ℕ) where
   -- A refusal is handed on.
-  pub handed-on : {c : Cause} {at : ℕ} → a.outcome ≡ readOutcome.Refused c at → read_parts_told a rows ≡ read_paired bytes
-  unfolding number_read
-  handed-on {c} {at} h =
+  pub handed-on : (r : Refusal) → read_parts_told (Err r) rows ≡ read_sheet bytes → read_parts_told (Err r) rows ≡ read_paired bytes
+  unfolding read_parts_told
+  handed-on r told =
       told
       ∙ sym (got-or-bad bytes (parse bytes) refl
-      (λ s next e. absurd (let z : (read_sheet bytes).number ≡ 0 = ap (λ (r : ReadTold). r.number) (read-got bytes s next e) in
-      let n : number_of c ≡ (read_sheet bytes).number = sym (ap number_read h) ∙ told-number in
-      let x : ⊥ = omega (arith, number-positive c) in x))
+      (λ s next e. absurd (let z : (read_sheet bytes).number ≡ 0 = ap (λ (t : ReadTold). t.number) (read-got bytes s next e) in
+      let n : number_of r.cause ≡ (read_sheet bytes).number = ap (λ (t : ReadTold). t.number) told in
+      let x : ⊥ = omega (arith, number-positive r.cause) in x))
       (λ d place e. refused-before bytes d place e))
 
-  -- An accepted sheet is one that the walk takes,
-  pub walked : a.outcome ≡ readOutcome.Accepted → Accepted bytes
-  unfolding number_read
-  walked h =
-      got-or-bad bytes (parse bytes) refl
-      (λ s next e. record { sheet = s; end = next; read = e })
-      (λ d place e. absurd (let z : (read_sheet bytes).number ≡ number_of d = ap (λ (r : ReadTold). r.number) (read-refused bytes d place e) in
-      let n : 0 ≡ (read_sheet bytes).number = sym (ap number_read h) ∙ told-number in
-      let x : ⊥ = omega (arith, number-positive d) in x))
+  module _ (h : Head) (told : read_parts_told (Ok h) rows ≡ read_sheet bytes) where
+    -- An accepted sheet is one that the walk takes,
+    pub walked : Accepted bytes
+    unfolding read_parts_told
+    walked =
+        got-or-bad bytes (parse bytes) refl
+        (λ s next e. record { sheet = s; end = next; read = e })
+        (λ d place e. absurd (let z : (read_sheet bytes).number ≡ number_of d = ap (λ (t : ReadTold). t.number) (read-refused bytes d place e) in
+        let n : 0 ≡ (read_sheet bytes).number = ap (λ (t : ReadTold). t.number) told in
+        let x : ⊥ = omega (arith, number-positive d) in x))
 
-  -- and it is accepted where that finds no place.
-  pub kept : Accepted bytes → unpaired_place bytes ≡ 0 → read_parts_told a rows ≡ read_paired bytes
-  kept A z = told ∙ sym (none_found bytes A.sheet A.end A.read z)
+    -- and it is accepted where that finds no place.
+    pub kept : Accepted bytes → unpaired_place bytes ≡ 0 → read_parts_told (Ok h) rows ≡ read_paired bytes
+    kept A z = told ∙ sym (none_found bytes A.sheet A.end A.read z)
 
 -- Where it finds one the sheet is refused.
 pub turned-away : (bytes : List ℕ) → Accepted bytes → {place : ℕ} → place ≡ unpaired_place bytes → (place ≡ 0 → ⊥)

@@ -27,7 +27,7 @@ use Rattle.state.specs.declared.state.State.{State}
 use Rattle.state.specs.View.{view, pack}
 use Rattle.state.specs.Answers.{ReadTold}
 use Rattle.state.specs.Read.{read_as, read_sheet}
-use Rattle.state_read.specs.Before.{parse_before, InWordsOf, AsBefore, Version1AsBefore, OthersAsBefore}
+use Rattle.state_read.specs.Before.{parse_before, InWordsOf, Version1AsBefore, OthersAsBefore}
 use Rattle.state_read.proofs.RoundTrip.{accepted, got-accepted, read-got}
 
 -- A word whose members are all below w is the same number in w bits.

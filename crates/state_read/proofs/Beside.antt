@@ -12,7 +12,7 @@ use Rattle.format.proofs.Beside.{Stricter, both_get, both_refuse, is_blank, blan
 use Rattle.state.specs.View.{view}
 use Rattle.state.specs.Answers.{ReadTold}
 use Rattle.state.specs.Read.{read_as, read_sheet}
-use Rattle.state_read.specs.Beside.{BesideVersion2, Version3Beside2}
+use Rattle.state_read.specs.Beside.{Version3Beside2}
 use Rattle.state_read.proofs.RoundTrip.{read-got, accepted}
 
 answered-stricter : {p q : Parse Sheet} → Stricter p q → (read_as p ≡ read_as q) ⊎ ((read_as p).number ≡ 26)

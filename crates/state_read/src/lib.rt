@@ -8,34 +8,23 @@ ghost use Rattle.pairs.specs.Pairs.{variables};
 ghost use Rattle.head.specs.Held.{zero_head, zero_rows};
 ghost use Rattle.format.specs.Parse.{bad};
 ghost use Rattle.state.specs.Read.{read_as, read_sheet};
-ghost use Rattle.state_read.specs.Parts.{read_parts_told};
+ghost use Rattle.state_read.specs.Parts.{read_parts_told, head_told};
 
-use answers::ReadOutcome;
-use cause::Cause;
+use cause::Refusal;
+use folds::table;
 use head::{Head, Rows, VARIABLES};
 use pairs::PLACES;
-use read_field::Read;
 
-// What was read besides the rows: all zero after a refusal.
-#[derive(Clone, Copy)]
-pub struct ReadParts {
-    pub outcome: ReadOutcome,
-    pub head: Head,
-}
-
-// Full domains: all values below each size. Sizes past `n` are 0, and none has a value there.
-fn full_domains(n: usize, sizes: [u8; VARIABLES]) -> [u32; VARIABLES]
-    requires { (n ≤ variables) × ((i : ℕ) → get_or sizes i 0 ≤ width) × ((i : ℕ) → n ≤ i → get_or sizes i 0 ≡ 0) }
-    ensures { result ≡ tabulate variables (λ (i : ℕ). word width (λ (a : ℕ). ltb a (get_or sizes i 0))) }
+// Full domains: all values below each size. A size past `n` is 0, and no value is below it.
+fn full_domains(sizes: &[u8; VARIABLES]) -> [u32; VARIABLES]
+    requires { (i : ℕ) → get_or sizes.now i 0 ≤ width }
+    ensures { result ≡ tabulate variables (λ (i : ℕ). word width (λ (a : ℕ). ltb a (get_or sizes.now i 0))) }
 {
-    let mut domains = [0u32; VARIABLES];
-    for i in 0..n {
-        domains[i] = words::full(sizes[i] as usize);
-    }
-    domains
+    table(|i| words::full(words::wide(sizes[i])))
 }
 
-fn zero_head() -> Head
+#[tactic(auto, unfolding(head::specs::Held::zero_head))]
+pub fn zero_head() -> Head
     ensures { result ≡ zero_head }
 {
     Head {
@@ -47,46 +36,40 @@ fn zero_head() -> Head
     }
 }
 
-fn zero_rows(rows: &mut Rows)
-    ensures { rows.new ≡ zero_rows }
+// A refusal. "The zero state is zero throughout": so are the rows, whatever had been read.
+pub fn refused(refusal: Refusal, rows: &mut Rows) -> Result<Head, Refusal>
+    ensures { read_parts_told result rows.new ≡ read_as (bad refusal.cause refusal.place) }
 {
     *rows = [0; PLACES];
+    Err(refusal)
 }
 
-// A refusal, with its place. "The zero state is zero throughout": so are the rows, whatever had been read.
-pub fn refused(cause: Cause, place: usize, rows: &mut Rows) -> ReadParts
-    ensures { read_parts_told result rows.new ≡ read_as (bad cause place) }
-{
-    zero_rows(rows);
-    ReadParts {
-        outcome: ReadOutcome::Refused(cause, place),
-        head: zero_head(),
-    }
-}
-
-// The state of a sheet's bytes, of any length and contents, or why and where they are refused.
-pub fn read_parts(bytes: &[u8], rows: &mut Rows) -> ReadParts
+// What is read of a sheet's bytes, of any length and contents, besides the rows, or why and where they are refused.
+pub fn read_parts(bytes: &[u8], rows: &mut Rows) -> Result<Head, Refusal>
     requires { rows.old ≡ zero_rows }
     ensures { read_parts_told result rows.new ≡ read_sheet bytes.now }
 {
     let mut sizes = [0u8; VARIABLES];
     let mut stated = [0u32; VARIABLES];
     match read_sheet::read_into(bytes, &mut sizes, &mut stated, rows) {
-        Read::Value(n, _) => {
-            let domains = full_domains(n, sizes);
-            let leaders = [0u8; VARIABLES];
-            let head = Head {
-                n,
+        Ok(count) => {
+            let domains = full_domains(&sizes);
+            Ok(Head {
+                n: count.value,
                 sizes,
                 domains,
-                leaders,
+                leaders: [0; VARIABLES],
                 stated,
-            };
-            ReadParts {
-                outcome: ReadOutcome::Accepted,
-                head,
-            }
+            })
         }
-        Read::Refused(cause, place) => refused(cause, place, rows),
+        Err(refusal) => refused(refusal, rows),
     }
+}
+
+// The head of what was read: zero after a refusal.
+#[tactic(auto, unfolding(crate::specs::Parts::head_told))]
+pub fn head_read(read: Result<Head, Refusal>) -> Head
+    ensures { result ≡ head_told read }
+{
+    read.unwrap_or(zero_head())
 }

@@ -1,5 +1,5 @@
 -- The search of a state: what its call tells in each case, and the sentences of document 02 of it.
-use mathlib.Core.Bool.{true, false}
+use mathlib.Core.Bool.{true}
 use mathlib.Core.List.{List}
 use mathlib.Core.Logic.{◌↔◌}
 use mathlib.Core.Path.{◌≡◌, refl, sym, ap, ap₂, ◌∙◌}
@@ -11,7 +11,7 @@ use borrow.Author.Tests.{ltb-true, ltb-false}
 use Rattle.bounded.specs.Table.{tabulate}
 use Rattle.bounded.proofs.Bool.{by_cases, clash, and-true, not-true→false}
 use Rattle.bounded.proofs.Table.{length-tabulate, get_d_tabulate, get_d-tabulate-past, is-table, tabulate-cong, take-tabulate}
-use Rattle.network.specs.Network.{free, solves}
+use Rattle.network.specs.Network.{solves}
 use Rattle.network.specs.Sound.{Sound}
 use Rattle.network.specs.Completion as network
 use Rattle.network.specs.Completion.{NONE, BUILT, verdict, shown}
@@ -19,7 +19,6 @@ use Rattle.network.specs.Search.{none, searched, sought, said_of, choice_product
 use Rattle.network.proofs.Reduction.{keeps-refl}
 use Rattle.network.proofs.Completion.{solves-cong, completed-only, verdict-none, verdict-built, shown-zero}
 use Rattle.network.proofs.Search.{precedes-total, precedes-same, sought-case, found-is-not-none, said-none, said-found, sought-none, sought-past, search-refused, search-accepted, keeps-settled, as-verdict}
-use Rattle.pairs.specs.Pairs.{variables}
 use Rattle.head.specs.Held.{held}
 use Rattle.head.proofs.Held.{held-n}
 use Rattle.answers.specs.Answers.{rules, verdict_number, kind_of, verdict_kind}
@@ -29,20 +28,17 @@ use Rattle.state.specs.Solutions.{values_of, verdict_of, search_number, search_o
 use Rattle.state_search.specs.Searches.{Build, FirstBuild, Shows, SearchesEvery}
 use Rattle.state.proofs.View.{state-sound}
 use Rattle.state.proofs.Solutions.{tested-yes, yes-solves, verdict-of, verdict-refused, search-unsound, search-own, search-of, search-refuses}
-use Rattle.search.specs.declared.Found.{Found}
-use Rattle.search.specs.Found.{FoundIn}
-use Rattle.search.proofs.Settling.{found_none}
 
 -- What is told of a search that is not refused.
-module _ (s : State) (z : search_number s ≡ 0) (r : Found) (F : FoundIn (view s) r) where
-  told : (v : network.Verdict) → said_of (searched (view s)) ≡ v → rules v r.solution ≡ search_of s
-  told v e = ap₂ rules (sym e) F.solution_is ∙ sym (search-of s z)
+module _ (s : State) (z : search_number s ≡ 0) where
+  pub told_none : searched (view s) ≡ none → rules NONE (replicate 16 0) ≡ search_of s
+  told_none e =
+      ap₂ rules (sym (said-none _ e))
+      (is-table 16 _ (replicate 16 0) 0 (length-replicate {A = ℕ} 16 0) (λ i l. get_or-replicate 16 i 0 0 l ∙ sym (sought-none (view s) e i)))
+      ∙ sym (search-of s z)
 
-  pub told_none : r.found ≡ false → rules NONE r.solution ≡ search_of s
-  told_none q = told NONE (said-none _ (found_none (view s) r F q))
-
-  pub told-found : r.found ≡ true → rules BUILT r.solution ≡ search_of s
-  told-found q = told BUILT (said-found _ (F.found_exactly.0 q))
+  pub told-found : {solution : List ℕ} → (searched (view s) ≡ none → ⊥) → solution ≡ tabulate 16 (sought (view s)) → rules BUILT solution ≡ search_of s
+  told-found d e = ap₂ rules (sym (said-found _ d)) e ∙ sym (search-of s z)
 
 -- ---- the sentences
 
@@ -98,13 +94,10 @@ module _ (s : State) (h : Shaped s) (t : sound_state s ≡ true) where
     answered = search-of s (search-own s t ∙ z)
 
     answered-none : searched (view s) ≡ none → search_of s ≡ rules NONE (replicate 16 0)
-    answered-none e =
-        answered
-        ∙ ap₂ rules (said-none _ e)
-        (sym (is-table 16 _ (replicate 16 0) 0 (length-replicate {A = ℕ} 16 0) (λ i l. get_or-replicate 16 i 0 0 l ∙ sym (sought-none (view s) e i))))
+    answered-none e = sym (told_none s (search-own s t ∙ z) e)
 
     answered-found : (searched (view s) ≡ none → ⊥) → search_of s ≡ rules BUILT (tabulate 16 (sought (view s)))
-    answered-found d = answered ∙ ap (λ (v : network.Verdict). rules v (tabulate 16 (sought (view s)))) (said-found _ d)
+    answered-found d = sym (told-found s (search-own s t ∙ z) d refl)
 
     none-says : (search_of s ≡ rules NONE (replicate 16 0)) → searched (view s) ≡ none
     unfolding verdict_kind kind_of

@@ -5,7 +5,6 @@ ghost use Rattle.state.specs.View.{state_of};
 ghost use Rattle.answers.specs.Answers.{value_told};
 ghost use Rattle.state_solutions.specs.FollowerValue.{follower_value};
 
-use answers::ValueAnswer;
 use cause::Cause;
 use head::{Head, Rows};
 use solutions::{has_number, partner_of};
@@ -13,7 +12,7 @@ use soundness::sound_parts;
 use words::wide;
 
 // Of the variable `i`, counted from 0, which has a leader.
-fn follower_at(head: Head, rows: &Rows, i: usize, value: usize) -> ValueAnswer
+fn follower_at(head: Head, rows: &Rows, i: usize, value: usize) -> Result<u8, Cause>
     requires { (sound_in head rows.now ≡ true) × (i < head.n) × (head.n ≤ 16) × (0 < get_or head.leaders i 0) × (get_or head.leaders i 0 ≤ head.n) }
     ensures { value_told result ≡ follower_value (state_of head rows.now) (suc i) value }
 {
@@ -21,27 +20,32 @@ fn follower_at(head: Head, rows: &Rows, i: usize, value: usize) -> ValueAnswer
     let domains = head.domains;
     let l = wide(leaders[i]) - 1;
     if !has_number(domains[l], value) {
-        return ValueAnswer::Refused(Cause::ValueRange);
+        return Err(Cause::ValueRange);
     }
-    ValueAnswer::Value(partner_of(rows, l, i, domains[i], value))
+    Ok(partner_of(rows, l, i, domains[i], value))
 }
 
 // What the completer writes for the variable `option`, which counts from 1, where its leader has the value.
-pub fn follower_value_parts(head: Head, rows: &Rows, option: usize, value: usize) -> ValueAnswer
+pub fn follower_value_parts(
+    head: Head,
+    rows: &Rows,
+    option: usize,
+    value: usize,
+) -> Result<u8, Cause>
     ensures { value_told result ≡ follower_value (state_of head rows.now) option value }
 {
     if !sound_parts(head, rows) {
-        return ValueAnswer::Refused(Cause::Unsound);
+        return Err(Cause::Unsound);
     }
     if option < 1 {
-        return ValueAnswer::Refused(Cause::VariableNumber);
+        return Err(Cause::VariableNumber);
     }
     if head.n < option {
-        return ValueAnswer::Refused(Cause::VariableNumber);
+        return Err(Cause::VariableNumber);
     }
     let leaders = head.leaders;
     if leaders[option - 1] == 0 {
-        return ValueAnswer::Refused(Cause::NotTwoFree);
+        return Err(Cause::NotTwoFree);
     }
     follower_at(head, rows, option - 1, value)
 }

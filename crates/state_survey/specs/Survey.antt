@@ -1,13 +1,14 @@
 -- The survey of a state: how many builds it has, and which values they have.
-use Rattle.std.specs.Prelude.{Bool, true, false, List, ℕ, eqb, replicate}
+use Rattle.std.specs.Prelude.{Bool, true, false, List, ℕ, eqb, replicate, Result, Ok, Err}
 use Rattle.bounded.specs.Bool.{not, if}
 use Rattle.bounded.specs.Table.{tabulate}
 use Rattle.words.specs.Word.{width, word}
 use Rattle.network.specs.Survey.{used_value, survey_refusal, capped_count, more_than_count}
-use Rattle.answers.specs.Answers.{outcome_number}
+use Rattle.cause.specs.declared.Cause.{Cause}
+use Rattle.cause.specs.Number.{number_of}
+use Rattle.survey.specs.declared.Surveyed.{Surveyed}
 use Rattle.state.specs.declared.state.State.{State}
 use Rattle.state.specs.View.{view, sound_state}
-use Rattle.state_survey.specs.declared.SurveyAnswer.{SurveyAnswer}
 
 -- What is told: the number that refuses, or 0; "how many builds the state has" and the flag that "there are more"; and for each option the word of values.
 pub record SurveyTold : Type 0 where
@@ -16,8 +17,9 @@ pub record SurveyTold : Type 0 where
   pub more : Bool
   pub words : List ℕ
 
-unfoldable pub survey_told : SurveyAnswer → SurveyTold
-survey_told r = record { number = outcome_number r.outcome; count = r.count; more = r.more; words = r.words }
+unfoldable pub survey_told : Result Surveyed Cause → SurveyTold
+survey_told (Ok r) = record { number = 0; count = r.count; more = r.more; words = r.words }
+survey_told (Err c) = record { number = number_of c; count = 0; more = false; words = replicate 16 0 }
 
 -- It "refuses with 9; then 23", and else 0.
 unfoldable pub survey_number : State → ℕ

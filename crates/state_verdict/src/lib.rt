@@ -1,52 +1,40 @@
 // The verdict on a head and lent rows.
 #![tactic(auto)]
 
-ghost use Rattle.std.specs.Prelude.{◌≡◌, true};
+ghost use Rattle.std.specs.Prelude.{◌≡◌, true, Ok};
 ghost use Rattle.head.specs.Held.{sound_in};
 ghost use Rattle.answers.specs.Answers.{verdict_told};
 ghost use Rattle.state.specs.View.{state_of};
 ghost use Rattle.state.specs.Solutions.{verdict_of};
 
-use answers::{Verdict, VerdictAnswer};
+use answers::Verdict;
 use cause::Cause;
-use head::{Head, Rows, VARIABLES};
+use head::{Head, Rows};
 use solutions_head::{domains_open, free_apart, lowest_solution};
 use soundness::sound_parts;
 
 // The verdict of a sound state: NONE "if some live list is empty", even where two free variables are stated together; else BUILT where "no two live options
 // are stated together"; else OPEN.
-pub fn verdict_of(head: Head, rows: &Rows) -> VerdictAnswer
+pub fn verdict_of(head: Head, rows: &Rows) -> Verdict
     requires { sound_in head rows.now ≡ true }
-    ensures { verdict_told result.verdict result.solution ≡ verdict_of (state_of head rows.now) }
+    ensures { verdict_told (Ok result) ≡ verdict_of (state_of head rows.now) }
 {
     let n = head.n;
     if !domains_open(n, &head.leaders, &head.domains) {
-        return VerdictAnswer {
-            verdict: Verdict::None,
-            solution: [0u8; VARIABLES],
-        };
+        return Verdict::None;
     }
     if !free_apart(n, &head.leaders, &head.stated) {
-        return VerdictAnswer {
-            verdict: Verdict::Open,
-            solution: [0u8; VARIABLES],
-        };
+        return Verdict::Open;
     }
-    VerdictAnswer {
-        verdict: Verdict::Built,
-        solution: lowest_solution(n, &head.domains, &head.leaders, rows),
-    }
+    Verdict::Built(lowest_solution(n, &head.domains, &head.leaders, rows))
 }
 
 // The verdict of any state. It does not reduce first.
-pub fn verdict_parts(head: Head, rows: &Rows) -> VerdictAnswer
-    ensures { verdict_told result.verdict result.solution ≡ verdict_of (state_of head rows.now) }
+pub fn verdict_parts(head: Head, rows: &Rows) -> Result<Verdict, Cause>
+    ensures { verdict_told result ≡ verdict_of (state_of head rows.now) }
 {
     if !sound_parts(head, rows) {
-        return VerdictAnswer {
-            verdict: Verdict::Refused(Cause::Unsound),
-            solution: [0u8; VARIABLES],
-        };
+        return Err(Cause::Unsound);
     }
-    verdict_of(head, rows)
+    Ok(verdict_of(head, rows))
 }

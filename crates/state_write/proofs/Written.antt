@@ -24,7 +24,7 @@ use Rattle.format.specs.Layout.{layout_of}
 use Rattle.format.specs.Writable.{fits_version, rows_pass}
 use Rattle.write_sheet.specs.Writing.{bytes_held}
 use Rattle.solutions.specs.Choices.{fresh_value, fresh_parts}
-use Rattle.answers.specs.declared.WriteAnswer.TheVariants as writeAnswer
+use Rattle.std.specs.Prelude.{Ok, Err}
 use Rattle.answers.specs.Answers.{write_told}
 use Rattle.state.specs.declared.state.State.{State}
 use Rattle.state.specs.View.{head_in, view, sound_state}
@@ -49,7 +49,7 @@ module _ (s : State) (h : HeadShaped (head_in s)) (t : sound_state s ≡ true) w
 
 -- What a way through the call answers and leaves in the buffer. A refusal answers its number and leaves the buffer.
 pub refused-told : (version : ℕ) (s : State) {buffer : List ℕ} (c : Cause) → write_refusal version s (length buffer) ≡ number_of c
-    → (write_told (writeAnswer.Refused c) ≡ (write_sheet version s buffer).answer) × (buffer ≡ (write_sheet version s buffer).buffer)
+    → (write_told (Err c) ≡ (write_sheet version s buffer).answer) × (buffer ≡ (write_sheet version s buffer).buffer)
 unfolding write_told
 refused-told version s {buffer} c e =
     let w = wrote_nothing version s buffer (number_of c) e (number-positive c) in
@@ -62,7 +62,7 @@ pub written-told : (version : ℕ) (s : State) (buffer : List ℕ) {k : ℕ} {af
     → length (bytes_held version (head_in s) s.rows) ≤ length buffer
     → k ≡ length (bytes_held version (head_in s) s.rows)
     → after ≡ bytes_held version (head_in s) s.rows ++ drop (length (bytes_held version (head_in s) s.rows)) buffer
-    → (write_told (writeAnswer.Length k) ≡ (write_sheet version s buffer).answer) × (after ≡ (write_sheet version s buffer).buffer)
+    → (write_told (Ok k) ≡ (write_sheet version s buffer).answer) × (after ≡ (write_sheet version s buffer).buffer)
 unfolding write_told bytes_held sheet_bytes
 written-told version s buffer t f v p l e a =
     let w = wrote version s buffer (write-accepted version s (length buffer) t f v p l) in

@@ -6,7 +6,6 @@ ghost use Rattle.answers.specs.Answers.{write_told};
 ghost use Rattle.state.specs.View.{state_of};
 ghost use Rattle.state.specs.Write.{write_sheet};
 
-use answers::WriteAnswer;
 use cause::Cause;
 use head::{Head, Rows};
 use solutions_head::fresh_parts;
@@ -16,12 +15,17 @@ use write_version::{fits_version, fixed_by, rows_pass};
 
 // Writes the sheet of a state as just read into a lent buffer, in the version that it is told: "the writer tests 9, 18, 17", 24 "after 18 and before 17", and
 // 26 "after 24 and before 17". A refusal writes nothing.
-pub fn write_parts(head: Head, rows: &Rows, version: usize, buffer: &mut [u8]) -> WriteAnswer
+pub fn write_parts(
+    head: Head,
+    rows: &Rows,
+    version: usize,
+    buffer: &mut [u8],
+) -> Result<usize, Cause>
     ensures { (write_told result ≡ (write_sheet version (state_of head rows.now) buffer.old).answer)
         × (buffer.new ≡ (write_sheet version (state_of head rows.now) buffer.old).buffer) }
 {
     if !sound_parts(head, rows) {
-        return WriteAnswer::Refused(Cause::Unsound);
+        return Err(Cause::Unsound);
     }
     let n = head.n;
     let fresh = fresh_parts(head);
@@ -31,16 +35,16 @@ pub fn write_parts(head: Head, rows: &Rows, version: usize, buffer: &mut [u8]) -
     let extent = extent_of(bytes, n, &head.sizes, &head.stated);
     let length = extent.length;
     if !fresh {
-        return WriteAnswer::Refused(Cause::NotFresh);
+        return Err(Cause::NotFresh);
     }
     if !fits {
-        return WriteAnswer::Refused(Cause::NotInVersion);
+        return Err(Cause::NotInVersion);
     }
     if !passes {
-        return WriteAnswer::Refused(Cause::BlankRow);
+        return Err(Cause::BlankRow);
     }
     if buffer.len() < length {
-        return WriteAnswer::Refused(Cause::BufferLength);
+        return Err(Cause::BufferLength);
     }
-    WriteAnswer::Length(write_into(head, rows, version, extent, buffer))
+    Ok(write_into(head, rows, version, extent, buffer))
 }

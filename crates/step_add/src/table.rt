@@ -1,11 +1,13 @@
 // What a table for two variables makes of a head and rows. It is told through the leaders of the two.
-ghost use Rattle.std.specs.Prelude.{true, ◌≡◌, suc, ◌<◌, length};
-ghost use Rattle.words.specs.Word.{width, word};
+ghost use Rattle.std.specs.Prelude.{Bool, true, ℕ, ◌≡◌, suc, ◌<◌, length};
+ghost use Rattle.words.specs.Word.{width, has, word};
 ghost use Rattle.network.specs.Added.{add_refusal, added};
+ghost use Rattle.pairs.specs.Pairs.{variables};
 ghost use Rattle.pairs.specs.Frames.{Stored};
 ghost use Rattle.head.specs.Held.{RowsShaped, Represents, held, sound_in};
 ghost use Rattle.step_sides.specs.Sides.{Placed, Apart, PartnersIn, PartnersTold, kept_at, cut_at};
 ghost use Rattle.step_sides.specs.Turned.{Turns};
+ghost use Rattle.step_add.specs.Cut.{cut_by};
 
 use head::Head;
 use pairs::Rows;
@@ -13,33 +15,25 @@ use step_sides::{Side, partner, reach, side_of, turned};
 use step_trim::trim_followers;
 use words::{WIDTH, both, either, member, single};
 
-// The first leader is lower: the values of the second leader that go with value `a` of the first. A value outside its domain has none, and a pair that was stated
-// bars what it barred.
-fn cut_row(rows: &Rows, table: &[u32], first: Side, second: Side, was: bool, a: usize) -> u32
-    requires { Placed first × Placed second × Apart first second × (first.leader < second.leader) × (a < width) × PartnersIn width rows.now table.now first }
-    ensures { result ≡ word width (cut_at width rows.now table.now first second was a) }
+// Cuts the pair of the first leader, which is lower, and `q` for every value of the first, each row stored where it is. `reach` gives the values of `q` that go
+// with a value by the table, and may read all rows but the pair's own. A value outside its domain has none, and a pair that was stated bars what it barred.
+fn cut_with<F: Fn(&Rows, usize) -> u32>(rows: &mut Rows, first: Side, q: usize, was: bool, reach: F)
+    requires { (first.leader < q) × (q < variables) × (length rows.old ≡ 3840)
+        × ((now : _) (f : ℕ → ℕ → Bool) (n a : ℕ) → Stored width rows.old now.now first.leader q f n → a < width → has first.values a ≡ true → F.pre reach now a) }
+    ensures { (told : ℕ → ℕ → Bool)
+        → ((now : _) (f : ℕ → ℕ → Bool) (n a r : ℕ) → Stored width rows.old now.now first.leader q f n → a < width → has first.values a ≡ true
+        → F.post reach now a r → r ≡ word width (told a))
+        → Stored width rows.old rows.new first.leader q (cut_by width rows.old first q was told) width }
 {
     let p = first.leader;
-    let q = second.leader;
-    if !member(first.values, a) {
-        return 0;
-    }
-    let row = both(second.values, reach(rows, table, first, second, a));
-    if !was {
-        return row;
-    }
-    both(row, pairs_read::stored_row(rows, p, q, a))
-}
-
-// Cuts the pair for every value of the lower leader, each row stored where it is.
-fn cut_rows(rows: &mut Rows, table: &[u32], first: Side, second: Side, was: bool)
-    requires { Placed first × Placed second × Apart first second × (first.leader < second.leader) × PartnersIn width rows.old table.now first × (length rows.old ≡ 3840) }
-    ensures { Stored width rows.old rows.new first.leader second.leader (cut_at width rows.old table.now first second was) width }
-{
-    let p = first.leader;
-    let q = second.leader;
     for a in 0..WIDTH {
-        let row = cut_row(rows, table, first, second, was, a);
+        let mut row = 0;
+        if member(first.values, a) {
+            row = reach(rows, a);
+            if was {
+                row = both(row, pairs_read::stored_row(rows, p, q, a));
+            }
+        }
         pairs::put_row(rows, p, q, a, row);
     }
 }
@@ -51,48 +45,20 @@ fn both_free(first: Side, second: Side) -> bool
     (first.leader == first.named) & (second.leader == second.named)
 }
 
-// Of two free variables, each value is its own partner: the values of the second that go with value `a` of the first are in its row of the table.
-fn cut_free_row(rows: &Rows, table: &[u32], first: Side, second: Side, was: bool, a: usize) -> u32
-    requires { Placed first × Placed second × Apart first second × (first.leader < second.leader) × (a < width) × PartnersIn width rows.now table.now first
-        × (first.leader ≡ first.named) × (second.leader ≡ second.named) }
-    ensures { result ≡ word width (cut_at width rows.now table.now first second was a) }
-{
-    let p = first.leader;
-    let q = second.leader;
-    if !member(first.values, a) {
-        return 0;
-    }
-    let row = both(second.values, table[a]);
-    if !was {
-        return row;
-    }
-    both(row, pairs_read::stored_row(rows, p, q, a))
-}
-
-// Cuts the pair of two live options for every value: nothing is told through leaders, so that the loop is short.
-fn cut_free_rows(rows: &mut Rows, table: &[u32], first: Side, second: Side, was: bool)
-    requires { Placed first × Placed second × Apart first second × (first.leader < second.leader) × PartnersIn width rows.old table.now first × (length rows.old ≡ 3840)
-        × (first.leader ≡ first.named) × (second.leader ≡ second.named) }
-    ensures { Stored width rows.old rows.new first.leader second.leader (cut_at width rows.old table.now first second was) width }
-{
-    let p = first.leader;
-    let q = second.leader;
-    for a in 0..WIDTH {
-        let row = cut_free_row(rows, table, first, second, was, a);
-        pairs::put_row(rows, p, q, a, row);
-    }
-}
-
-// Cuts the pair for every value, whoever leads the two.
+// Cuts the pair for every value. Of two free variables each value is its own partner, so that its row of the table says what goes with it: nothing is told
+// through leaders, and the loop is short.
 fn cut_pair(rows: &mut Rows, table: &[u32], first: Side, second: Side, was: bool)
     requires { Placed first × Placed second × Apart first second × (first.leader < second.leader) × PartnersIn width rows.old table.now first × (length rows.old ≡ 3840) }
     ensures { Stored width rows.old rows.new first.leader second.leader (cut_at width rows.old table.now first second was) width }
 {
+    let q = second.leader;
     if both_free(first, second) {
-        cut_free_rows(rows, table, first, second, was);
+        cut_with(rows, first, q, was, |_, a| both(second.values, table[a]));
         return;
     }
-    cut_rows(rows, table, first, second, was);
+    cut_with(rows, first, q, was, |rows, a| {
+        both(second.values, reach(rows, table, first, second, a))
+    });
 }
 
 // Cuts the pair whichever leader is lower. A pair is held from the lower one: where that is the second, the table is turned once, so that whole rows are read
@@ -127,11 +93,7 @@ fn kept(rows: &Rows, table: &[u32], first: Side, second: Side) -> u32
     requires { Placed first × Placed second × PartnersIn width rows.now table.now first × PartnersTold width rows.now first second }
     ensures { result ≡ word width (kept_at width rows.now table.now first second) }
 {
-    let mut members: u32 = 0;
-    for a in 0..WIDTH {
-        members |= (keeps(rows, table, first, second, a) as u32) << a;
-    }
-    members
+    folds::gather(WIDTH, |a| keeps(rows, table, first, second, a))
 }
 
 // Adds the table of `x` and `y`, counted from 0. With one leader its domain is trimmed, and so are those of its followers; else the pair of the two is stated

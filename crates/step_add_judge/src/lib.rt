@@ -10,7 +10,6 @@ ghost use Rattle.head.specs.Held.{values_at_most, held};
 ghost use Rattle.answers.specs.Answers.{outcome_number};
 ghost use Rattle.step_add_judge.specs.Judging.{rows_within};
 
-use answers::Outcome;
 use cause::Cause;
 use head::Head;
 use words::wide;
@@ -27,8 +26,7 @@ fn size_of(head: Head, x: usize) -> usize
     requires { (1 ≤ x) × (x ≤ variables) }
     ensures { result ≡ get_or head.sizes (x - 1) 0 }
 {
-    let sizes = head.sizes;
-    wide(sizes[x - 1])
+    wide(head.sizes[x - 1])
 }
 
 // There are `size` rows, and none has a bit at or above `other`.
@@ -48,29 +46,29 @@ fn rows_fit(table: &[u32], size: usize, other: usize) -> bool
 }
 
 // Of two variables: "then 21 for two equal options, then 22 for a wrong count of rows or a bit at or above the size".
-fn decided(same: bool, fits: bool) -> Outcome
+fn decided(same: bool, fits: bool) -> Result<(), Cause>
     ensures { outcome_number result ≡ if same 21 (if (not fits) 22 0) }
 {
     if same {
-        return Outcome::Refused(Cause::SameVariables);
+        return Err(Cause::SameVariables);
     }
     if !fits {
-        return Outcome::Refused(Cause::TableRows);
+        return Err(Cause::TableRows);
     }
-    Outcome::Done
+    Ok(())
 }
 
 // What refuses the table, variables counted from 1. Tested upward: 10, 21, 22. It goes by n and the sizes alone, so that no rows are looked at.
-pub fn judge_table(head: Head, first: usize, second: usize, table: &[u32]) -> Outcome
+pub fn judge_table(head: Head, first: usize, second: usize, table: &[u32]) -> Result<(), Cause>
     requires { (head.n ≤ variables) × ((i : ℕ) → get_or head.sizes i 0 ≤ values_at_most) }
     ensures { (rows : List ℕ) → outcome_number result ≡ add_refusal (held head rows) first second table.now }
 {
     let n = head.n;
     if outside(n, first) {
-        return Outcome::Refused(Cause::VariableNumber);
+        return Err(Cause::VariableNumber);
     }
     if outside(n, second) {
-        return Outcome::Refused(Cause::VariableNumber);
+        return Err(Cause::VariableNumber);
     }
     let size = size_of(head, first);
     let other = size_of(head, second);

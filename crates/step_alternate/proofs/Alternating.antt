@@ -1,16 +1,10 @@
 -- Trimming and reduction in turn on a head and rows, round by round.
-use mathlib.Core.Bool.{Bool, true, false, ◌&&◌}
+use mathlib.Core.Bool.{true, false}
 use mathlib.Core.List.{List}
 use mathlib.Core.Path.{◌≡◌, refl, sym, ap, ap₂, subst, ◌∙◌}
 use Prim.Native.Nat.{ℕ, suc, pred, ◌+◌, ◌≤◌, ◌<◌}
 use native.Mathlib.Omega.{arith}
-use lib.Dec.{eqb}
-use lib.ListN.{length, get_or}
-use borrow.Author.Tests.{eqb-true}
-use Rattle.bounded.specs.Bool.{and}
-use Rattle.bounded.proofs.Bool.{machine-and, and_l, and_r}
-use Rattle.bounded.proofs.Fold.{is-or-not, count-le}
-use Rattle.bounded.proofs.Table.{is-table}
+use Rattle.bounded.proofs.Fold.{count-le}
 use Rattle.words.specs.Word.{width}
 use Rattle.network.specs.Network.{Network, free}
 use Rattle.network.specs.Sound.{Sound}
@@ -27,19 +21,6 @@ use Rattle.head.proofs.Held.{HeadShaped, Packed, held-n, held-sound, rows-of-hel
 use Rattle.step_live.specs.Live.{lists_of}
 use Rattle.step_reduce.specs.declared.Reduction.{Reduction}
 use Rattle.step_reduce.specs.Reduced.{RanTo}
-
--- Lists that are alike up to k, and at k.
-pub alike-more : (x y : List ℕ) (t : Bool) (k : ℕ) → (t ≡ true → (u : ℕ) → u < k → get_or x u 0 ≡ get_or y u 0)
-    → t && eqb (get_or x k 0) (get_or y k 0) ≡ true → (u : ℕ) → u < k + 1 → get_or x u 0 ≡ get_or y u 0
-alike-more x y t k h e u l =
-    let p : and t (eqb (get_or x k 0) (get_or y k 0)) ≡ true = sym (machine-and t _) ∙ e in
-    is-or-not k (λ (v : ℕ). v < k + 1 → get_or x v 0 ≡ get_or y v 0)
-    (λ _. eqb-true _ _ (and_r t _ p))
-    (λ v d m. h (and_l t _ p) v (omega arith))
-    u l
-
-pub alike_end : (n : ℕ) (x y : List ℕ) → length x ≡ n → length y ≡ n → ((u : ℕ) → u < n → get_or x u 0 ≡ get_or y u 0) → x ≡ y
-alike_end n x y lx ly h = is-table n (λ (u : ℕ). get_or y u 0) x 0 lx h ∙ sym (is-table n _ y 0 ly (λ u l. refl))
 
 -- The rounds of a head h and rows have taken `steps` steps and have come to r and `rows`: what is left are the rounds of those, at most `most`.
 pub record Alternating (h : Head) (before : List ℕ) (r : Head) (rows : List ℕ) (steps : ℕ) : Type 0 where

@@ -6,20 +6,9 @@ ghost use Rattle.network.specs.Trimming.{alternate};
 ghost use Rattle.head.specs.Held.{RowsShaped, held, sound_in};
 ghost use Rattle.step_reduce.specs.Reduced.{RanTo};
 
-use head::{Head, Rows, VARIABLES};
+use head::{Head, Rows};
 use step_live::trim_live;
 use step_reduce::{Reduction, reduce_sound};
-
-// All lists are alike.
-fn same_lists(x: [u32; VARIABLES], y: [u32; VARIABLES]) -> bool
-    ensures { result ≡ true → x ≡ y }
-{
-    let mut same = true;
-    for k in 0..VARIABLES {
-        same &= x[k] == y[k];
-    }
-    same
-}
 
 // "This trimming comes first; then reduce fully, and alternate until neither changes anything. The state and the total number of follow steps come back."
 // A reduction that takes no step changes nothing, and trimming again would not either. Where a trimming after a reduction
@@ -34,7 +23,7 @@ pub fn alternate_sound(head: Head, rows: &mut Rows) -> Reduction
         let trimmed = trim_live(cut, rows);
         let before = cut.domains;
         let after = trimmed.domains;
-        if steps != 0 && same_lists(before, after) {
+        if steps != 0 && before == after {
             return Reduction {
                 head: trimmed,
                 steps,

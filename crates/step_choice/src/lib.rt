@@ -9,18 +9,10 @@ ghost use Rattle.network.specs.Reduction.{lead_refusal};
 ghost use Rattle.answers.specs.Answers.{outcome_number};
 ghost use Rattle.step_choice.specs.Judging.{follower_pair, next_pair, who_leads};
 
-use answers::Outcome;
 use cause::Cause;
 use head::Head;
 use pairs::Rows;
 use step_judge::judge_pair;
-
-// A leader and a follower, counted from 0.
-#[derive(Clone, Copy)]
-pub enum Pair {
-    Found(usize, usize),
-    Nothing,
-}
 
 // Who leads each step of a run: the lowest variable that has a legal follower, or one that is named, counted from 0.
 #[derive(Clone, Copy)]
@@ -30,25 +22,25 @@ pub enum Leader {
 }
 
 // What refuses the step, variables counted from 1. Tested upward: 10, 11, 12, 13.
-pub fn judge(head: Head, rows: &Rows, leader: usize, follower: usize) -> Outcome
+pub fn judge(head: Head, rows: &Rows, leader: usize, follower: usize) -> Result<(), Cause>
     requires { sound_in head rows.now ≡ true }
     ensures { outcome_number result ≡ refusal (held head rows.now) leader follower }
 {
     let n = head.n;
     if leader == 0 {
-        return Outcome::Refused(Cause::VariableNumber);
+        return Err(Cause::VariableNumber);
     }
     if n < leader {
-        return Outcome::Refused(Cause::VariableNumber);
+        return Err(Cause::VariableNumber);
     }
     if follower == 0 {
-        return Outcome::Refused(Cause::VariableNumber);
+        return Err(Cause::VariableNumber);
     }
     if n < follower {
-        return Outcome::Refused(Cause::VariableNumber);
+        return Err(Cause::VariableNumber);
     }
     if leader == follower {
-        return Outcome::Refused(Cause::NotTwoFree);
+        return Err(Cause::NotTwoFree);
     }
     let leaders = head.leaders;
     let domains = head.domains;
@@ -61,25 +53,26 @@ pub fn judge(head: Head, rows: &Rows, leader: usize, follower: usize) -> Outcome
 }
 
 // What refuses a run that `leader` is to lead, counted from 1: "then 10, then 11 when the named option is not live".
-pub fn judge_leader(head: Head, leader: usize) -> Outcome
+pub fn judge_leader(head: Head, leader: usize) -> Result<(), Cause>
     requires { head.n ≤ variables }
     ensures { (rows : List ℕ) → outcome_number result ≡ lead_refusal (held head rows) leader }
 {
     if leader == 0 {
-        return Outcome::Refused(Cause::VariableNumber);
+        return Err(Cause::VariableNumber);
     }
     if head.n < leader {
-        return Outcome::Refused(Cause::VariableNumber);
+        return Err(Cause::VariableNumber);
     }
     let leaders = head.leaders;
     if leaders[leader - 1] != 0 {
-        return Outcome::Refused(Cause::NotTwoFree);
+        return Err(Cause::NotTwoFree);
     }
-    Outcome::Done
+    Ok(())
 }
 
+// A step is a leader and a follower, counted from 0.
 // The step that the reduction takes next: "the lowest i that has a legal j, with the lowest such j".
-pub fn next_pair(head: Head, rows: &Rows) -> Pair
+pub fn next_pair(head: Head, rows: &Rows) -> Option<(usize, usize)>
     requires { sound_in head rows.now ≡ true }
     ensures { result ≡ next_pair (held head rows.now) }
 {
@@ -87,7 +80,7 @@ pub fn next_pair(head: Head, rows: &Rows) -> Pair
     let leaders = head.leaders;
     let domains = head.domains;
     let stated = head.stated;
-    let mut found = Pair::Nothing;
+    let mut found = None;
     'search: for i in 0..n {
         if leaders[i] != 0 {
             continue;
@@ -96,8 +89,8 @@ pub fn next_pair(head: Head, rows: &Rows) -> Pair
             let judgement = judge_pair(
                 leaders[i], leaders[j], stated[i], domains[i], domains[j], rows, i, j,
             );
-            if let Outcome::Done = judgement {
-                found = Pair::Found(i, j);
+            if let Ok(()) = judgement {
+                found = Some((i, j));
                 break 'search;
             }
         }
@@ -106,13 +99,13 @@ pub fn next_pair(head: Head, rows: &Rows) -> Pair
 }
 
 // The step that `i` takes next as a leader: with the lowest variable that can follow it.
-pub fn next_follower(head: Head, rows: &Rows, i: usize) -> Pair
+pub fn next_follower(head: Head, rows: &Rows, i: usize) -> Option<(usize, usize)>
     requires { sound_in head rows.now ≡ true }
     ensures { result ≡ follower_pair (held head rows.now) i }
 {
     let n = head.n;
     if n <= i {
-        return Pair::Nothing;
+        return None;
     }
     let leaders = head.leaders;
     let domains = head.domains;
@@ -121,15 +114,15 @@ pub fn next_follower(head: Head, rows: &Rows, i: usize) -> Pair
         let judgement = judge_pair(
             leaders[i], leaders[j], stated[i], domains[i], domains[j], rows, i, j,
         );
-        if let Outcome::Done = judgement {
-            return Pair::Found(i, j);
+        if let Ok(()) = judgement {
+            return Some((i, j));
         }
     }
-    Pair::Nothing
+    None
 }
 
 // The step that a run takes next.
-pub fn next_step(head: Head, rows: &Rows, leader: Leader) -> Pair
+pub fn next_step(head: Head, rows: &Rows, leader: Leader) -> Option<(usize, usize)>
     requires { sound_in head rows.now ≡ true }
     ensures { result ≡ follower_pair (held head rows.now) (who_leads leader (held head rows.now)) }
 {

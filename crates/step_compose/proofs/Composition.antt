@@ -82,10 +82,6 @@ composed-cong w rows rows' t a c e f g =
     ap (and (and (has t.ti a) (has t.dk c)))
     (ap₂ and (some-cong w _ _ (λ b l. ap (and (has t.dj b)) (ap₂ and (e b) (f b)))) (ap (implies t.was) g))
 
--- At the beginning of a step nothing has been touched.
-pub unread-all : (w : ℕ) {rows : List ℕ} {t : Third} → Unread w rows rows t
-unread-all w = record { same_ij = λ a b. refl; same_jk = λ b c. refl; same_ik = λ a c. refl }
-
 -- The first value is still to come,
 pub composing-none : {w : ℕ} {given before : List ℕ} {t : Third} → Unread w given before t → Composing w given before before t 0
 composing-none {w} {before} {t} u =

@@ -7,7 +7,6 @@ ghost use Rattle.pairs.specs.Pairs.{variables, partners_within};
 ghost use Rattle.answers.specs.Answers.{outcome_number};
 ghost use Rattle.step_judge.specs.Judging.{pair_number};
 
-use answers::Outcome;
 use cause::Cause;
 use pairs::Rows;
 
@@ -22,21 +21,21 @@ pub fn judge_pair(
     rows: &Rows,
     i: usize,
     j: usize,
-) -> Outcome
+) -> Result<(), Cause>
     requires { (i < variables) × (j < variables) × (has stated j ≡ true → i ≡ j → ⊥) }
     ensures { outcome_number result ≡ pair_number (eqb leader 0) (eqb other 0) (has stated j) (partners_within width rows.now i j di dj 0 1) }
 {
     if leader != 0 {
-        return Outcome::Refused(Cause::NotTwoFree);
+        return Err(Cause::NotTwoFree);
     }
     if other != 0 {
-        return Outcome::Refused(Cause::NotTwoFree);
+        return Err(Cause::NotTwoFree);
     }
     if !words::member(stated, j) {
-        return Outcome::Refused(Cause::NotStated);
+        return Err(Cause::NotStated);
     }
     if !pairs_read::partners_within(rows, i, j, di, dj, 0, 1) {
-        return Outcome::Refused(Cause::NotFunctional);
+        return Err(Cause::NotFunctional);
     }
-    Outcome::Done
+    Ok(())
 }

@@ -11,17 +11,6 @@ ghost use Rattle.step_live.specs.Live.{Revised};
 use head::{Head, Rows, VARIABLES};
 use words::{both, either};
 
-// The variables that follow nobody.
-fn free_set(leaders: [u8; VARIABLES]) -> u32
-    ensures { result ≡ word variables (λ (x : ℕ). eqb (get_or leaders x 0) 0) }
-{
-    let mut members: u32 = 0;
-    for x in 0..VARIABLES {
-        members |= ((leaders[x] == 0) as u32) << x;
-    }
-    members
-}
-
 // Holds the lists of the `others` against that of `j`, one after the other, and leaves the rest alone. It says whose lost a value.
 fn revise(lists: &mut [u32; VARIABLES], rows: &Rows, others: u32, j: usize) -> u32
     requires { (j < variables) × (has others j ≡ false) × ((x : ℕ) → has others x ≡ true → x < variables) × (length lists.old ≡ variables) }
@@ -29,14 +18,11 @@ fn revise(lists: &mut [u32; VARIABLES], rows: &Rows, others: u32, j: usize) -> u
 {
     let against = lists[j];
     let mut changed: u32 = 0;
-    let mut rest = others;
-    while rest != 0 {
-        let x = words::lowest(rest);
+    for x in words::members(others) {
         let before = lists[x];
         let after = step_compose::supported(rows, x, j, before, against);
         lists[x] = after;
         changed |= ((before != after) as u32) << x;
-        rest = words::dropped(rest);
     }
     changed
 }
@@ -50,7 +36,7 @@ pub fn trim_live(head: Head, rows: &Rows) -> Head
     let sizes = head.sizes;
     let leaders = head.leaders;
     let stated = head.stated;
-    let free = free_set(leaders);
+    let free = solutions::free_variables(VARIABLES, &leaders);
     let mut lists = head.domains;
     let mut left = free;
     while left != 0 {

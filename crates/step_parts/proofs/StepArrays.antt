@@ -8,13 +8,13 @@ use native.Mathlib.Omega.{arith}
 use lib.Dec.{eqb}
 use lib.ListN.{length, get_or, set, length-set}
 use lib.Seq.{get_or-set_same, get_or-set_other}
-use borrow.Author.Tests.{eq-eqb, ne_eqb, eqb-true}
+use borrow.Author.Tests.{eq-eqb, ne_eqb}
 use Rattle.bounded.specs.Array.{Array}
 use Rattle.bounded.specs.Bool.{and, or, not}
 use Rattle.bounded.specs.Table.{tabulate}
 use Rattle.bounded.proofs.Bool.{by_cases, clash, and-true, and-false, or_l, or_r, if-true, if-false, if-or, and_assoc}
 use Rattle.bounded.proofs.Fold.{is-or-not}
-use Rattle.bounded.proofs.Table.{length-tabulate, get_d_tabulate, is-table, get_d_set}
+use Rattle.bounded.proofs.Table.{is-table}
 use Rattle.network.specs.Pairs.{Stays}
 use Rattle.network.proofs.Pairs.{Moved, moved}
 use Rattle.words.specs.Word.{has, word}
@@ -33,24 +33,13 @@ module _ (i j l : ℕ) where
   unfolding led_after
   other-led e = sym (if-false _ _ _ (ne_eqb l (suc j) (λ q. e (q ∙ sym (add-one j)))))
 
-  j-led : (x : ℕ) → x ≡ j → i + 1 ≡ leader_after i j x l
+  pub j-led : (x : ℕ) → x ≡ j → i + 1 ≡ leader_after i j x l
   unfolding leader_after
   j-led x e = add-one i ∙ sym (if-true _ _ _ (or_l _ _ (eq-eqb x j e)))
 
-  led-same : (x : ℕ) → eqb x j ≡ false → led_after i j l ≡ leader_after i j x l
+  pub led-same : (x : ℕ) {r : ℕ} → (x ≡ j → ⊥) → r ≡ led_after i j l → r ≡ leader_after i j x l
   unfolding led_after leader_after or
-  led-same x e = rw e
-
--- The rule for others than j, and then j.
-pub leaders-led : (i j : ℕ) (leaders after : List ℕ) → j < 16 → after ≡ tabulate 16 (λ (x : ℕ). led_after i j (get_or leaders x 0))
-    → set after j (i + 1) ≡ tabulate 16 (λ (x : ℕ). leader_after i j x (get_or leaders x 0))
-leaders-led i j leaders after l e =
-    let n : length after ≡ 16 = ap length e ∙ length-tabulate 16 _ in
-    is-table 16 _ _ 0 (length-set after j (i + 1) ∙ n)
-    (λ x m. get_d_set after j x (i + 1) 0 (omega arith)
-    ∙ by_cases (eqb x j)
-    (λ t. if-true _ _ _ t ∙ j-led i j _ x (eqb-true x j t))
-    (λ t. if-false _ _ _ t ∙ ap (λ (a : List ℕ). get_or a x 0) e ∙ get_d_tabulate 16 _ x 0 m ∙ led-same i j _ x t))
+  led-same x d e = rw (ne_eqb x j d) e
 
 -- ---- the third variables
 

@@ -3,7 +3,6 @@ use mathlib.Core.Bool.{Bool, true, false}
 use mathlib.Core.List.{List}
 use mathlib.Core.Path.{◌≡◌, refl, sym, ap, subst, fun_ext, ◌∙◌}
 use Prim.Native.Nat.{ℕ, ◌<◌}
-use lib.ListN.{get_or}
 use Rattle.bounded.specs.Bool.{and, not}
 use Rattle.bounded.proofs.Bool.{clash, not-true→false, not-i, not-e, and_i, and_l, and_r, and-true}
 use Rattle.bounded.proofs.Fold.{is-or-not}

@@ -5,6 +5,7 @@ ghost use Rattle.words.specs.Word.{width, has, word};
 ghost use Rattle.pairs.specs.Pairs.{variables};
 ghost use Rattle.step_parts.specs.StepParts.{led_after, leader_after, third_of, stated_after};
 
+use folds::table;
 use head::VARIABLES;
 use words::{either, single, without};
 
@@ -24,12 +25,13 @@ pub fn leaders_after(leaders: [u8; VARIABLES], i: usize, j: usize) -> [u8; VARIA
     requires { (i < variables) × (j < variables) }
     ensures { result ≡ tabulate variables (λ (x : ℕ). leader_after i j x (get_or leaders x 0)) }
 {
-    let mut after = [0u8; VARIABLES];
-    for x in 0..VARIABLES {
-        after[x] = leader_after(leaders[x], i, j);
-    }
-    after[j] = (i + 1) as u8;
-    after
+    table(|x| {
+        if x == j {
+            (i + 1) as u8
+        } else {
+            leader_after(leaders[x], i, j)
+        }
+    })
 }
 
 // The third variables: `others` are those that are stated with `j`.
@@ -48,11 +50,8 @@ pub fn stated_after(stated: [u32; VARIABLES], thirds: u32, i: usize, j: usize) -
     let mut after = stated;
     after[i] = either(stated[i], thirds);
     after[j] = without(stated[j], thirds);
-    let mut rest = thirds;
-    while rest != 0 {
-        let k = words::lowest(rest);
+    for k in words::members(thirds) {
         after[k] = without(either(stated[k], single(i)), single(j));
-        rest = words::dropped(rest);
     }
     after
 }

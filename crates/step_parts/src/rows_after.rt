@@ -22,9 +22,7 @@ pub fn move_thirds(
     ensures { MovedRows width rows.old rows.new i j (has thirds) (made_at width rows.old domains others i j ti) }
 {
     let dj = domains[j];
-    let mut rest = thirds;
-    while rest != 0 {
-        let k = words::lowest(rest);
+    for k in words::members(thirds) {
         let was = words::member(others, k);
         step_compose::compose(
             rows,
@@ -39,6 +37,5 @@ pub fn move_thirds(
             },
         );
         pairs_store::clear(rows, j, k);
-        rest = words::dropped(rest);
     }
 }

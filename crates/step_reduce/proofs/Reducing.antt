@@ -15,7 +15,7 @@ use Rattle.pairs.specs.Pairs.{variables, rows_of}
 use Rattle.head.specs.declared.Head.{Head}
 use Rattle.head.specs.Held.{RowsShaped, Represents, held, head_of, sound_in}
 use Rattle.head.proofs.Held.{HeadShaped, Packed, held-n, held-sound, head-of-held, rows-of-held, kept-packed}
-use Rattle.step_choice.specs.declared.Pair.TheVariants as pair
+use Rattle.std.specs.Prelude.{Some, None}
 use Rattle.step_choice.specs.declared.Leader.TheVariants as leader
 use Rattle.step_choice.specs.Judging.{follower_pair, who_leads}
 use Rattle.step_reduce.specs.declared.Reduction.{Reduction}
@@ -28,27 +28,28 @@ followed-packed h rows S t i j l = kept-packed rows S t _ (step_keeps (held h ro
 
 -- What a search that finds a follower of the leader who is to take one, or none, says.
 module _ (who : Network → ℕ) (N : Network) where
-  found-next : (i j : ℕ) → follower_pair N (who N) ≡ pair.Found i j → (leading N (who N) ≡ true) × (who N ≡ i) × (lowest_follower N (who N) ≡ j)
+  found-next : (i j : ℕ) → follower_pair N (who N) ≡ Some (i, j) → (leading N (who N) ≡ true) × (who N ≡ i) × (lowest_follower N (who N) ≡ j)
   unfolding follower_pair
   found-next i j e =
       by_cases (leading N (who N))
-      (λ t. let p : pair.Found (who N) (lowest_follower N (who N)) ≡ pair.Found i j = sym (if-true _ _ _ t) ∙ e in
-      let x : who N ≡ i = cc in let y : lowest_follower N (who N) ≡ j = cc in (t, x, y))
-      (λ t. let p : pair.Nothing ≡ pair.Found i j = sym (if-false _ _ _ t) ∙ e in absurd (let z : ◌≡◌ {A = ℕ} 0 1 = cc in omega arith))
+      (λ t. let p : Some (who N, lowest_follower N (who N)) ≡ Some (i, j) = sym (if-true _ _ _ t) ∙ e in
+      let q : ◌≡◌ {A = ℕ × ℕ} (who N, lowest_follower N (who N)) (i, j) = cc in
+      (t, ap (λ (k : ℕ × ℕ). k.0) q, ap (λ (k : ℕ × ℕ). k.1) q))
+      (λ t. let p : None ≡ Some (i, j) = sym (if-false _ _ _ t) ∙ e in absurd (let z : ◌≡◌ {A = ℕ} 0 1 = cc in omega arith))
 
-  none-next : follower_pair N (who N) ≡ pair.Nothing → leading N (who N) ≡ false
+  none-next : follower_pair N (who N) ≡ None → leading N (who N) ≡ false
   unfolding follower_pair
   none-next e =
-      not-true→false _ (λ t. let p : pair.Found (who N) (lowest_follower N (who N)) ≡ pair.Nothing = sym (if-true _ _ _ t) ∙ e in
+      not-true→false _ (λ t. let p : Some (who N, lowest_follower N (who N)) ≡ None = sym (if-true _ _ _ t) ∙ e in
       let z : ◌≡◌ {A = ℕ} 0 1 = cc in omega arith)
 
   -- The pair found is legal, and the step with it is the next one.
-  found-legal : (i j : ℕ) → follower_pair N (who N) ≡ pair.Found i j → legal N i j ≡ true
+  found-legal : (i j : ℕ) → follower_pair N (who N) ≡ Some (i, j) → legal N i j ≡ true
   found-legal i j e =
       let p = found-next i j e in
       subst₂ (λ (x y : ℕ). legal N x y ≡ true) p.1 p.2 (follower-legal N (who N) p.0)
 
-  found-step : (i j most : ℕ) → follower_pair N (who N) ≡ pair.Found i j → run_within who (suc most) N ≡ one_more (run_within who most (followed N i j))
+  found-step : (i j most : ℕ) → follower_pair N (who N) ≡ Some (i, j) → run_within who (suc most) N ≡ one_more (run_within who most (followed N i j))
   found-step i j most e =
       let p = found-next i j e in
       run_within-step who most N p.0 ∙ ap₂ (λ (x y : ℕ). one_more (run_within who most (followed N x y))) p.1 p.2
@@ -83,7 +84,7 @@ running_none who h rows S R t =
 
 module _ {who : Network → ℕ} {h r : Head} {before rows : List ℕ} {steps : ℕ} (R : Running who h before r rows steps) where
   -- One step more.
-  module _ {i j : ℕ} (e : follower_pair (held r rows) (who (held r rows)) ≡ pair.Found i j) where
+  module _ {i j : ℕ} (e : follower_pair (held r rows) (who (held r rows)) ≡ Some (i, j)) where
     pub running-legal : legal (held r rows) i j ≡ true
     running-legal = found-legal who (held r rows) i j e
 
@@ -127,7 +128,7 @@ module _ {who : Network → ℕ} {h r : Head} {before rows : List ℕ} {steps : 
           }
 
   -- No step is left.
-  pub running-done : follower_pair (held r rows) (who (held r rows)) ≡ pair.Nothing
+  pub running-done : follower_pair (held r rows) (who (held r rows)) ≡ None
       → RanTo (run_within who h.n (held h before)) (record { head = r; steps = steps }) rows
   running-done e =
       let told = run_within who h.n (held h before) in

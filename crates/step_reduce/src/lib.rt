@@ -8,7 +8,7 @@ ghost use Rattle.step_choice.specs.Judging.{who_leads};
 ghost use Rattle.step_reduce.specs.Reduced.{RanTo};
 
 use head::{Head, Rows};
-use step_choice::{Leader, Pair, next_step};
+use step_choice::{Leader, next_step};
 use step_rules::step;
 
 // The head at the end of a run, and how many steps led there.
@@ -25,15 +25,11 @@ fn run_sound(head: Head, rows: &mut Rows, leader: Leader) -> Reduction
 {
     let mut cut = head;
     let mut steps: usize = 0;
-    let mut pair = next_step(head, rows, leader);
-    loop {
-        let Pair::Found(i, j) = pair else {
-            return Reduction { head: cut, steps };
-        };
+    while let Some((i, j)) = next_step(cut, rows, leader) {
         cut = step(cut, rows, i, j);
         steps += 1;
-        pair = next_step(cut, rows, leader);
     }
+    Reduction { head: cut, steps }
 }
 
 // The full reduction of a sound state: "repeats until no step is legal".

@@ -1,23 +1,20 @@
 -- What a table says of two leaders' values, read off an array of rows, for any number w of values.
-use mathlib.Core.Bool.{Bool, true, false}
+use mathlib.Core.Bool.{Bool, true}
 use mathlib.Core.List.{List}
 use mathlib.Core.Path.{◌≡◌, sym, ap, ap₂, ◌∙◌}
-use Prim.Native.Nat.{ℕ, ◌+◌, ◌^◌, ◌≤◌, ◌<◌}
-use native.Mathlib.Numerals.{add-one}
-use native.Mathlib.Omega.{arith}
+use Prim.Native.Nat.{ℕ, ◌^◌, ◌<◌}
 use lib.ListN.{get_or}
 use borrow.Author.Tests.{eq-eqb, ne_eqb}
-use Rattle.bounded.specs.Bool.{and, implies, if}
+use Rattle.bounded.specs.Bool.{and, if}
 use Rattle.bounded.specs.Fold.{first}
-use Rattle.bounded.proofs.Bool.{and_assoc, and-holds, and-true, if-true, if-false}
+use Rattle.bounded.proofs.Bool.{and-holds, if-true, if-false}
 use Rattle.bounded.proofs.Fold.{some-cong, first_cong}
 use Rattle.words.specs.Word.{has, word}
-use Rattle.words.proofs.Laws.{has_word, has-ruled, is_word, word-cong}
+use Rattle.words.proofs.Laws.{has-ruled, is_word, word-cong}
 use Rattle.pairs.specs.Pairs.{allows_of, partners_of}
-use Rattle.pairs.specs.Frames.{RowPut, Stored}
-use Rattle.pairs.proofs.Frames.{stored_more}
+use Rattle.pairs.specs.Frames.{Stored}
 use Rattle.step_sides.specs.declared.sides.Side.{Side}
-use Rattle.step_sides.specs.Sides.{Apart, partner_at, PartnersIn, told_at, reach_at, cut_at, kept_at}
+use Rattle.step_sides.specs.Sides.{Apart, partner_at, PartnersIn, told_at, reach_at, kept_at}
 
 -- ---- the partner of one value
 
@@ -61,39 +58,11 @@ reach-is w rows table s t a ce e = e ∙ ap (λ (n : ℕ). word w (told_at w row
 
 -- ---- one value of the first leader
 
-cut-anew : (d m old : Bool) → and d m ≡ and (and true d) (and m (implies false old))
-unfolding and implies
-cut-anew d m old = ap (and d) (sym (and-true m))
-
-cut_again : (d m old : Bool) → and (and d m) old ≡ and (and true d) (and m (implies true old))
-unfolding and implies
-cut_again d m old = and_assoc d m old
-
 module _ (w : ℕ) (rows table : List ℕ) (s t : Side) (a : ℕ) where
-  -- A value in the domain goes with what the table allows, within the second domain,
-  module _ {reached row : ℕ} (d : has s.values a ≡ true) (me : reached ≡ word w (reach_at w rows table s t a))
-      (re : row ≡ word w (λ (u : ℕ). and (has t.values u) (has reached u))) where
-    pub cut-unstated : {was : Bool} → was ≡ false → row ≡ word w (cut_at w rows table s t was a)
-    unfolding cut_at
-    cut-unstated f = re ∙ word-cong w _ _ (λ b k. rw (has-ruled w _ me b k, d, f) (cut-anew _ _ _))
-
-    -- and, where the pair was stated before, with what that allowed.
-    pub cut-stated : {was : Bool} {old r : ℕ} → was ≡ true → old ≡ word w (allows_of w rows s.leader t.leader a)
-        → r ≡ word w (λ (u : ℕ). and (has row u) (has old u)) → r ≡ word w (cut_at w rows table s t was a)
-    unfolding cut_at
-    cut-stated {old} f oe e =
-        e ∙ word-cong w _ _ (λ b k.
-        rw (has-ruled w _ re b k, has-ruled w _ me b k, has-ruled w _ oe b k, d, f) (cut_again _ _ _))
-
   -- Of two free variables, each value is its own partner.
-  module _ (se : s.leader ≡ s.named) (te : t.leader ≡ t.named) where
-    free-reach : (b : ℕ) → has (get_or table a 0) b ≡ reach_at w rows table s t a b
-    unfolding reach_at told_at
-    free-reach b = ap (λ (c : ℕ). has (get_or table c 0) b) (partner-own w rows s a se) ∙ sym (if-true _ _ _ (eq-eqb _ _ te))
-
-    pub free-row : {row : ℕ} → row ≡ word w (λ (u : ℕ). and (has t.values u) (has (get_or table a 0) u))
-        → row ≡ word w (λ (u : ℕ). and (has t.values u) (has (word w (reach_at w rows table s t a)) u))
-    free-row e = e ∙ word-cong w _ _ (λ b k. ap (and (has t.values b)) (free-reach b ∙ sym (has_word w _ b k)))
+  pub free-reach : s.leader ≡ s.named → t.leader ≡ t.named → (b : ℕ) → has (get_or table a 0) b ≡ reach_at w rows table s t a b
+  unfolding reach_at told_at
+  free-reach se te b = ap (λ (c : ℕ). has (get_or table c 0) b) (partner-own w rows s a se) ∙ sym (if-true _ _ _ (eq-eqb _ _ te))
 
   -- Of one leader, a value stays where the table allows its two partners.
   pub kept-one : {c d : ℕ} {r : Bool} → has s.values a ≡ true → ((row : ℕ) → told_at w rows t row a ≡ has row (partner_at w rows t a))
@@ -119,22 +88,8 @@ module _ (w : ℕ) {before now : List ℕ} {s t : Side} (A : Apart s t) {f : ℕ
   pub partners-stay : (table : List ℕ) → PartnersIn w before table s → PartnersIn w now table s
   partners-stay table h a d = rw (partner-stays a) (h a d)
 
-  reach-stays : (table : List ℕ) (a b : ℕ) → reach_at w now table s t a b ≡ reach_at w before table s t a b
+  pub reach-stays : (table : List ℕ) (a b : ℕ) → reach_at w now table s t a b ≡ reach_at w before table s t a b
   unfolding reach_at told_at
   reach-stays table a b =
       rw (partner-stays a)
       (ap (if _ _) (some-cong w _ _ (λ d l. ap (and (and (has t.domain d) (has (get_or table (partner_at w before s a) 0) d))) (told-second d b))))
-
-  cut-stays : (table : List ℕ) (was : Bool) (a b : ℕ) → n ≤ a → cut_at w now table s t was a b ≡ cut_at w before table s t was a b
-  unfolding cut_at
-  cut-stays table was a b l = ap (and _) (ap₂ and (reach-stays table a b) (ap (implies was) (st.left a b l)))
-
--- One value more.
-pub cut-more : (w : ℕ) {before now after : List ℕ} (table : List ℕ) {s t : Side} (was : Bool) {a row : ℕ} → Apart s t
-    → Stored w before now s.leader t.leader (cut_at w before table s t was) a
-    → row ≡ word w (cut_at w now table s t was a)
-    → RowPut w now after s.leader t.leader a row
-    → Stored w before after s.leader t.leader (cut_at w before table s t was) (a + 1)
-cut-more w {before} {now} {after} table {s} {t} was {a} {row} A st e p =
-    rw (add-one a)
-    (stored_more w before now after _ _ _ a row st p (λ b k. has-ruled w _ e b k ∙ cut-stays w A st table was a b (omega arith)))

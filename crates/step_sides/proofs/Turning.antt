@@ -1,18 +1,17 @@
 -- A table from its other side, for any number w of values.
 use mathlib.Core.Bool.{Bool, true, false, not}
-use mathlib.Core.List.{List}
+use mathlib.Core.List.{List, ◌++◌}
 use mathlib.Core.Path.{◌≡◌, refl, sym, ap, ◌∙◌}
-use Prim.Native.Nat.{ℕ, ◌+◌, ◌≤◌, ◌<◌}
+use Prim.Native.Nat.{ℕ, ◌-◌, ◌≤◌, ◌<◌}
 use native.Mathlib.Omega.{arith}
 use lib.Dec.{eqb, ltb}
-use lib.ListN.{length, get_or, set, replicate, length-replicate, get_or-replicate, get_or-eq_default}
+use lib.ListN.{length, drop, get_or, get_or-append, replicate, length-replicate, length-drop, get_or-replicate, get_or-eq_default, length-append}
 use lib.Pow.{pow_pos}
-use lib.Seq.{get_or-set_other}
+use lib.Seq.{get_or-append_right, get_or-drop}
 use borrow.Author.Tests.{eq-eqb, ne_eqb, eqb-true, ltb-true, ltb-false}
 use Rattle.bounded.specs.Bool.{and}
 use Rattle.bounded.specs.Table.{tabulate}
 use Rattle.bounded.proofs.Bool.{by_cases, clash, not-true→false, and_i, and_l, and_r, and-holds, and-fails}
-use Rattle.bounded.proofs.Fill.{Filled, filled_none, filled_more}
 use Rattle.bounded.proofs.Table.{get_d_tabulate, length-tabulate, is-table}
 use Rattle.words.specs.Word.{has, word}
 use Rattle.words.proofs.Laws.{empty, has_word, has-ruled, has-zero, is_word, word-cong, word_lt}
@@ -25,32 +24,14 @@ use Rattle.step_sides.specs.Turned.{column_at, turned_of, Turns}
 
 -- ---- the rows, and 0 past them
 
--- The rows below c are there, and past them all is 0.
-pub record Copied (w : ℕ) (table rows : List ℕ) (c : ℕ) : Type 0 where
-  pub first_rows : Filled w (λ (k : ℕ). get_or table k 0) rows c
-  pub then_zero : (k : ℕ) → c ≤ k → k < w → get_or rows k 0 ≡ 0
-
-module _ (w : ℕ) {table rows : List ℕ} where
-  pub copied_none : rows ≡ replicate w 0 → Copied w table rows 0
-  copied_none e =
-      record {
-        first_rows = filled_none w (ap length e ∙ length-replicate {A = ℕ} w 0);
-        then_zero = λ k _ l. ap (λ (r : List ℕ). get_or r k 0) e ∙ get_or-replicate w k 0 0 l;
-      }
-
-  pub copied_more : {c : ℕ} → Copied w table rows c → c < w → Copied w table (set rows c (get_or table c 0)) (c + 1)
-  copied_more {c} C l =
-      record {
-        first_rows = filled_more w C.first_rows l refl;
-        then_zero = λ k h m. get_or-set_other rows c k _ 0 (λ e. let z : ⊥ = omega arith in z) ∙ C.then_zero k (omega arith) m;
-      }
-
-  pub copied-end : {c : ℕ} → Copied w table rows c → length table ≤ c → rows ≡ tabulate w (λ (k : ℕ). get_or table k 0)
-  copied-end {c} C h =
-      is-table w _ rows 0 C.first_rows.whole (λ k l.
-      by_cases (ltb k c)
-      (λ t. C.first_rows.done k (ltb-true k c t))
-      (λ t. let m = ltb-false k c t in C.then_zero k m l ∙ sym (get_or-eq_default table 0 (omega arith))))
+pub padded : (w : ℕ) (table : List ℕ) → length table ≤ w → table ++ drop (length table) (replicate w 0) ≡ tabulate w (λ (k : ℕ). get_or table k 0)
+padded w table h =
+    is-table w _ _ 0 (omega (arith, length-append {A = ℕ} table (drop (length table) (replicate w 0)), length-drop {A = ℕ} (length table) (replicate w 0), length-replicate {A = ℕ} w 0))
+    (λ k l. by_cases (ltb k (length table))
+    (λ t. get_or-append table _ 0 k (ltb-true k _ t))
+    (λ t. let m = ltb-false k _ t in
+    get_or-append_right table _ k 0 m ∙ get_or-drop (length table) (replicate w 0) (k - length table) 0
+    ∙ get_or-replicate w _ 0 0 (omega arith) ∙ sym (get_or-eq_default table 0 m)))
 
 -- ---- a column
 

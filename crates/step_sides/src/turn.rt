@@ -12,9 +12,7 @@ fn whole(table: &[u32]) -> [u32; WIDTH]
     ensures { result ≡ tabulate width (λ (c : ℕ). get_or table.now c 0) }
 {
     let mut rows = [0u32; WIDTH];
-    for c in 0..table.len() {
-        rows[c] = table[c];
-    }
+    rows[..table.len()].copy_from_slice(table);
     rows
 }
 
@@ -34,11 +32,7 @@ fn column(rows: &[u32; WIDTH], domain: u32, d: usize) -> u32
     if !member(domain, d) {
         return 0;
     }
-    let mut members: u32 = 0;
-    for c in 0..WIDTH {
-        members |= (holds(rows[c], d) as u32) << c;
-    }
-    members
+    folds::gather(WIDTH, |c| holds(rows[c], d))
 }
 
 // The table from its second variable: such a word for each of its values.
@@ -47,9 +41,5 @@ pub fn turned(table: &[u32], domain: u32) -> [u32; WIDTH]
     ensures { result ≡ turned_of width domain table.now }
 {
     let rows = whole(table);
-    let mut columns = [0u32; WIDTH];
-    for d in 0..WIDTH {
-        columns[d] = column(&rows, domain, d);
-    }
-    columns
+    folds::table(|d| column(&rows, domain, d))
 }

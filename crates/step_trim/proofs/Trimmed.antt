@@ -1,10 +1,8 @@
 -- The trimmed domains of a head are those of the network with its followers trimmed.
-use mathlib.Core.Bool.{Bool, true, false}
 use mathlib.Core.List.{List}
 use mathlib.Core.Path.{◌≡◌, refl, sym, ap, ap₂, subst, ◌∙◌}
 use Prim.Native.Nat.{ℕ, suc, pred, ◌-◌, ◌≤◌, ◌<◌}
 use native.Mathlib.Omega.{arith}
-use lib.Dec.{eqb}
 use lib.ListN.{get_or}
 use borrow.Author.Tests.{eq-eqb, ne_eqb}
 use Rattle.bounded.specs.Bool.{and}
@@ -13,7 +11,7 @@ use Rattle.bounded.specs.Table.{tabulate}
 use Rattle.bounded.proofs.Bool.{bool-ext, and_l, if-true, if-false}
 use Rattle.bounded.proofs.Fold.{some-i, some-e}
 use Rattle.bounded.proofs.Table.{is-table, tabulate-cong}
-use Rattle.words.specs.Word.{width, has, word}
+use Rattle.words.specs.Word.{width, word}
 use Rattle.words.proofs.Laws.{is_word, word-cong}
 use Rattle.network.specs.Network.{Network, free, partner}
 use Rattle.network.specs.Sound.{Sound, Bounded}

@@ -32,9 +32,5 @@ pub fn trim_followers(
     requires { Led leaders }
     ensures { result ≡ tabulate variables (trimmed_at width rows.now domains leaders) }
 {
-    let mut after = [0u32; VARIABLES];
-    for x in 0..VARIABLES {
-        after[x] = trim_variable(rows, domains, leaders, x);
-    }
-    after
+    folds::table(|x| trim_variable(rows, domains, leaders, x))
 }

@@ -4,14 +4,14 @@ use mathlib.Core.List.{List}
 use mathlib.Core.Path.{◌≡◌, refl, sym, ap, ap₂, subst, ◌∙◌}
 use Prim.Native.Nat.{ℕ, ◌^◌, ◌≤◌, ◌<◌}
 use native.Mathlib.Omega.{arith}
-use lib.Dec.{eqb, ltb}
-use lib.ListN.{length, get_or}
+use lib.Dec.{eqb}
+use lib.ListN.{get_or}
 use borrow.Author.Tests.{eqb-true, eqb-false, eq-eqb, ne_eqb, lt-ltb, ltb-true}
-use Rattle.bounded.specs.Bool.{and, implies, not}
-use Rattle.bounded.specs.Fold.{every, some, count, first}
+use Rattle.bounded.specs.Bool.{and, not}
+use Rattle.bounded.specs.Fold.{some, count, first}
 use Rattle.bounded.specs.Table.{tabulate}
 use Rattle.bounded.proofs.Array.{array-past, get_d-table}
-use Rattle.bounded.proofs.Bool.{by_cases, bool-ext, clash, not-true→false, and_i, and_l, and_r, and-true, and-false, and-holds, and-fails, and-cong, implies-i, implies-e, not-i, not-false-i}
+use Rattle.bounded.proofs.Bool.{by_cases, bool-ext, clash, not-true→false, and_i, and_l, and_r, and-false, and-holds, and-fails, and-cong, implies-i, implies-e, not-i, not-false-i}
 use Rattle.bounded.proofs.Fold.{every-i, every-e, some-i, count-some, first_some, first-widen}
 use Rattle.words.specs.Word.{width, has, word}
 use Rattle.words.proofs.Laws.{has_all, has-past, has-zero, has-below, word-cong, word_none}
@@ -29,7 +29,6 @@ use Rattle.search_narrow.specs.Narrow.{Narrowed}
 use Rattle.search_narrow.proofs.Narrowing.{narrowed-has}
 use Rattle.survey_product.specs.Tied.{tied_word}
 use Rattle.survey_product.proofs.Ties.{Below, below_word, tied_below, held-count, held-some, held-free, held-tied}
-use Rattle.survey.specs.declared.settle.Settled.{Settled}
 use Rattle.survey.specs.Settle.{single_of, single_word, value_of, Ready, SettledFrom, unstated_word, SettledIn}
 
 -- ---- one variable
@@ -60,13 +59,17 @@ pub record SettlingTo (rows : List ℕ) (singles : ℕ) (domains stated before a
   pub so_far : SettledFrom rows singles domains stated rest before after
 
 module _ {rows : List ℕ} {singles : ℕ} {domains stated before : List ℕ} where
-  pub settling-none : singles < 2 ^ width → SettlingTo rows singles domains stated before before singles
-  settling-none l =
-      record {
+  pub settling-none : {rest : ℕ} → rest ≡ singles → singles < 2 ^ width → SettlingTo rows singles domains stated before before rest
+  settling-none e l =
+      rw e record {
         rest_fits = l;
         rest_in = λ i t. t;
         so_far = record { whole = refl; narrowed = λ j u. (λ h. (h, λ i s r _. clash s r), λ p. p.0) };
       }
+
+  pub settling_next : {between : List ℕ} {rest i : ℕ} → SettlingTo rows singles domains stated before between rest → (rest ≡ 0 → ⊥)
+      → i ≡ first width (has rest) → has singles i ≡ true
+  settling_next {rest = rest} {i = i} R more low = R.rest_in i (lowest-in width rest i R.rest_fits more low).1
 
   pub settling-end : {after : List ℕ} {rest : ℕ} → SettlingTo rows singles domains stated before after rest → rest ≡ 0
       → SettledFrom rows singles domains stated 0 before after

@@ -1,15 +1,15 @@
 -- From the choices of the tied variables to those of all: each part of the code.
 use mathlib.Core.Bool.{true, false}
 use mathlib.Core.List.{List}
-use mathlib.Core.Path.{◌≡◌, refl, sym, ap, ◌∙◌}
-use Prim.Native.Nat.{ℕ, suc, pred, ◌+◌, ◌*◌, ◌/◌, ◌≤◌, ◌<◌, min}
-use native.Mathlib.Nat.{one-mul, zero-mul, mul_assoc, mul_comm, mul-le-mul_left, le-div_iff_mul-le, div-lt_iff_lt-mul, min-le_left, min-eq_left, min-eq_right}
+use mathlib.Core.Path.{◌≡◌, sym, ap, ◌∙◌}
+use Prim.Native.Nat.{ℕ, suc, ◌+◌, ◌*◌, ◌≤◌, ◌<◌}
+use native.Mathlib.Nat.{one-mul, zero-mul, mul_assoc, mul-le-mul_left, min-le_left, min-eq_left, min-eq_right}
 use native.Mathlib.Numerals.{add-one}
 use native.Mathlib.Omega.{arith}
-use lib.Dec.{eqb, leb, ltb}
+use lib.Dec.{leb}
 use lib.ListN.{get_or}
 use borrow.Author.Tests.{eq-eqb, ne_eqb, lt-ltb, le-ltb, leb-true, leb-false}
-use Rattle.bounded.specs.Bool.{and, if}
+use Rattle.bounded.specs.Bool.{and}
 use Rattle.bounded.specs.Fold.{product, count}
 use Rattle.bounded.proofs.Bool.{by_cases, if-true, if-false}
 use Rattle.words.specs.Word.{width, has, word}
@@ -26,41 +26,33 @@ unfolding count_limit
 counts-own x l = record { count_is = sym (min-eq_left l); more_is = sym (le-ltb _ _ l) }
 
 module _ (c : Counted) (v : ℕ) where
-  pub times-one : v ≡ 1 → (x : ℕ) → Counts c x → Counts c (v * x)
-  times-one e x C = rw (e, one-mul x) C
-
   pub times_none : v ≡ 0 → (x : ℕ) → Counts (record { count = 0; more = false }) (v * x)
   times_none e x = rw (e, zero-mul x) (counts-own 0 (omega arith))
 
-  pub times-fits : (v ≡ 0 → ⊥) → c.count ≤ 18446744073709551615 / v → v * c.count ≤ 18446744073709551615
-  times-fits d l = let p : 0 < v = omega arith in omega (arith, (le-div_iff_mul-le p).0 l, mul_comm v c.count)
-
-  pub times-past : (v ≡ 0 → ⊥) → 18446744073709551615 / v < c.count → (x : ℕ) → Counts c x
-      → Counts (record { count = 18446744073709551615; more = true }) (v * x)
+  pub times-past : (v * c.count < 18446744073709551616 → ⊥) → (x : ℕ) → Counts c x → Counts (record { count = 18446744073709551615; more = true }) (v * x)
   unfolding count_limit
-  times-past d l x C =
-      let p : 0 < v = omega arith in
-      let a : 18446744073709551615 < c.count * v = (div-lt_iff_lt-mul p).0 l in
+  times-past l x C =
       let most : c.count ≤ x = rw C.count_is (min-le_left x _) in
-      let b : 18446744073709551615 < v * x = omega (arith, mul-le-mul_left v most, mul_comm v c.count) in
+      let b : 18446744073709551615 < v * x = omega (arith, mul-le-mul_left v most) in
       record { count_is = sym (min-eq_right (omega arith)); more_is = sym (lt-ltb _ _ b) }
 
-  pub times_more : (v ≡ 0 → ⊥) → (v ≡ 1 → ⊥) → c.count ≤ 18446744073709551615 / v → (x : ℕ) → Counts c x
-      → Counts (record { count = v * c.count; more = c.more }) (v * x)
+  -- A count that is capped stays so, by a factor of 1.
+  pub times_more : (v ≡ 0 → ⊥) → v * c.count < 18446744073709551616 → {n : ℕ} → n ≡ v * c.count → (x : ℕ) → Counts c x
+      → Counts (record { count = n; more = c.more }) (v * x)
   unfolding count_limit
-  times_more d o l x C =
-      let fits = times-fits d l in
-      by_cases (leb x 18446744073709551615)
+  times_more d fits ne x C =
+      rw ne
+      (by_cases (leb x 18446744073709551615)
       (λ t. let e : c.count ≡ x = C.count_is ∙ min-eq_left (leb-true _ _ t) in
-      let small : v * x ≤ 18446744073709551615 = rw e at fits in
+      let small : v * x ≤ 18446744073709551615 = let f : v * x < 18446744073709551616 = rw e at fits in omega arith in
       record {
         count_is = ap (λ (y : ℕ). v * y) e ∙ sym (min-eq_left small);
         more_is = C.more_is ∙ le-ltb 18446744073709551615 x (leb-true _ _ t) ∙ sym (le-ltb _ _ small);
       })
       (λ t. let big : 18446744073709551615 < x = leb-false _ _ t in
       let e : c.count ≡ 18446744073709551615 = C.count_is ∙ min-eq_right (omega arith) in
-      let two : 2 ≤ v = omega arith in
-      absurd (let x : ⊥ = omega (arith, rw e at fits) in x))
+      let one : v ≡ 1 = omega (arith, rw e at fits) in
+      rw (one, one-mul c.count, one-mul x) C))
 
 -- One factor more.
 pub counts-more : (f : ℕ → ℕ) (i t : ℕ) {v : ℕ} {c r : Counted} → Counts c (product i f * t) → v ≡ f i → ((x : ℕ) → Counts c x → Counts r (v * x))

@@ -9,21 +9,21 @@ use lib.Dec.{eqb, leb, ltb}
 use lib.ListN.{length, get_or, replicate, length-replicate, get_or-replicate}
 use borrow.Author.Tests.{eqb-true, eqb-false, lt-ltb, ltb-true, le-ltb, le-leb, leb-true, leb-false}
 use Rattle.bounded.specs.Bool.{and, or, not, if}
-use Rattle.bounded.specs.Fold.{some, product, count}
+use Rattle.bounded.specs.Fold.{some, product}
 use Rattle.bounded.specs.Table.{tabulate}
-use Rattle.bounded.proofs.Bool.{by_cases, bool-ext, clash, not-true→false, and_i, and_l, and_r, and-true, and-false, and-holds, and-fails, and-cong, if-true, if-false, or-false-l}
+use Rattle.bounded.proofs.Bool.{by_cases, bool-ext, not-true→false, and_i, and_l, and_r, and-false, and-holds, and-fails}
 use Rattle.bounded.proofs.Fill.{zeros-at}
 use Rattle.bounded.proofs.Fold.{some-i, some-e, some-none, product-cong, count-widen, count-cong}
 use Rattle.bounded.proofs.Table.{is-table, length-tabulate, get_d_tabulate}
 use Rattle.words.specs.Word.{width, has, word}
-use Rattle.words.proofs.Laws.{has_all, has-past, has-zero, has_word, has-below, is_word, word_none, has-ruled}
+use Rattle.words.proofs.Laws.{has_all, has-past, has-zero, is_word, word_none, has-ruled}
 use Rattle.network.specs.Network.{Network, free, partner}
 use Rattle.network.specs.Completion.{exhausted}
 use Rattle.network.specs.Survey.{Tally, nothing, tied, tied_product, settled, settled_domain, besides, free_used, any_used, all_count, spread, surveyed, count_limit}
 use Rattle.network.proofs.Sound.{free-or-led, free-e, leader-n, leader-not-self}
 use Rattle.network.proofs.Survey.{tied_tally, survey-spread, spread-nothing, spread-some, exhausted-tied, used-tied, used-apart, used-free, used-led}
 use Rattle.network.proofs.Tally.{settled-bound}
-use Rattle.pairs.specs.Pairs.{variables, allows_of, partners_of}
+use Rattle.pairs.specs.Pairs.{variables, partners_of}
 use Rattle.pairs.proofs.Frames.{past-second}
 use Rattle.head.specs.declared.Head.{Head}
 use Rattle.head.specs.Held.{HeadShaped, held, sound_in}

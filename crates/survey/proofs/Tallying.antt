@@ -2,17 +2,17 @@
 use mathlib.Core.Bool.{Bool, true, false}
 use mathlib.Core.List.{List}
 use mathlib.Core.Path.{◌≡◌, refl, sym, ap, ap₂, ◌∙◌}
-use Prim.Native.Nat.{ℕ, zero, suc, ◌+◌, ◌-◌, ◌^◌, ◌≤◌, ◌<◌, min}
+use Prim.Native.Nat.{ℕ, suc, ◌+◌, ◌-◌, ◌^◌, ◌≤◌, ◌<◌, min}
 use native.Mathlib.Nat.{add-zero, zero-add, min-eq_left, min-eq_right}
 use native.Mathlib.Omega.{arith}
 use lib.Dec.{eqb, leb, ltb}
 use lib.ListN.{length, get_or, set}
 use lib.Seq.{get_or-set_same, get_or-set_other}
-use borrow.Author.Tests.{eqb-true, eqb-false, eq-eqb, ne_eqb, lt-ltb, ltb-true, ltb-false, le-ltb, le-leb, leb-true, leb-false}
+use borrow.Author.Tests.{eqb-true, eqb-false, eq-eqb, ne_eqb, lt-ltb, ltb-true, le-ltb, le-leb, leb-true, leb-false}
 use Rattle.bounded.specs.Bool.{and, or, implies, not}
 use Rattle.bounded.specs.Fold.{first, count}
-use Rattle.bounded.proofs.Bool.{by_cases, clash, bool-ext, not-true→false, and_i, and_l, and_r, and-true, and-false, and-holds, and-fails, not-i, not-e, not-false-i, if-true, if-false, or_l, or_r, or_elim, or-false-i}
-use Rattle.bounded.proofs.Fold.{first_below, count-le, count-widen}
+use Rattle.bounded.proofs.Bool.{by_cases, clash, bool-ext, not-true→false, and_i, and_l, and_r, and-true, and-false, and-holds, and-fails, not-i, not-false-i, or-false-i}
+use Rattle.bounded.proofs.Fold.{first_below, count-widen}
 use Rattle.words.specs.Word.{width, has, word}
 use Rattle.words.proofs.Laws.{has_word, has-past, has-below, has_all, has-zero}
 use Rattle.network.specs.Network.{Network}

@@ -1,5 +1,5 @@
 -- From the choices of the tied variables to those of all, on arrays.
-use Rattle.std.specs.Prelude.{Bool, List, ◌≡◌, ℕ, suc, pred, ◌<◌, min, eqb, ltb, get_or}
+use Rattle.std.specs.Prelude.{List, ◌≡◌, ℕ, suc, pred, ◌<◌, min, eqb, ltb, get_or}
 use Rattle.bounded.specs.Bool.{and, if}
 use Rattle.bounded.specs.Fold.{count}
 use Rattle.words.specs.Word.{width, has, word}

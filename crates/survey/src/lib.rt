@@ -10,6 +10,7 @@ ghost use Rattle.network.specs.Survey.{tied_product};
 ghost use Rattle.head.specs.Held.{held, sound_in};
 ghost use Rattle.survey.specs.Surveyed.{SurveyedIn};
 
+use crate::settle::Settled;
 use head::Head;
 use pairs::{Rows, VARIABLES};
 use words::without;
@@ -27,13 +28,15 @@ pub fn survey_sound(head: Head, rows: &Rows) -> Surveyed
     requires { (sound_in head rows.now ≡ true) × (1 ≤ tied_product (held head rows.now)) × (tied_product (held head rows.now) ≤ 1000000) }
     ensures { SurveyedIn (held head rows.now) result }
 {
-    let settled = settle::settle_singles(head, rows);
-    let left = settled.left;
-    let lists = settled.lists;
-    let stated = settled.stated;
+    let Settled {
+        free,
+        left,
+        lists,
+        stated,
+    } = settle::settle_singles(head, rows);
     let mut used = [0u32; VARIABLES];
     let tallied = tally::tally(&stated, rows, &lists, left, &mut used);
-    let others = without(settled.free, left);
+    let others = without(free, left);
     let counted = spread::multiplied(head.n, others, &lists, tallied);
     if counted.count == 0 {
         return Surveyed {
@@ -42,9 +45,7 @@ pub fn survey_sound(head: Head, rows: &Rows) -> Surveyed
             words: [0u32; VARIABLES],
         };
     }
-    let leaders = head.leaders;
-    let domains = head.domains;
-    let words = spread::all_words(&leaders, &domains, &lists, rows, left, &used);
+    let words = spread::all_words(&head.leaders, &head.domains, &lists, rows, left, &used);
     Surveyed {
         count: counted.count,
         more: counted.more,

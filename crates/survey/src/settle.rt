@@ -7,12 +7,13 @@ ghost use Rattle.pairs.specs.Pairs.{variables};
 ghost use Rattle.head.specs.Held.{held, sound_in};
 ghost use Rattle.survey.specs.Settle.{single_of, single_word, Ready, SettledFrom, unstated_word, SettledIn};
 
+use folds::{gather, table};
 use head::Head;
 use pairs::{Rows, VARIABLES};
 use search_narrow::narrow_either;
 use solutions::free_variables;
 use survey_product::tied_variables;
-use words::{count, dropped, lowest, member, without};
+use words::{count, lowest, member, without};
 
 // What is searched once the variables of one value are settled.
 #[derive(Clone, Copy)]
@@ -40,11 +41,7 @@ fn single_variables(n: usize, tied: u32, domains: &[u32; VARIABLES]) -> u32
     requires { n ≤ variables }
     ensures { result ≡ single_word n tied domains.now }
 {
-    let mut singles: u32 = 0;
-    for i in 0..n {
-        singles |= (is_single(tied, domains[i], i) as u32) << i;
-    }
-    singles
+    gather(n, |i| is_single(tied, domains[i], i))
 }
 
 // The value of each variable in `singles` narrows the lists of all that it is stated with.
@@ -58,12 +55,9 @@ fn narrow_lists<'a>(
     requires { Ready singles domains.now stated.now × (length lists.old ≡ variables) }
     ensures { SettledFrom rows.now singles domains.now stated.now 0 lists.old lists.new }
 {
-    let mut rest = singles;
-    while rest != 0 {
-        let i = lowest(rest);
+    for i in words::members(singles) {
         let v = lowest(domains[i]);
         narrow_either(lists, rows, stated[i], i, v);
-        rest = dropped(rest);
     }
 }
 
@@ -81,12 +75,7 @@ fn unstated_word(singles: u32, stated: u32, i: usize) -> u32
 fn unstated(singles: u32, stated: [u32; VARIABLES]) -> [u32; VARIABLES]
     ensures { result ≡ tabulate variables (λ (i : ℕ). unstated_word singles (get_or stated i 0) i) }
 {
-    let mut left = stated;
-    for i in 0..VARIABLES {
-        let word = unstated_word(singles, stated[i], i);
-        left[i] = word;
-    }
-    left
+    table(|i| unstated_word(singles, stated[i], i))
 }
 
 // The variables of one value are settled.
@@ -94,16 +83,13 @@ pub(crate) fn settle_singles(head: Head, rows: &Rows) -> Settled
     requires { sound_in head rows.now ≡ true }
     ensures { SettledIn (held head rows.now) result }
 {
-    let n = head.n;
-    let domains = head.domains;
-    let leaders = head.leaders;
-    let given = head.stated;
-    let free = free_variables(n, &leaders);
-    let singles = single_variables(n, tied_variables(n, free, &given), &domains);
-    let mut lists = domains;
-    narrow_lists(&mut lists, rows, singles, &domains, &given);
-    let stated = unstated(singles, given);
-    let left = tied_variables(n, free, &stated);
+    let free = free_variables(head.n, &head.leaders);
+    let tied = tied_variables(head.n, free, &head.stated);
+    let singles = single_variables(head.n, tied, &head.domains);
+    let mut lists = head.domains;
+    narrow_lists(&mut lists, rows, singles, &head.domains, &head.stated);
+    let stated = unstated(singles, head.stated);
+    let left = tied_variables(head.n, free, &stated);
     Settled {
         free,
         left,

@@ -6,7 +6,7 @@ ghost use Rattle.words.specs.Word.{width};
 ghost use Rattle.pairs.specs.Pairs.{variables};
 ghost use Rattle.survey.specs.Spread.{Counts, besides_of, used_of, word_of, LedIn};
 
-use crate::tally::MOST;
+use folds::table;
 use pairs::{Rows, VARIABLES};
 use pairs_read::partners;
 use words::{both, member, wide};
@@ -22,25 +22,18 @@ pub(crate) struct Counted {
 fn times(counted: Counted, values: u64) -> Counted
     ensures { (x : ℕ) → Counts counted x → Counts result (values * x) }
 {
-    if values == 1 {
-        return counted;
-    }
     if values == 0 {
         return Counted {
             count: 0,
             more: false,
         };
     }
-    let count = counted.count;
-    if count > MOST / values {
-        return Counted {
-            count: MOST,
+    match values.checked_mul(counted.count) {
+        Some(count) => Counted { count, ..counted },
+        None => Counted {
+            count: u64::MAX,
             more: true,
-        };
-    }
-    Counted {
-        count: values * count,
-        more: counted.more,
+        },
     }
 }
 
@@ -114,10 +107,5 @@ pub(crate) fn all_words<'a>(
     requires { (i : ℕ) → i < variables → LedIn leaders.now i }
     ensures { (result ≡ tabulate variables (word_of leaders.now domains.now lists.now rows.now left used.now)) × ((k : ℕ) → get_or result k 0 < 2 ^ width) }
 {
-    let mut words = [0u32; VARIABLES];
-    for i in 0..VARIABLES {
-        let word = any_word(leaders, domains, lists, rows, left, used, i);
-        words[i] = word;
-    }
-    words
+    table(|i| any_word(leaders, domains, lists, rows, left, used, i))
 }

@@ -12,17 +12,11 @@ use pairs::{Rows, VARIABLES};
 use search_narrow::narrow;
 use words::{both, count, dropped, either, lowest, single};
 
-// The most that a count holds.
-pub const MOST: u64 = 18446744073709551615;
-
 // The sum, or the most that a count holds.
 fn capped(a: u64, b: u64) -> u64
     ensures { result ≡ min (a + b) count_limit }
 {
-    if b > MOST - a {
-        return MOST;
-    }
-    a + b
+    a.saturating_add(b)
 }
 
 // `word` with the value `v`, where there is a choice with it.

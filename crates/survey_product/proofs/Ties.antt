@@ -10,8 +10,8 @@ use lib.ListN.{get_or}
 use borrow.Author.Tests.{eqb-true, eqb-false, leb-true, leb-false, lt-ltb, ltb-true, ltb-false}
 use Rattle.bounded.specs.Bool.{and, bit, if}
 use Rattle.bounded.specs.Fold.{some, product, count}
-use Rattle.bounded.proofs.Bool.{by_cases, bool-ext, clash, not-true→false, and_i, and_l, and_r, and-holds, and-fails, if-true, if-false, bit-true, bit-false, bit_le, and-cong}
-use Rattle.bounded.proofs.Fold.{some-i, some-e, some-none, product-cong, count-le, count-widen}
+use Rattle.bounded.proofs.Bool.{by_cases, bool-ext, not-true→false, and_i, and_l, and_r, and-holds, and-fails, if-true, if-false, bit-true, bit-false, and-cong}
+use Rattle.bounded.proofs.Fold.{some-i, some-e, some-none, product-cong, count-widen}
 use Rattle.words.specs.Word.{width, has, word}
 use Rattle.words.proofs.Laws.{word_lt, has_word, has-word-past, has-ruled, has-zero, nonempty}
 use Rattle.network.specs.Network.{Network, free}
@@ -56,15 +56,6 @@ module _ (free tied domain i : ℕ) where
   pub searched-open : has free i ≡ true → has tied i ≡ false → domain < 2 ^ width → (domain ≡ 0 → ⊥) → 1 ≡ searched_of free tied domain i
   unfolding searched_of
   searched-open h t l d = sym (if-true _ _ _ h ∙ if-false _ _ _ t ∙ bit-true _ (nonempty width domain l d))
-
-  pub searched-most : searched_of free tied domain i ≤ width
-  unfolding searched_of
-  searched-most =
-      by_cases (has free i)
-      (λ h. by_cases (has tied i)
-      (λ t. omega (arith, searched-tied h t, count-le width (has domain)))
-      (λ t. omega (arith, if-true {A = ℕ} (has free i) (if (has tied i) (count width (has domain)) (bit (some width (has domain)))) 1 h, if-false {A = ℕ} (has tied i) (count width (has domain)) (bit (some width (has domain))) t, bit_le (some width (has domain)))))
-      (λ h. omega (arith, searched-led h))
 
 -- ---- the word
 

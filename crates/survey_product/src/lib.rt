@@ -8,9 +8,10 @@ ghost use Rattle.pairs.specs.Pairs.{variables};
 ghost use Rattle.head.specs.Held.{held, sound_in};
 ghost use Rattle.survey_product.specs.Tied.{tied_of, tied_word, searched_of};
 
+use folds::gather;
 use head::Head;
 use pairs::VARIABLES;
-use search_product::capped;
+use search_product::capped_product;
 use solutions::free_variables;
 use words::{both, member};
 
@@ -30,11 +31,7 @@ pub fn tied_variables(n: usize, free: u32, stated: &[u32; VARIABLES]) -> u32
     requires { n ≤ variables }
     ensures { result ≡ tied_word n free stated.now }
 {
-    let mut tied: u32 = 0;
-    for i in 0..n {
-        tied |= (is_tied(free, stated[i], i) as u32) << i;
-    }
-    tied
+    gather(n, |i| is_tied(free, stated[i], i))
 }
 
 // How many values of a variable are searched: one that nothing ties down costs no search, but an empty domain leaves no choice.
@@ -54,20 +51,12 @@ fn searched_values(free: u32, tied: u32, domain: u32, i: usize) -> usize
     1
 }
 
-// "the product of the list sizes of those live options that are stated with another live option", capped at each factor: so it does not wrap.
+// "the product of the list sizes of those live options that are stated with another live option", capped.
 pub fn tied_product(head: Head) -> usize
     requires { head.n ≤ variables }
     ensures { (rows : List ℕ) → sound_in head rows ≡ true → result ≡ min (tied_product (held head rows)) 1000001 }
 {
-    let n = head.n;
-    let domains = head.domains;
-    let leaders = head.leaders;
-    let stated = head.stated;
-    let free = free_variables(n, &leaders);
-    let tied = tied_variables(n, free, &stated);
-    let mut choices: usize = 1;
-    for i in 0..n {
-        choices = capped(searched_values(free, tied, domains[i], i) * choices);
-    }
-    choices
+    let free = free_variables(head.n, &head.leaders);
+    let tied = tied_variables(head.n, free, &head.stated);
+    capped_product(head.n, |i| searched_values(free, tied, head.domains[i], i))
 }

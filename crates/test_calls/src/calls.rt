@@ -1,11 +1,10 @@
 // The library's calls, with answers as plain numbers and buffers by value.
 use crate::states;
 pub use sheet::is_sound;
-use sheet::{Answer, ReadAnswer, TestAnswer, Verdict};
+use sheet::{Answer, Cause, ReadAnswer, Verdict};
 use state::State;
 use test_inputs::families::{ROOM, first, first_room};
 use test_inputs::tables::{Table, first_words};
-use test_oracle::fields::same_bytes;
 pub use test_oracle::verdicts::{BUILT, NONE, OPEN};
 
 // What the tester says, past the numbers of the causes.
@@ -60,12 +59,10 @@ pub struct Cutting {
 }
 
 fn stepped(answer: Answer) -> Stepping {
-    let outcome = answer.outcome;
-    let state = answer.state;
     Stepping {
-        number: answers::outcome_number(outcome),
+        number: answers::outcome_number(answer.outcome),
         steps: answer.steps,
-        state,
+        state: answer.state,
     }
 }
 
@@ -102,12 +99,10 @@ pub fn lead(state: State, leader: usize) -> Stepping {
 }
 
 fn answered(answer: ReadAnswer) -> Reading {
-    let outcome = answer.outcome;
-    let state = answer.state;
     Reading {
-        number: answers::read_number(outcome),
-        place: answers::read_place(outcome),
-        state,
+        number: answers::read_number(answer.outcome),
+        place: answers::read_place(answer.outcome),
+        state: answer.state,
     }
 }
 
@@ -121,11 +116,11 @@ pub fn read_paired(bytes: &[u8]) -> Reading {
     answered(sheet::read_paired(bytes))
 }
 
-fn test_number(answer: TestAnswer) -> u8 {
+fn test_number(answer: Result<bool, Cause>) -> u8 {
     match answer {
-        TestAnswer::Yes => YES,
-        TestAnswer::No => NO,
-        TestAnswer::Refused(cause) => cause::number(cause),
+        Ok(true) => YES,
+        Ok(false) => NO,
+        Err(cause) => cause::number(cause),
     }
 }
 
@@ -147,8 +142,7 @@ pub fn complete(state: State, given: [u8; 16], n: usize) -> Completion {
 // The completer, on the first `n` bytes, answers the number and leaves the bytes `after`.
 pub fn is_completed(state: State, before: [u8; 16], n: usize, number: u8, after: [u8; 16]) -> bool {
     let done = complete(state, before, n);
-    let left = done.buffer;
-    (done.number == number) & same_bytes(left, after)
+    (done.number == number) & (done.buffer == after)
 }
 
 // The test of an order: the first `n` bytes, options counted from 1.
@@ -169,8 +163,7 @@ pub fn find_order(state: State, given: [u8; 16], n: usize) -> Completion {
 // No order is found in the first `n` bytes: refused with the number, and the bytes as they were.
 pub fn is_unordered(state: State, given: [u8; 16], n: usize, number: u8) -> bool {
     let found = find_order(state, given, n);
-    let left = found.buffer;
-    (found.number == number) & same_bytes(left, given)
+    (found.number == number) & (found.buffer == given)
 }
 
 // The writer in a version, on the first `room` bytes.
@@ -184,50 +177,41 @@ pub fn write(state: State, version: usize, given: [u8; ROOM], room: usize) -> Wr
     }
 }
 
-fn verdict_number(verdict: Verdict) -> u8 {
+fn verdict_number(verdict: Result<Verdict, Cause>) -> u8 {
     match verdict {
-        Verdict::None => NONE,
-        Verdict::Built => BUILT,
-        Verdict::Open => OPEN,
-        Verdict::Refused(cause) => cause::number(cause),
+        Ok(Verdict::None) => NONE,
+        Ok(Verdict::Built(_)) => BUILT,
+        Ok(Verdict::Open) => OPEN,
+        Err(cause) => cause::number(cause),
+    }
+}
+
+fn judged(verdict: Result<Verdict, Cause>) -> Judgement {
+    Judgement {
+        verdict: verdict_number(verdict),
+        solution: answers::verdict_solution(verdict),
     }
 }
 
 // The verdict, with the build beside it.
 pub fn verdict(state: State) -> Judgement {
-    let answer = sheet::verdict(state);
-    let verdict = answer.verdict;
-    let solution = answer.solution;
-    Judgement {
-        verdict: verdict_number(verdict),
-        solution,
-    }
+    judged(sheet::verdict(state))
 }
 
 // The reader, the full reduction and the verdict in one call, on all the bytes.
 pub fn cut(bytes: &[u8]) -> Cutting {
     let answer = sheet::cut(bytes);
-    let outcome = answer.outcome;
-    let state = answer.state;
-    let verdict = answer.verdict;
-    let solution = answer.solution;
     Cutting {
-        number: answers::read_number(outcome),
-        place: answers::read_place(outcome),
+        number: answers::read_number(answer.outcome),
+        place: answers::read_place(answer.outcome),
         steps: answer.steps,
-        state,
-        verdict: verdict_number(verdict),
-        solution,
+        state: answer.state,
+        verdict: verdict_number(answer.verdict),
+        solution: answers::verdict_solution(answer.verdict),
     }
 }
 
 // The search, with the build beside what it says.
 pub fn search(state: State) -> Judgement {
-    let answer = sheet::search(state);
-    let verdict = answer.verdict;
-    let solution = answer.solution;
-    Judgement {
-        verdict: verdict_number(verdict),
-        solution,
-    }
+    judged(sheet::search(state))
 }

@@ -9,10 +9,8 @@ use test_oracle::fields;
 fn is_cut(read: State, cut: Cutting) -> bool {
     let answer = calls::reduce(read);
     let judged = calls::verdict(answer.state);
-    let shown = judged.solution;
-    let solution = cut.solution;
     let is_same = (answer.steps == cut.steps) & states::same(answer.state, cut.state);
-    is_same & (judged.verdict == cut.verdict) & fields::same_bytes(shown, solution)
+    is_same & (judged.verdict == cut.verdict) & (judged.solution == cut.solution)
 }
 
 // A refusal shows nothing: the zero state, no step and no build; and no verdict, which has the number of the refusal.

@@ -1,4 +1,5 @@
 // Tuples drawn at random: as the tester and the completer take them, or to be refused.
+use std::array;
 use test_inputs::random;
 use test_oracle::brute;
 use test_oracle::fields::{has, wide};
@@ -6,13 +7,13 @@ use test_oracle::fields::{has, wide};
 // A tuple with each value below its size.
 pub fn drawn(bytes: &[u8], seed: &mut u64) -> [u8; 16] {
     let n = brute::options(bytes);
-    let mut values = [0u8; 16];
-    for i in 0..16 {
+    array::from_fn(|i| {
         if i < n {
-            values[i] = (random::index(seed, brute::size(bytes, i)) % 256) as u8;
+            (random::index(seed, brute::size(bytes, i)) % 256) as u8
+        } else {
+            0
         }
-    }
-    values
+    })
 }
 
 fn with_value(tuple: [u8; 16], i: usize, value: u8) -> [u8; 16] {
@@ -48,10 +49,10 @@ pub fn drawn_unlisted(bytes: &[u8], free: u32, seed: &mut u64) -> [u8; 16] {
 // The tuple with any bytes at the followers and past n.
 pub fn with_garbage(free: u32, tuple: [u8; 16], seed: &mut u64) -> [u8; 16] {
     let mut made = tuple;
-    for i in 0..16 {
+    for (i, byte) in made.iter_mut().enumerate() {
         let garbage = random::byte(seed);
         if !has(free, i) {
-            made[i] = garbage;
+            *byte = garbage;
         }
     }
     made

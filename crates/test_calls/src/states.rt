@@ -2,20 +2,16 @@
 use state::State;
 use test_oracle::brute::past;
 use test_oracle::fields;
-use test_oracle::fields::{same_bytes, same_words, wide};
+use test_oracle::fields::wide;
 
 // The two states are the same in every field.
 pub fn same(a: State, b: State) -> bool {
-    let sizes = a.sizes;
-    let other_sizes = b.sizes;
-    let leaders = a.leaders;
-    let other_leaders = b.leaders;
     (a.n == b.n)
-        & same_bytes(sizes, other_sizes)
-        & same_bytes(leaders, other_leaders)
-        & same_words(&a.domains, &b.domains)
-        & same_words(&a.stated, &b.stated)
-        & same_words(&a.rows, &b.rows)
+        & (a.sizes == b.sizes)
+        & (a.leaders == b.leaders)
+        & (a.domains == b.domains)
+        & (a.stated == b.stated)
+        & (a.rows == b.rows)
 }
 
 // The state that a refused reading hands back.

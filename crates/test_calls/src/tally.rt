@@ -291,10 +291,9 @@ pub fn print(
     first: usize,
     counts: &[u64; KINDS],
 ) -> io::Result<()> {
-    let length = titles.len();
     let mut k = first;
-    for i in 0..length {
-        k = print_byte(rt, titles[i], k, counts)?;
+    for &byte in titles {
+        k = print_byte(rt, byte, k, counts)?;
     }
     Ok(())
 }

@@ -6,7 +6,7 @@ use test_calls::{calls, draws, states, tally};
 use test_inputs::random;
 use test_oracle::counts::Counts;
 use test_oracle::tables::{Tables, is_build};
-use test_oracle::{brute, choices, counts, fields, verdicts};
+use test_oracle::{brute, choices, counts, verdicts};
 
 // The tester says yes exactly to the builds.
 fn check_test(bytes: &[u8], tables: &Tables, state: State, tuple: [u8; 16], tally: Tally) -> Tally {
@@ -105,9 +105,7 @@ pub fn check_verdict(bytes: &[u8], tables: &Tables, state: State, tally: Tally) 
 // The search always settles it: it finds the first build of the sheet, or says that there is none.
 fn check_search(state: State, counts: Counts, tally: Tally) -> Tally {
     let answer = calls::search(state);
-    let solution = answer.solution;
-    let first = counts.first;
-    let is_first = fields::same_bytes(solution, first);
+    let is_first = answer.solution == counts.first;
     let is_settled = verdicts::is_settled(answer.verdict, counts.builds);
     tally::expect(tally, tally::SEARCHES, is_first & is_settled)
 }

@@ -198,11 +198,13 @@ pub(crate) fn with_seed(run: Run, seed: u64) -> Run {
     counted(run, tally::with_seed(run.tally, seed))
 }
 
-// A legal step, where there is one from a pair drawn on.
+// A legal step, where there is one from a pair drawn on, or else one of no options.
 fn check_legal_step(run: Run, seed: u64) -> Run {
     let mut next = seed;
-    let pair = refusals::legal_from(run.state, random::index(&mut next, 256));
-    check_step(with_seed(run, next), pair.leader, pair.follower)
+    match refusals::legal_from(run.state, random::index(&mut next, 256)) {
+        Some(pair) => check_step(with_seed(run, next), pair.leader, pair.follower),
+        None => check_step(with_seed(run, next), 0, 0),
+    }
 }
 
 // A step with any two numbers.

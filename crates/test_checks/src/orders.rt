@@ -17,7 +17,7 @@ fn is_found(reached: [u32; 16], order: [u8; 16], n: usize) -> bool {
         return is_order(first(&order, n), n) && paths::is_good(reached, order, n);
     }
     let expected = paths::first_good(reached, n);
-    is_filled(first(&order, n), first(&expected, n), 0)
+    first(&order, n) == first(&expected, n)
 }
 
 // The order that is found; what stands past it is left, and tested it is good. It is counted how often it is another than 1, 2, 3 and so on.
@@ -29,7 +29,7 @@ fn check_found(state: State, reached: [u32; 16], tally: Tally) -> Tally {
     let is_tested = calls::test_order(state, order, n) == YES;
     let is_right = (found.number == 0) & is_left & is_tested & is_found(reached, order, n);
     let by_number = numbers();
-    let is_other = !is_filled(first(&order, n), first(&by_number, n), 0);
+    let is_other = first(&order, n) != first(&by_number, n);
     let tried = tally::expect(tally, tally::ORDERS, is_right);
     tally::add(tried, tally::ORDERS_OTHER, is_other as u64)
 }

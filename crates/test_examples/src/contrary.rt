@@ -1,5 +1,6 @@
 // 14 options of 16 values, any two of which differ, and two of one value that do not go together.
 use state::State;
+use std::array;
 use test_calls::calls;
 
 // The options that each is stated with: the first 14 with each other, and the last two.
@@ -18,11 +19,7 @@ fn other_than(a: usize) -> u32 {
 
 // The rows of the first 14 options: the 91 pairs of these come first.
 fn all_differ() -> [u32; 3840] {
-    let mut rows = [0u32; 3840];
-    for at in 0..2912 {
-        rows[at] = other_than(at % 32);
-    }
-    rows
+    array::from_fn(|at| if at < 2912 { other_than(at % 32) } else { 0 })
 }
 
 // The sheet with the last table alone, and then the others.
@@ -30,9 +27,9 @@ pub(crate) fn state() -> State {
     let reading = calls::read(
         b"\x01\x00\x16\x10\x10\x10\x10\x10\x10\x10\x10\x10\x10\x10\x10\x10\x10\x10\x01\x01\x01\x0f\x10\x00\x00",
     );
-    let rows = all_differ();
-    let mut state = reading.state;
-    state.stated = STATED;
-    state.rows = rows;
-    state
+    State {
+        stated: STATED,
+        rows: all_differ(),
+        ..reading.state
+    }
 }

@@ -31,12 +31,7 @@ fn is_option(expected: &[u8], leader: u8, list: u32, value: u8, at: usize) -> bo
 }
 
 fn are_options(expected: &[u8], leaders: [u8; 16], domains: [u32; 16], solution: [u8; 16]) -> bool {
-    for i in 0..16 {
-        if !is_option(expected, leaders[i], domains[i], solution[i], 2 + 3 * i) {
-            return false;
-        }
-    }
-    true
+    (0..16).all(|i| is_option(expected, leaders[i], domains[i], solution[i], 2 + 3 * i))
 }
 
 // The state, after so many steps, is what is expected.

@@ -69,12 +69,10 @@ fn is_unsound(state: State, given: &[u8], answer: &[u8]) -> bool {
 
 // The lists of all options, a byte for each.
 fn are_listed(domains: [u32; 16], answer: &[u8]) -> bool {
-    for i in 0..16 {
-        if domains[i] != byte(answer, i) as u32 {
-            return false;
-        }
-    }
-    true
+    domains
+        .iter()
+        .enumerate()
+        .all(|(i, &list)| list == byte(answer, i) as u32)
 }
 
 // The state answers what it must. Another letter than these is none of a line.

@@ -43,10 +43,9 @@ pub(crate) fn lead(run: Run, given: &[u8], answer: &[u8]) -> Run {
 // Page nine: a number, then 1 for NONE, 2 for BUILT or 3 for OPEN, and the build. A refusal hands back the state given, and its verdict has its number.
 pub(crate) fn fit(run: Run, answer: &[u8]) -> Run {
     let fitted = meter::fit(run.state);
-    let outcome = fitted.outcome;
     let verdict = fitted.verdict;
-    let solution = fitted.solution;
-    let number = answers::outcome_number(outcome);
+    let number = answers::outcome_number(fitted.outcome);
+    let solution = answers::verdict_solution(verdict);
     let is_judged = is_shown(answers::verdict_kind(verdict), solution, rest_of(answer));
     let is_left = (number == 0) | same(fitted.state, run.state);
     let is_refused = answers::verdict_number(verdict) == number;

@@ -1,4 +1,5 @@
 // What the bytes of a part stand for: options, tables and values.
+use std::array;
 use test_inputs::tables::{ROOM, Table};
 use test_oracle::brute::{byte, past};
 use test_oracle::fields::is_filled;
@@ -14,11 +15,7 @@ pub(crate) fn option_at(given: &[u8], at: usize) -> usize {
 
 // Rows, a byte for each, behind the numbers of two options.
 fn rows_of(given: &[u8]) -> [u32; ROOM] {
-    let mut rows = [0u32; ROOM];
-    for v in 0..ROOM {
-        rows[v] = byte(given, past(v, 2)) as u32;
-    }
-    rows
+    array::from_fn(|v| byte(given, past(v, 2)) as u32)
 }
 
 // A table for two options, with the rows behind them.
@@ -33,11 +30,7 @@ pub(crate) fn table_of(given: &[u8]) -> Table {
 
 // The values, zero past them.
 pub(crate) fn values_of(given: &[u8]) -> [u8; 16] {
-    let mut values = [0u8; 16];
-    for i in 0..16 {
-        values[i] = byte(given, i);
-    }
-    values
+    array::from_fn(|i| byte(given, i))
 }
 
 // The bytes after the first.

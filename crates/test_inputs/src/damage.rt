@@ -29,10 +29,7 @@ fn any_byte(seed: &mut u64) -> u8 {
 fn with_byte(sheet: Sheet, at: usize, byte: u8) -> Sheet {
     let mut bytes = sheet.bytes;
     families::put(&mut bytes, at, byte);
-    Sheet {
-        bytes,
-        length: sheet.length,
-    }
+    Sheet { bytes, ..sheet }
 }
 
 fn with_bit(sheet: Sheet, at: usize, seed: &mut u64) -> Sheet {
@@ -50,16 +47,14 @@ fn with_two_exchanged(sheet: Sheet, at: usize, other: usize) -> Sheet {
 
 // Cut or lengthened, with the count as it was.
 fn with_length(sheet: Sheet, length: usize) -> Sheet {
-    let bytes = sheet.bytes;
-    Sheet { bytes, length }
+    Sheet { length, ..sheet }
 }
 
 // The count of the bytes that follow it is made right.
 fn mended(sheet: Sheet) -> Sheet {
     let mut bytes = sheet.bytes;
-    let length = sheet.length;
-    families::mend(&mut bytes, length);
-    Sheet { bytes, length }
+    families::mend(&mut bytes, sheet.length);
+    Sheet { bytes, ..sheet }
 }
 
 // A length about that of the largest sheet of a version.

@@ -1,5 +1,6 @@
 // Tables for calls to add, most of them as the options named want them.
 use crate::{families, random};
+use std::array;
 
 // More rows than an option has values.
 pub const ROOM: usize = 40;
@@ -79,11 +80,7 @@ fn row(kind: u8, shift: u8, v: usize, size: u8, seed: &mut u64) -> u32 {
 fn drawn_rows(size: u8, seed: &mut u64) -> [u32; ROOM] {
     let kind = random::byte(seed) % 7;
     let shift = random::byte(seed);
-    let mut rows = [0u32; ROOM];
-    for v in 0..ROOM {
-        rows[v] = row(kind, shift, v, size, seed);
-    }
-    rows
+    array::from_fn(|v| row(kind, shift, v, size, seed))
 }
 
 // A table that is as its options want it, where there are two such.
@@ -100,13 +97,7 @@ fn fitting(n: usize, sizes: [u8; 16], seed: &mut u64) -> Table {
 }
 
 fn with_count(table: Table, count: usize) -> Table {
-    let rows = table.rows;
-    Table {
-        first: table.first,
-        second: table.second,
-        rows,
-        count,
-    }
+    Table { count, ..table }
 }
 
 // One of the rows gets a bit of any value, below the size or not.
@@ -117,22 +108,15 @@ fn with_bit(table: Table, seed: &mut u64) -> Table {
     if v < ROOM {
         rows[v] = rows[v] | bit;
     }
-    Table {
-        first: table.first,
-        second: table.second,
-        rows,
-        count: table.count,
-    }
+    Table { rows, ..table }
 }
 
 // The two options named the other way round.
 fn turned(table: Table) -> Table {
-    let rows = table.rows;
     Table {
         first: table.second,
         second: table.first,
-        rows,
-        count: table.count,
+        ..table
     }
 }
 

@@ -72,13 +72,7 @@ pub fn has(row: usize, v: usize) -> bool {
 
 // Each value is below its option's size.
 fn values_below(bytes: &[u8], tuple: [u8; 16]) -> bool {
-    let n = options(bytes);
-    for i in 0..n {
-        if size(bytes, i) <= byte_at(tuple, i) {
-            return false;
-        }
-    }
-    true
+    (0..options(bytes)).all(|i| byte_at(tuple, i) < size(bytes, i))
 }
 
 // An option's number, counted from 1, as an index; 16 where it is 0.

@@ -3,12 +3,7 @@ use crate::fields::{bit_if, byte_at, has, row_at, word_at};
 
 // Each live option's value is in its list.
 fn are_listed(free: u32, domains: [u32; 16], tuple: [u8; 16]) -> bool {
-    for i in 0..16 {
-        if has(free, i) & !has(word_at(domains, i), byte_at(tuple, i)) {
-            return false;
-        }
-    }
-    true
+    (0..16).all(|i| !has(free, i) | has(word_at(domains, i), byte_at(tuple, i)))
 }
 
 fn is_allowed(
@@ -25,12 +20,7 @@ fn is_allowed(
 
 // Each stated pair of two live options allows its two values.
 fn are_allowed(free: u32, stated: [u32; 16], rows: &[u32; 3840], tuple: [u8; 16]) -> bool {
-    for k in 0..256 {
-        if !is_allowed(free, stated, rows, tuple, k / 16, k % 16) {
-            return false;
-        }
-    }
-    true
+    (0..256).all(|k| is_allowed(free, stated, rows, tuple, k / 16, k % 16))
 }
 
 // What the completer is to refuse a choice with, 0 where it is allowed.
@@ -52,33 +42,20 @@ pub fn refusal(
 
 // The values of followers are 0: of the tuples that agree at the live options, one.
 pub fn is_choice(free: u32, tuple: [u8; 16]) -> bool {
-    for i in 0..16 {
-        if !has(free, i) & (byte_at(tuple, i) != 0) {
-            return false;
-        }
-    }
-    true
+    (0..16).all(|i| has(free, i) | (byte_at(tuple, i) == 0))
 }
 
 // The bytes of live options, and those past n, are as they were.
 pub fn are_kept(n: usize, free: u32, before: [u8; 16], after: [u8; 16]) -> bool {
-    for i in 0..16 {
+    (0..16).all(|i| {
         let is_follower = (i < n) & !has(free, i);
-        if !is_follower & (byte_at(before, i) != byte_at(after, i)) {
-            return false;
-        }
-    }
-    true
+        is_follower | (byte_at(before, i) == byte_at(after, i))
+    })
 }
 
 // Some live list is empty.
 pub fn has_empty_list(free: u32, domains: [u32; 16]) -> bool {
-    for i in 0..16 {
-        if has(free, i) & (word_at(domains, i) == 0) {
-            return true;
-        }
-    }
-    false
+    (0..16).any(|i| has(free, i) & (word_at(domains, i) == 0))
 }
 
 fn is_lowest(free: u32, domains: [u32; 16], tuple: [u8; 16], i: usize) -> bool {
@@ -90,22 +67,12 @@ fn is_lowest(free: u32, domains: [u32; 16], tuple: [u8; 16], i: usize) -> bool {
 
 // Each live option has the lowest value of its list.
 pub fn are_lowest(free: u32, domains: [u32; 16], tuple: [u8; 16]) -> bool {
-    for i in 0..16 {
-        if !is_lowest(free, domains, tuple, i) {
-            return false;
-        }
-    }
-    true
+    (0..16).all(|i| is_lowest(free, domains, tuple, i))
 }
 
 // No two live options are stated together.
 pub fn are_apart(free: u32, stated: [u32; 16]) -> bool {
-    for i in 0..16 {
-        if has(free, i) & (word_at(stated, i) & free != 0) {
-            return false;
-        }
-    }
-    true
+    (0..16).all(|i| !has(free, i) | (word_at(stated, i) & free == 0))
 }
 
 // "live options compared in ascending number and lower values first": the one comes before the other.
@@ -135,8 +102,8 @@ fn times_in(left: u32, free: u32, domain: u32, i: usize) -> u32 {
 // The product of the sizes of the live lists exceeds 1,000,000, where none is empty: 1,000,000 divided by each in turn is 0.
 pub fn are_many(free: u32, domains: [u32; 16]) -> bool {
     let mut left: u32 = 1000000;
-    for i in 0..16 {
-        left = times_in(left, free, domains[i], i);
+    for (i, &domain) in domains.iter().enumerate() {
+        left = times_in(left, free, domain, i);
     }
     (left == 0) & !has_empty_list(free, domains)
 }

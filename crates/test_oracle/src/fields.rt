@@ -1,44 +1,19 @@
 // The arrays of a state, compared and looked up. Places past their ends hold 0.
+ghost use Rattle.std.specs.Prelude.{ℕ, ◌<◌};
+
 use crate::brute;
 
 // The buffer holds the bytes, and `rest` at each place past them.
 pub fn is_filled(buffer: &[u8], bytes: &[u8], rest: u8) -> bool {
-    let length = buffer.len();
-    for i in 0..length {
-        if buffer[i] != brute::byte_or(bytes, i, rest) {
-            return false;
-        }
-    }
-    true
-}
-
-// The two arrays hold the same bytes.
-pub fn same_bytes(a: [u8; 16], b: [u8; 16]) -> bool {
-    is_filled(&a, &b, 0)
+    buffer
+        .iter()
+        .enumerate()
+        .all(|(i, &b)| b == brute::byte_or(bytes, i, rest))
 }
 
 // All bytes from `n` on are zero.
 pub fn is_zero_from(bytes: [u8; 16], n: usize) -> bool {
-    for i in 0..16 {
-        if (n <= i) & (bytes[i] != 0) {
-            return false;
-        }
-    }
-    true
-}
-
-// The two hold the same words.
-pub fn same_words(a: &[u32], b: &[u32]) -> bool {
-    let length = a.len();
-    if b.len() != length {
-        return false;
-    }
-    for i in 0..length {
-        if a[i] != b[i] {
-            return false;
-        }
-    }
-    true
+    bytes.iter().skip(n).all(|&b| b == 0)
 }
 
 pub fn bit_if(is_set: bool, v: usize) -> u32 {
@@ -46,6 +21,17 @@ pub fn bit_if(is_set: bool, v: usize) -> u32 {
         return 1u32 << (v % 32);
     }
     0
+}
+
+// The bits of the numbers below `n` that pass.
+pub fn bits<F: Fn(usize) -> bool>(n: usize, test: F) -> u32
+    requires { (i : ℕ) → i < n → F.pre test i }
+{
+    let mut word: u32 = 0;
+    for v in 0..n {
+        word |= bit_if(test(v), v);
+    }
+    word
 }
 
 // Bit `v` of a word.
@@ -117,11 +103,7 @@ fn stored(rows: &[u32; 3840], i: usize, j: usize, a: usize) -> u32 {
 
 // That row from the higher option: the values of `i` whose rows have value `b` of `j`.
 fn column(rows: &[u32; 3840], i: usize, j: usize, b: usize) -> u32 {
-    let mut word: u32 = 0;
-    for a in 0..32 {
-        word = word | bit_if(has(stored(rows, i, j, a), b), a);
-    }
-    word
+    bits(32, |a| has(stored(rows, i, j, a), b))
 }
 
 // The values of the option `j` that go with value `a` of `i`.
@@ -134,9 +116,5 @@ pub fn row_at(rows: &[u32; 3840], i: usize, j: usize, a: usize) -> u32 {
 
 // The live options, as bits.
 pub fn free(n: usize, leaders: [u8; 16]) -> u32 {
-    let mut word: u32 = 0;
-    for i in 0..16 {
-        word = word | bit_if((i < n) & (byte_at(leaders, i) == 0), i);
-    }
-    word
+    bits(16, |i| (i < n) & (byte_at(leaders, i) == 0))
 }

@@ -1,6 +1,6 @@
 // What the reader is to say of some bytes, written from the table of causes, and what it is to make of a sheet; nothing here calls the library.
 use crate::brute::{byte, number, options, past, row, row_length, size, size_of};
-use crate::fields::{byte_at, wide};
+use crate::fields::{byte_at, wide, word_at};
 
 // The number of the cause, 0 where there is none, and its place; where there is none, the place after what was judged.
 #[derive(Clone, Copy)]
@@ -54,11 +54,7 @@ fn judge_sizes(bytes: &[u8], n: usize) -> Judged {
 
 // n(n-1)/2, as the sum of the numbers below `n`.
 fn most_tables(n: usize) -> usize {
-    let mut sum = 0;
-    for k in 0..n {
-        sum = past(sum, k);
-    }
-    sum
+    (0..n).fold(0, |sum, k| past(sum, k))
 }
 
 // The pair at a place, after the pair at the place `before`, 0 for the first: "the order is 7, 19, 20".
@@ -184,13 +180,10 @@ pub fn judge(bytes: &[u8]) -> Judged {
 
 // "A sheet just read has full lists, no leader"; past n all is zero.
 pub fn are_fresh(bytes: &[u8], sizes: [u8; 16], domains: [u32; 16], leaders: [u8; 16]) -> bool {
-    for i in 0..16 {
+    (0..16).all(|i| {
         let size = size(bytes, i);
-        let list = domains[i];
+        let list = word_at(domains, i);
         let is_full = !is_row_wide(list as usize, size) & (wide(u32::count_ones(list)) == size);
-        if !(is_full & (byte_at(sizes, i) == size) & (leaders[i] == 0)) {
-            return false;
-        }
-    }
-    true
+        is_full & (byte_at(sizes, i) == size) & (byte_at(leaders, i) == 0)
+    })
 }

@@ -14,23 +14,13 @@ fn is_row_apart(bytes: &[u8], at: usize, count: usize, v: usize) -> bool {
     if 1 < u32::count_ones(values) {
         return false;
     }
-    for w in 0..count {
-        if (w != v) & (row_of(bytes, at, w) & values != 0) {
-            return false;
-        }
-    }
-    true
+    (0..count).all(|w| (w == v) | (row_of(bytes, at, w) & values == 0))
 }
 
 // The table at a place is functional both ways.
 fn is_table_paired(bytes: &[u8], at: usize) -> bool {
     let count = size_of(bytes, byte(bytes, at) as usize);
-    for v in 0..count {
-        if !is_row_apart(bytes, at, count, v) {
-            return false;
-        }
-    }
-    true
+    (0..count).all(|v| is_row_apart(bytes, at, count, v))
 }
 
 // "the place of the first such pair", 0 where there is none.

@@ -62,12 +62,7 @@ fn is_kept_to(tables: &Tables, at: usize, tuple: [u8; 16]) -> bool {
 }
 
 fn are_kept_to(tables: &Tables, tuple: [u8; 16]) -> bool {
-    for k in 0..MOST {
-        if !is_kept_to(tables, k % MOST * WORDS, tuple) {
-            return false;
-        }
-    }
-    true
+    (0..MOST).all(|k| is_kept_to(tables, k % MOST * WORDS, tuple))
 }
 
 // "builds are counted against the accepted sheet together with the tables that calls not refused added"

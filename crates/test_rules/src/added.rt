@@ -4,20 +4,15 @@ use crate::followers::partners;
 use crate::refusals::is_option;
 use crate::rules::{put_row, was_allowed};
 use sheet::State;
+use std::array;
 use test_inputs::tables::{Table, first_words};
 use test_oracle::brute::index_of;
-use test_oracle::fields::{bit_if, byte_at, has, lower, word_at};
+use test_oracle::fields::{bit_if, bits, byte_at, has, lower, wide, word_at};
 use test_oracle::judge::is_row_wide;
 use test_oracle::tables::row;
 
 fn is_wide(rows: &[u32], size: usize) -> bool {
-    let count = rows.len();
-    for c in 0..count {
-        if is_row_wide(row(rows, c) as usize, size) {
-            return true;
-        }
-    }
-    false
+    rows.iter().any(|&row| is_row_wide(wide(row), size))
 }
 
 // "10, then 21 for two equal options, then 22 for a wrong count of rows or a bit at or above the size": 0 where none refuses. Options are counted from 1.
@@ -73,13 +68,9 @@ pub fn sides_of(state: State, table: Table) -> Sides {
 
 // What the rows of the values in `set` have together.
 fn reached(table: &[u32], set: u32) -> u32 {
-    let mut word: u32 = 0;
-    for c in 0..32 {
-        if has(set, c) {
-            word = word | row(table, c);
-        }
-    }
-    word
+    (0..32)
+        .filter(|&c| has(set, c))
+        .fold(0, |word, c| word | row(table, c))
 }
 
 // "the new table allows their partners", of value `a` of the first leader and `b` of the second
@@ -99,15 +90,10 @@ fn allows_partners(
 // "If they are one, its list loses the values whose partners the new table forbids."
 fn trimmed(domains: [u32; 16], rows: &[u32; 3840], table: &[u32], sides: Sides) -> u32 {
     let list = word_at(domains, sides.first_leader);
-    let mut left: u32 = 0;
-    for a in 0..32 {
-        left = left
-            | bit_if(
-                has(list, a) & allows_partners(domains, rows, table, sides, a, a),
-                a,
-            );
-    }
-    left
+    bits(
+        32,
+        |a| has(list, a) & allows_partners(domains, rows, table, sides, a, a),
+    )
 }
 
 // "It then allows two values exactly when both are in the leaders' lists, the new table allows their partners, and the pair, if stated before, allowed
@@ -154,15 +140,10 @@ fn row_after(
     sides: Sides,
     a: usize,
 ) -> u32 {
-    let mut row: u32 = 0;
-    for b in 0..32 {
-        row = row
-            | bit_if(
-                is_allowed_from(domains, stated, rows, table, sides, a, b),
-                b,
-            );
-    }
-    row
+    bits(
+        32,
+        |b| is_allowed_from(domains, stated, rows, table, sides, a, b),
+    )
 }
 
 // The rows where the two leaders differ.
@@ -185,11 +166,7 @@ fn rows_after(
 
 // "If the leaders differ, their pair becomes stated."
 fn stated_after(stated: [u32; 16], p: usize, q: usize) -> [u32; 16] {
-    let mut after = [0u32; 16];
-    for u in 0..16 {
-        after[u] = stated[u] | bit_if(u == p, q) | bit_if(u == q, p);
-    }
-    after
+    array::from_fn(|u| word_at(stated, u) | bit_if(u == p, q) | bit_if(u == q, p))
 }
 
 // Where the two leaders differ.

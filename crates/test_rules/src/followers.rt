@@ -1,5 +1,6 @@
 // The lists of followers: "A value stays in a follower's list exactly when it is the partner of a value in the leader's list." Options are counted from 0.
 use sheet::State;
+use std::array;
 use test_oracle::brute::index_of;
 use test_oracle::fields::{bit_if, byte_at, has, row_at, word_at};
 
@@ -20,13 +21,9 @@ pub(crate) fn partners(
 // The partners in `x` of all values in the list of `l`.
 fn all_partners(domains: [u32; 16], rows: &[u32; 3840], l: usize, x: usize) -> u32 {
     let list = word_at(domains, l);
-    let mut word: u32 = 0;
-    for a in 0..32 {
-        if has(list, a) {
-            word = word | partners(domains, rows, l, x, a);
-        }
-    }
-    word
+    (0..32)
+        .filter(|&a| has(list, a))
+        .fold(0, |word, a| word | partners(domains, rows, l, x, a))
 }
 
 // The list of `x` once the followers of `l` are trimmed.
@@ -51,21 +48,12 @@ pub(crate) fn trimmed(
     rows: &[u32; 3840],
     l: usize,
 ) -> [u32; 16] {
-    let mut after = [0u32; 16];
-    for x in 0..16 {
-        after[x] = list_after(domains, leaders, rows, l, x);
-    }
-    after
+    array::from_fn(|x| list_after(domains, leaders, rows, l, x))
 }
 
 // The lists with those of all followers trimmed, each by its own leader.
 pub(crate) fn all_trimmed(domains: [u32; 16], leaders: [u8; 16], rows: &[u32; 3840]) -> [u32; 16] {
-    let mut after = [0u32; 16];
-    for x in 0..16 {
-        let l = index_of(byte_at(leaders, x));
-        after[x] = list_after(domains, leaders, rows, l, x);
-    }
-    after
+    array::from_fn(|x| list_after(domains, leaders, rows, index_of(byte_at(leaders, x)), x))
 }
 
 // Value `b` goes with no value in the list of the leader of `x`; no value does so where `x` is live.
@@ -85,14 +73,11 @@ pub const VALUES: usize = 512;
 pub fn are_trimmed(state: State) -> bool {
     let domains = state.domains;
     let leaders = state.leaders;
-    for k in 0..VALUES {
+    (0..VALUES).all(|k| {
         let x = k / 32;
         let b = k % 32;
-        if has(word_at(domains, x), b) && is_dead(domains, leaders, &state.rows, x, b) {
-            return false;
-        }
-    }
-    true
+        !has(word_at(domains, x), b) || !is_dead(domains, leaders, &state.rows, x, b)
+    })
 }
 
 // Some list of a follower is not what it was.
@@ -100,16 +85,11 @@ pub fn is_other_list(before: State, after: State) -> bool {
     let domains = after.domains;
     let leaders = after.leaders;
     let lists = before.domains;
-    for x in 0..16 {
-        if (leaders[x] != 0) & (domains[x] != lists[x]) {
-            return true;
-        }
-    }
-    false
+    (0..16).any(|x| (byte_at(leaders, x) != 0) & (word_at(domains, x) != word_at(lists, x)))
 }
 
-// The first dead value below its follower's size, from the number `start` on; `VALUES` where there is none.
-pub fn dead_from(state: State, start: usize) -> usize {
+// The first dead value below its follower's size, from the number `start` on.
+pub fn dead_from(state: State, start: usize) -> Option<usize> {
     let sizes = state.sizes;
     let domains = state.domains;
     let leaders = state.leaders;
@@ -117,10 +97,10 @@ pub fn dead_from(state: State, start: usize) -> usize {
         let at = std::num::wrapping_add_usize(start, k) % VALUES;
         let is_below = at % 32 < byte_at(sizes, at / 32);
         if is_below && is_dead(domains, leaders, &state.rows, at / 32, at % 32) {
-            return at;
+            return Some(at);
         }
     }
-    VALUES
+    None
 }
 
 // With the value number `at` in its follower's list. Where it is dead, no value of the leader gets a partner by it, and nothing but the list is wrong.

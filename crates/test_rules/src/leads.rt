@@ -3,9 +3,9 @@ use crate::refusals;
 use crate::refusals::is_option;
 use crate::rules::step;
 use sheet::State;
-use test_oracle::brute::{index_of, past};
+use test_oracle::brute::index_of;
 use test_oracle::fields;
-use test_oracle::fields::{bit_if, byte_at, has, wide};
+use test_oracle::fields::has;
 
 // "9, then 10, then 11 when the named option is not live", of a sound state: 0 where none refuses.
 pub fn refusal(state: State, leader: usize) -> u8 {
@@ -19,14 +19,9 @@ pub fn refusal(state: State, leader: usize) -> u8 {
     0
 }
 
-// "the lowest possible one each time": 0 where none can follow.
-fn lowest_follower(state: State, leader: usize) -> usize {
-    for j in 0..16 {
-        if refusals::refusal(state, leader, past(j, 1)) == 0 {
-            return past(j, 1);
-        }
-    }
-    0
+// "the lowest possible one each time": none where none can follow.
+fn lowest_follower(state: State, leader: usize) -> Option<usize> {
+    (1..=16).find(|&follower| refusals::refusal(state, leader, follower) == 0)
 }
 
 // What a run comes to, the follower that was taken last, 0 before the first, and whether one was taken after a higher one.
@@ -54,21 +49,19 @@ pub fn led(state: State, leader: usize) -> Taken {
         is_again: false,
     };
     for _ in 0..16usize {
-        let follower = lowest_follower(after.state, leader);
-        if follower == 0 {
-            return after;
+        match lowest_follower(after.state, leader) {
+            Some(follower) => after = with_follower(after, leader, follower),
+            None => return after,
         }
-        after = with_follower(after, leader, follower);
     }
     after
 }
 
 // How many options follow it.
 pub fn followers_of(state: State, leader: usize) -> usize {
-    let leaders = state.leaders;
-    let mut found: u32 = 0;
-    for x in 0..16 {
-        found = found | bit_if(byte_at(leaders, x) == leader, x);
-    }
-    wide(u32::count_ones(found))
+    state
+        .leaders
+        .iter()
+        .filter(|x| usize::from(**x) == leader)
+        .count()
 }

@@ -3,8 +3,9 @@
 use crate::followers;
 use crate::rules::reduced;
 use sheet::State;
+use std::array;
 use test_oracle::fields;
-use test_oracle::fields::{bit_if, has, row_at, same_words, word_at};
+use test_oracle::fields::{bits, has, row_at, word_at};
 
 // "every value has a partner in each stated live pair": value `a` of `i` has one in each of these lists.
 fn is_partnered(
@@ -16,12 +17,7 @@ fn is_partnered(
     a: usize,
 ) -> bool {
     let others = free & word_at(stated, i);
-    for j in 0..16 {
-        if has(others, j) && (row_at(rows, i, j, a) & word_at(lists, j) == 0) {
-            return false;
-        }
-    }
-    true
+    (0..16).all(|j| !has(others, j) || row_at(rows, i, j, a) & word_at(lists, j) != 0)
 }
 
 // The values in the list of `i` that have such partners.
@@ -33,13 +29,10 @@ pub(crate) fn left_of(
     i: usize,
 ) -> u32 {
     let list = word_at(lists, i);
-    let mut left: u32 = 0;
-    for a in 0..32 {
-        if has(list, a) && is_partnered(free, lists, stated, rows, i, a) {
-            left = left | bit_if(true, a);
-        }
-    }
-    left
+    bits(
+        32,
+        |a| has(list, a) && is_partnered(free, lists, stated, rows, i, a),
+    )
 }
 
 // What a pass leaves of the list of `i`, by the lists before the pass.
@@ -51,11 +44,7 @@ fn list_after(free: u32, lists: [u32; 16], stated: [u32; 16], rows: &[u32; 3840]
 }
 
 fn lists_after(free: u32, lists: [u32; 16], stated: [u32; 16], rows: &[u32; 3840]) -> [u32; 16] {
-    let mut after = [0u32; 16];
-    for i in 0..16 {
-        after[i] = list_after(free, lists, stated, rows, i);
-    }
-    after
+    array::from_fn(|i| list_after(free, lists, stated, rows, i))
 }
 
 // One pass over all values of all live lists.
@@ -72,9 +61,7 @@ fn passed(state: State) -> State {
 
 // Some list of the one is not that of the other.
 pub fn are_other_lists(before: State, after: State) -> bool {
-    let domains = before.domains;
-    let lists = after.domains;
-    !same_words(&domains, &lists)
+    before.domains != after.domains
 }
 
 // "Remove such values until none is left": passes until one changes nothing. A pass that changes a list takes one of 512 values.

@@ -10,13 +10,10 @@ pub(crate) fn is_option(n: usize, number: usize) -> bool {
 
 // No value in the list of `i` has more than one allowed partner in the list of `j`.
 pub(crate) fn is_functional(domains: [u32; 16], rows: &[u32; 3840], i: usize, j: usize) -> bool {
-    for a in 0..32 {
+    (0..32).all(|a| {
         let partners = row_at(rows, i, j, a) & word_at(domains, j);
-        if has(word_at(domains, i), a) & (1 < u32::count_ones(partners)) {
-            return false;
-        }
-    }
-    true
+        !has(word_at(domains, i), a) | (u32::count_ones(partners) <= 1)
+    })
 }
 
 // What a step is to be refused with, options counted from 1; 0 where it is legal.
@@ -61,7 +58,7 @@ fn refusal_of_pair(
     0
 }
 
-// Two option numbers, counted from 1; 0 and 0 where there are none.
+// Two option numbers, counted from 1.
 #[derive(Clone, Copy)]
 pub struct Pair {
     pub leader: usize,
@@ -70,22 +67,24 @@ pub struct Pair {
 
 // The first legal pair from the pair number `start` on, where the pair number `k` has the leader k / 16 and the follower k % 16, counted from 0.
 // From 0 on it is the lowest leader that has a legal follower, with the lowest such follower.
-pub fn legal_from(state: State, start: usize) -> Pair {
-    let leaders = state.leaders;
-    let domains = state.domains;
-    let stated = state.stated;
-    let free = fields::free(state.n, leaders);
+pub fn legal_from(state: State, start: usize) -> Option<Pair> {
+    let free = fields::free(state.n, state.leaders);
     for k in 0..256 {
         let p = std::num::wrapping_add_usize(start, k) % 256;
-        if refusal_of_pair(free, domains, stated, &state.rows, p / 16, p % 16) == 0 {
-            return Pair {
+        if refusal_of_pair(
+            free,
+            state.domains,
+            state.stated,
+            &state.rows,
+            p / 16,
+            p % 16,
+        ) == 0
+        {
+            return Some(Pair {
                 leader: p / 16 + 1,
                 follower: p % 16 + 1,
-            };
+            });
         }
     }
-    Pair {
-        leader: 0,
-        follower: 0,
-    }
+    None
 }

@@ -2,17 +2,16 @@
 use crate::followers;
 use crate::refusals::legal_from;
 use sheet::State;
+use std::array;
 use test_oracle::brute::index_of;
-use test_oracle::fields::{ROWS, bit_if, has, place, row_at, word_at};
+use test_oracle::fields::{ROWS, bits, has, place, row_at, word_at};
 
 // Rule 1: "The list of i loses each value that has no allowed partner in the list of j."
 fn trimmed(domains: [u32; 16], rows: &[u32; 3840], i: usize, j: usize) -> u32 {
-    let mut list: u32 = 0;
-    for a in 0..32 {
+    bits(32, |a| {
         let has_partner = row_at(rows, i, j, a) & word_at(domains, j) != 0;
-        list = list | bit_if(has_partner & has(word_at(domains, i), a), a);
-    }
-    list
+        has_partner & has(word_at(domains, i), a)
+    })
 }
 
 // "each third option k stated with j"
@@ -77,11 +76,10 @@ fn composed_row(
     q: usize,
     a: usize,
 ) -> u32 {
-    let mut row: u32 = 0;
-    for c in 0..32 {
-        row = row | bit_if(is_composed_from(domains, stated, rows, i, j, p, q, a, c), c);
-    }
-    row
+    bits(
+        32,
+        |c| is_composed_from(domains, stated, rows, i, j, p, q, a, c),
+    )
 }
 
 // The options `p` and `q` are `x` and a third option, in either order.
@@ -175,13 +173,7 @@ fn is_stated_after(stated: [u32; 16], i: usize, j: usize, p: usize, q: usize) ->
 
 // Rule 2: which pairs are stated after the step.
 fn stated_after(stated: [u32; 16], i: usize, j: usize) -> [u32; 16] {
-    let mut after = [0u32; 16];
-    for k in 0..256 {
-        let p = k / 16;
-        let q = k % 16;
-        after[p] = after[p] | bit_if(is_stated_after(stated, i, j, p, q), q);
-    }
-    after
+    array::from_fn(|p| bits(16, |q| is_stated_after(stated, i, j, p, q)))
 }
 
 // Rule 3: "Followers of j get i as leader, and so does j."
@@ -189,9 +181,9 @@ fn leaders_after(leaders: [u8; 16], i: usize, j: usize) -> [u8; 16] {
     let leader = (i % 16) as u8 + 1;
     let follower = (j % 16) as u8 + 1;
     let mut after = leaders;
-    for x in 0..16 {
-        if (x == j) | (leaders[x] == follower) {
-            after[x] = leader;
+    for (x, led) in after.iter_mut().enumerate() {
+        if (x == j) | (*led == follower) {
+            *led = leader;
         }
     }
     after
@@ -202,8 +194,6 @@ fn leaders_after(leaders: [u8; 16], i: usize, j: usize) -> [u8; 16] {
 pub fn step(state: State, leader: usize, follower: usize) -> State {
     let i = index_of(leader);
     let j = index_of(follower);
-    let n = state.n;
-    let sizes = state.sizes;
     let leaders = state.leaders;
     let stated = state.stated;
     let mut domains = state.domains;
@@ -213,12 +203,11 @@ pub fn step(state: State, leader: usize, follower: usize) -> State {
     let led = leaders_after(leaders, i, j);
     let rows = rows_after(domains, stated, &state.rows, i, j);
     State {
-        n,
-        sizes,
         domains: followers::trimmed(domains, led, &rows, i),
         leaders: led,
         stated: stated_after(stated, i, j),
         rows,
+        ..state
     }
 }
 
@@ -226,8 +215,7 @@ pub fn step(state: State, leader: usize, follower: usize) -> State {
 pub fn reduced(state: State) -> State {
     let mut after = state;
     for _ in 0..16usize {
-        let pair = legal_from(after, 0);
-        if pair.leader != 0 {
+        if let Some(pair) = legal_from(after, 0) {
             after = step(after, pair.leader, pair.follower);
         }
     }

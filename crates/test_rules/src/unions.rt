@@ -2,6 +2,7 @@
 // choice of lists is gone through, and no value is ever removed. For live lists that have few values together.
 use crate::live::left_of;
 use sheet::State;
+use std::array;
 use test_oracle::fields;
 use test_oracle::fields::{bit_if, has, wide, word_at};
 
@@ -46,21 +47,12 @@ fn choice(free: u32, lists: [u32; 16], number: usize) -> [u32; 16] {
 
 // "every value has a partner in each stated live pair"
 fn are_partnered(free: u32, lists: [u32; 16], stated: [u32; 16], rows: &[u32; 3840]) -> bool {
-    for i in 0..16 {
-        if has(free, i) && (left_of(free, lists, stated, rows, i) != word_at(lists, i)) {
-            return false;
-        }
-    }
-    true
+    (0..16).all(|i| !has(free, i) || left_of(free, lists, stated, rows, i) == word_at(lists, i))
 }
 
 // The values of either.
 fn joined(lists: [u32; 16], others: [u32; 16]) -> [u32; 16] {
-    let mut all = [0u32; 16];
-    for i in 0..16 {
-        all[i] = word_at(lists, i) | word_at(others, i);
-    }
-    all
+    array::from_fn(|i| word_at(lists, i) | word_at(others, i))
 }
 
 // The union of all choices within the lists that are partnered.
@@ -103,16 +95,10 @@ pub fn is_union(before: State, after: State) -> bool {
     let free = fields::free(before.n, leaders);
     let all = union_of(free, domains, stated, &before.rows);
     let live = choice_of_live(free, lists);
-    fields::same_words(&all, &live)
+    all == live
 }
 
 // The lists of live options, and no others.
 fn choice_of_live(free: u32, lists: [u32; 16]) -> [u32; 16] {
-    let mut live = [0u32; 16];
-    for i in 0..16 {
-        if has(free, i) {
-            live[i] = word_at(lists, i);
-        }
-    }
-    live
+    array::from_fn(|i| { if has(free, i) { word_at(lists, i) } else { 0 } })
 }

@@ -111,10 +111,10 @@ const APART: u64 = 11400714819323198485;
 // to hang on how many such states there are.
 fn check_dead(state: State, tally: Tally) -> Tally {
     let mut seed = tally.seed ^ APART;
-    let at = followers::dead_from(state, random::index(&mut seed, followers::VALUES));
-    if at == followers::VALUES {
+    let from = random::index(&mut seed, followers::VALUES);
+    let Some(at) = followers::dead_from(state, from) else {
         return tally;
-    }
+    };
     let run = check_calls(followers::with_value(state, at), tally::start(seed));
     let counted = tally::count(tally, tally::DEAD_VALUES);
     tally::with_unsound(counted, tally::DEAD_CALLS, run)

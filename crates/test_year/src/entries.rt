@@ -1,5 +1,6 @@
 // Entries, tables and opening counts, drawn from the stream of numbers.
 use crate::stock::{Counts, ROOM};
+use std::array;
 use test_inputs::families::low_byte;
 use test_inputs::random;
 use test_oracle::brute;
@@ -47,14 +48,13 @@ fn value_of(bytes: &[u8], i: usize, seed: &mut u64) -> u8 {
 }
 
 fn tuple_of(bytes: &[u8], seed: &mut u64) -> [u8; 16] {
-    let mut tuple = [0u8; 16];
-    for i in 0..16 {
+    array::from_fn(|i| {
         if i < brute::options(bytes) {
-            let value = value_of(bytes, i, seed);
-            tuple[i] = value;
+            value_of(bytes, i, seed)
+        } else {
+            0
         }
-    }
-    tuple
+    })
 }
 
 // n bytes, or once in a while one more, and one less of sixteen.
@@ -103,14 +103,7 @@ fn row(size: usize, seed: &mut u64) -> u32 {
 
 // As many rows as a table's first option has values.
 fn rows_of(count: usize, size: usize, seed: &mut u64) -> [u32; 32] {
-    let mut rows = [0u32; 32];
-    for c in 0..32 {
-        if c < count {
-            let word = row(size, seed);
-            rows[c] = word;
-        }
-    }
-    rows
+    array::from_fn(|c| if c < count { row(size, seed) } else { 0 })
 }
 
 // The option after this one, and the first after the last.
@@ -142,12 +135,5 @@ fn small(seed: &mut u64) -> u32 {
 
 // Small counts of so many bins, to open the year with.
 pub fn opening(total: usize, seed: &mut u64) -> Counts {
-    let mut counts = [0u32; ROOM];
-    for i in 0..ROOM {
-        if i < total {
-            let count = small(seed);
-            counts[i] = count;
-        }
-    }
-    counts
+    array::from_fn(|i| if i < total { small(seed) } else { 0 })
 }

@@ -87,8 +87,7 @@ fn run_records(rt: &impl Print, state: State, shelf: [Bin; 512]) -> io::Result<(
     print_line(rt, bins_post::number_in(shelf, 2, p), shelf)?;
     print_line(rt, bins_post::number_in(shelf, 4, p), shelf)?;
     let mut exchanged = shelf;
-    exchanged[0] = shelf[1];
-    exchanged[1] = shelf[0];
+    exchanged.swap(0, 1);
     let number = bins_post::number_in(exchanged, 3, p);
     let left = bins_post::bins_in(exchanged, 3, p);
     print_line(rt, number, left)?;

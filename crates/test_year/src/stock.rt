@@ -1,4 +1,5 @@
 // What an entry is to answer and to leave, by counts alone: a place for each value, those of the options before it first. Nothing here calls the library.
+use std::array;
 use std::num::{wrapping_add_u32, wrapping_sub_u32};
 use test_oracle::brute::past;
 use test_oracle::fields::byte_at;
@@ -18,13 +19,9 @@ pub struct Expected {
 
 // The place of a value of an option, counted from 1.
 pub fn place(bytes: &[u8], option: usize, value: usize) -> usize {
-    let mut at = value;
-    for i in 0..16 {
-        if past(i, 1) < option {
-            at = past(at, brute::size(bytes, i));
-        }
-    }
-    at
+    (0..16)
+        .filter(|&i| past(i, 1) < option)
+        .fold(value, |at, i| past(at, brute::size(bytes, i)))
 }
 
 // How many bins a sheet has.
@@ -76,31 +73,23 @@ pub fn delivery(
 
 // The places of the values of a tuple.
 fn places_of(bytes: &[u8], tuple: [u8; 16]) -> [usize; 16] {
-    let mut places = [0usize; 16];
-    for i in 0..16 {
-        let at = place(bytes, past(i, 1), byte_at(tuple, i));
-        places[i] = at;
-    }
-    places
+    array::from_fn(|i| place(bytes, past(i, 1), byte_at(tuple, i)))
 }
 
 // Each of the first n places has as many.
 fn have_enough(places: [usize; 16], n: usize, counts: &Counts, amount: u32) -> bool {
-    for i in 0..16 {
-        if (i < n) & (count_at(counts, places[i]) < amount) {
-            return false;
-        }
-    }
-    true
+    places
+        .iter()
+        .take(n)
+        .all(|&at| amount <= count_at(counts, at))
 }
 
 fn drawn(places: [usize; 16], n: usize, counts: Counts, amount: u32) -> Counts {
     let mut after = counts;
-    for i in 0..16 {
+    for (i, &at) in places.iter().enumerate() {
         if i < n {
-            let count = count_at(&after, places[i]);
-            let next = with_count(after, places[i], wrapping_sub_u32(count, amount));
-            after = next;
+            let count = count_at(&after, at);
+            after = with_count(after, at, wrapping_sub_u32(count, amount));
         }
     }
     after

@@ -100,27 +100,14 @@ fn renamed(shelf: Shelf, i: usize) -> Shelf {
     let b = bin_at(shelf, i);
     let other = Bin {
         variable: option_after(b.variable),
-        value: b.value,
-        count: b.count,
+        ..b
     };
     with_bin(shelf, i, other)
 }
 
 // Of no option: a state that is not sound.
 fn without_options(state: State) -> State {
-    let sizes = state.sizes;
-    let domains = state.domains;
-    let leaders = state.leaders;
-    let stated = state.stated;
-    let rows = state.rows;
-    State {
-        n: 0,
-        sizes,
-        domains,
-        leaders,
-        stated,
-        rows,
-    }
+    State { n: 0, ..state }
 }
 
 // One record fewer.
@@ -200,12 +187,9 @@ fn is_same(a: Bin, b: Bin) -> bool {
 }
 
 fn are_same(a: Shelf, b: Shelf) -> bool {
-    for i in 0..ROOM {
-        if !is_same(a[i], b[i]) {
-            return false;
-        }
-    }
-    true
+    a.iter()
+        .zip(b.iter())
+        .all(|(one, other)| is_same(*one, *other))
 }
 
 fn plan(state: State, entry: Entry) -> Plan {
@@ -253,19 +237,12 @@ fn counted(tally: Tally, number: u8, delivers: bool, is_right: bool) -> Tally {
         deliveries: plus_if(tally.deliveries, delivers & (number == 0)),
         differences: plus_if(tally.differences, !is_right),
         word: mixed(tally.word, number as u64),
-        seed: tally.seed,
+        ..tally
     }
 }
 
 fn seeded(tally: Tally, seed: u64) -> Tally {
-    let numbers = tally.numbers;
-    Tally {
-        numbers,
-        deliveries: tally.deliveries,
-        differences: tally.differences,
-        word: tally.word,
-        seed,
-    }
+    Tally { seed, ..tally }
 }
 
 fn given_with(bytes: &[u8], year: Year, fault: u64, at: usize) -> Given {
@@ -302,11 +279,7 @@ fn shelf_wanted(bytes: &[u8], given: Given, want: Expected) -> Shelf {
 }
 
 fn counts_of(shelf: Shelf) -> Counts {
-    let mut counts = [0u32; ROOM];
-    for i in 0..ROOM {
-        counts[i] = shelf[i].count;
-    }
-    counts
+    shelf.map(|record| record.count)
 }
 
 // The counts that the next entry meets: those of the library's bins.
@@ -324,30 +297,15 @@ fn checked(bytes: &[u8], year: Year, given: Given, entry: Entry, want: Expected)
     let left = bins_after(given, p);
     let right = shelf_wanted(bytes, given, want);
     let is_right = (number == want.number) & are_same(left, right);
-    let state = year.state;
-    let tables = year.tables;
-    let counts = counts_left(year, want, left);
-    let tally = counted(year.tally, number, entry.delivers, is_right);
     Year {
-        state,
-        tables,
-        added: year.added,
-        counts,
-        tally,
+        counts: counts_left(year, want, left),
+        tally: counted(year.tally, number, entry.delivers, is_right),
+        ..year
     }
 }
 
 fn with_tally(year: Year, tally: Tally) -> Year {
-    let state = year.state;
-    let tables = year.tables;
-    let counts = year.counts;
-    Year {
-        state,
-        tables,
-        added: year.added,
-        counts,
-        tally,
-    }
+    Year { tally, ..year }
 }
 
 fn run_entry(bytes: &[u8], year: Year, from: u64) -> Year {
@@ -373,30 +331,21 @@ fn run_table(bytes: &[u8], year: Year, from: u64) -> Year {
     let rows = table.rows;
     let given = first_words(&rows, table.count);
     let answer = year.state.add_table(table.first, table.second, given);
-    let state = answer.state;
-    let before = year.tables;
-    let after = tables::with(before, year.added, table.first, table.second, given);
-    let counts = year.counts;
     Year {
-        state,
-        tables: after,
+        state: answer.state,
+        tables: tables::with(year.tables, year.added, table.first, table.second, given),
         added: past(year.added, 1),
-        counts,
         tally: seeded(year.tally, seed),
+        ..year
     }
 }
 
 fn run_reduction(year: Year, seed: u64) -> Year {
     let answer = year.state.reduce();
-    let state = answer.state;
-    let tables = year.tables;
-    let counts = year.counts;
     Year {
-        state,
-        tables,
-        added: year.added,
-        counts,
+        state: answer.state,
         tally: seeded(year.tally, seed),
+        ..year
     }
 }
 
@@ -412,28 +361,18 @@ fn run_one(bytes: &[u8], year: Year) -> Year {
     run_entry(bytes, year, seed)
 }
 
-fn mixed_count(word: u64, count: u32) -> u64 {
-    mixed(word, count as u64)
-}
-
 fn mixed_counts(from: u64, counts: Counts) -> u64 {
-    let mut word = from;
-    for i in 0..ROOM {
-        word = mixed_count(word, counts[i]);
-    }
-    word
+    counts
+        .iter()
+        .fold(from, |word, &count| mixed(word, count as u64))
 }
 
 // A year's last counts go into the word.
 fn closed(year: Year) -> Tally {
-    let counts = year.counts;
-    let numbers = year.tally.numbers;
+    let tally = year.tally;
     Tally {
-        numbers,
-        deliveries: year.tally.deliveries,
-        differences: year.tally.differences,
-        word: mixed_counts(year.tally.word, counts),
-        seed: year.tally.seed,
+        word: mixed_counts(tally.word, year.counts),
+        ..tally
     }
 }
 

@@ -43,13 +43,19 @@ phrases =
 unfoldable pub phrase : ℕ → List ℕ
 phrase number = get_or phrases number (ascii "no cause has this number")
 
+unfoldable pub ending : List ℕ → List ℕ
+ending words = ascii ": " ++ (words ++ ascii "\n")
+
 unfoldable pub phrase_end : ℕ → List ℕ
-phrase_end number = ascii ": " ++ (phrase number ++ ascii "\n")
+phrase_end number = ending (phrase number)
+
+unfoldable pub refused_number : ℕ → List ℕ
+refused_number number = ascii "REFUSED " ++ decimal number
 
 -- A refusal that has no place,
 unfoldable pub refusal_line : ℕ → List ℕ
-refusal_line number = (ascii "REFUSED " ++ decimal number) ++ phrase_end number
+refusal_line number = refused_number number ++ phrase_end number
 
 -- and that of a sheet, at a byte.
 unfoldable pub refusal_at_line : ℕ → ℕ → List ℕ
-refusal_at_line number place = (ascii "REFUSED " ++ decimal number) ++ ((ascii " AT " ++ decimal place) ++ phrase_end number)
+refusal_at_line number place = refused_number number ++ ((ascii " AT " ++ decimal place) ++ phrase_end number)

@@ -2,9 +2,9 @@
 // the place past its text.
 #![tactic(auto)]
 
-ghost use Rattle.std.specs.Prelude.{[], ◌∷◌, ◌++◌};
+ghost use Rattle.std.specs.Prelude.{List, [], ◌∷◌, ◌++◌, ℕ, ◌<◌};
 ghost use Rattle.buffers.specs.Digits.{decimal};
-ghost use Rattle.text_put.specs.Put.{Put};
+ghost use Rattle.text_put.specs.Put.{Put, each};
 
 use buffers::put_decimal;
 
@@ -22,8 +22,8 @@ pub fn put_text(buffer: &mut [u8], at: usize, text: &[u8]) -> usize
     ensures { Put buffer.old buffer.new text.now at result }
 {
     let mut next = at;
-    for i in 0..text.len() {
-        next = put_byte(buffer, next, text[i]);
+    for &byte in text {
+        next = put_byte(buffer, next, byte);
     }
     next
 }
@@ -46,4 +46,22 @@ pub fn put_titled(buffer: &mut [u8], at: usize, title: &[u8], n: usize) -> usize
 {
     let next = put_text(buffer, at, title);
     put_number(buffer, next, n)
+}
+
+// A text for each number below `n`, one after the other.
+pub fn put_each<F: Fn(&mut [u8], usize, usize) -> usize>(
+    buffer: &mut [u8],
+    at: usize,
+    n: usize,
+    put: F,
+) -> usize
+    requires { (before : _) (next i : ℕ) → i < n → F.pre put before next i }
+    ensures { (text : ℕ → List ℕ) → ((before : _) (after : _) (next i r : ℕ) → i < n → F.post put before next i r after → Put before.now after.now (text i) next r)
+        → Put buffer.old buffer.new (each text n) at result }
+{
+    let mut next = at;
+    for i in 0..n {
+        next = put(buffer, next, i);
+    }
+    next
 }

@@ -18,3 +18,10 @@ pub record Printable (c : CutTold) : Type 0 where
   pub steps_lt : c.steps < 16
   pub leaders_lt : (k : ℕ) → get_or c.state.leaders k 0 < 256
   pub values_lt : (k : ℕ) → get_or (verdict_solution c.verdict) k 0 < 256
+
+-- The same but for what the types of an answer's bytes say.
+pub record Narrow (c : CutTold) : Type 0 where
+  pub number_lt : c.number < 100
+  pub place_le : c.place ≤ 15621
+  pub options_le : c.state.n ≤ 16
+  pub steps_lt : c.steps < 16

@@ -8,6 +8,7 @@ ghost use Rattle.text_verdict.specs.Text.{value_texts, verdict_text, value_text,
 
 use answers::Verdict;
 use buffers::{put_text, put_titled};
+use cause::Cause;
 
 fn put_value(buffer: &mut [u8], at: usize, value: u8) -> usize
     requires { at + length (value_text value) ≤ length buffer.old }
@@ -38,20 +39,15 @@ fn put_built(buffer: &mut [u8], at: usize, n: usize, solution: &[u8; 16]) -> usi
     put_text(buffer, built, b"\n")
 }
 
-pub fn put_verdict(
-    buffer: &mut [u8],
-    at: usize,
-    n: usize,
-    verdict: Verdict,
-    solution: &[u8; 16],
-) -> usize
-    requires { (n ≤ 16) × (at + length (verdict_text (verdict_told verdict solution.now) n) ≤ length buffer.old) }
-    ensures { Wrote buffer.old buffer.new (verdict_text (verdict_told verdict solution.now) n) at result }
+#[tactic(auto, using(buffers::proofs::Laws::wrote_none), unfolding(answers::specs::Answers::verdict_told, crate::specs::Text::verdict_text, crate::specs::Text::ruled_text, crate::specs::Text::built_text, text_lines::specs::Text::ascii))]
+pub fn put_verdict(buffer: &mut [u8], at: usize, n: usize, verdict: Result<Verdict, Cause>) -> usize
+    requires { (n ≤ 16) × (at + length (verdict_text (verdict_told verdict) n) ≤ length buffer.old) }
+    ensures { Wrote buffer.old buffer.new (verdict_text (verdict_told verdict) n) at result }
 {
     match verdict {
-        Verdict::None => put_text(buffer, at, b"VERDICT NONE\n"),
-        Verdict::Built => put_built(buffer, at, n, solution),
-        Verdict::Open => put_text(buffer, at, b"VERDICT OPEN\n"),
-        Verdict::Refused(_) => at,
+        Ok(Verdict::None) => put_text(buffer, at, b"VERDICT NONE\n"),
+        Ok(Verdict::Built(solution)) => put_built(buffer, at, n, &solution),
+        Ok(Verdict::Open) => put_text(buffer, at, b"VERDICT OPEN\n"),
+        Err(_) => at,
     }
 }

@@ -15,7 +15,7 @@ pub const WIDTH: usize = 32;
 pub fn wide(x: u8) -> usize
     ensures { result ≡ x }
 {
-    x as usize
+    usize::from(x)
 }
 
 // `v` is a member of `x`.

@@ -3,7 +3,7 @@ use mathlib.Core.Bool.{true}
 use mathlib.Core.List.{List, [], ◌∷◌, ◌++◌, append_assoc, append-nil}
 use mathlib.Core.Path.{◌≡◌, refl, sym, ◌∙◌, ap, ap₂, fun_ext}
 use Prim.Native.Nat.{ℕ, zero, suc, ◌+◌, ◌-◌, ◌*◌, ◌/◌, ◌%◌, ◌^◌, ◌≤◌, ◌<◌}
-use native.Mathlib.Nat.{add-zero, zero-add, mul-one, mul-zero, mul-le-mul}
+use native.Mathlib.Nat.{add-zero, zero-add, mul-one, mul-zero}
 use native.Mathlib.Numerals.{add-one}
 use native.Mathlib.Omega.{arith}
 use lib.Dec.{eqb, ltb}
@@ -341,10 +341,3 @@ module _ (k : ℕ) (sizes stated : List ℕ) where
       → tables_length width k (i + 1) sizes stated ≡ (2 + k * get_or sizes i 0) * later width (get_or stated i 0) i + tables_length width k i sizes stated
   unfolding tables_length
   bytes-more i = sum_more i _
-
--- A row for each value of a byte's size: at most 1020 bytes, and 32 such tables have at most 32768.
-pub rows-most : (k size : ℕ) → k ≤ 4 → size < 256 → k * size ≤ 1020
-rows-most k size h l = mul-le-mul {n₁ = k} {m₁ = size} {n₂ = 4} {m₂ = 255} h (omega arith)
-
-pub bytes_most : (k size l : ℕ) → k ≤ 4 → size < 256 → l ≤ width → (2 + k * size) * l ≤ 32768
-bytes_most k size l h m n = mul-le-mul {n₁ = 2 + k * size} {m₁ = l} {n₂ = 1024} {m₂ = 32} (omega (arith, rows-most k size h m)) n

@@ -41,7 +41,7 @@ fn tables_length(bytes: usize, size: u8, tables: usize) -> usize
     requires { (bytes ≤ 4) × (tables ≤ width) }
     ensures { (result ≡ (2 + bytes * size) * tables) × (result ≤ 32768) }
 {
-    (2 + bytes * size as usize) * tables
+    (2 + bytes * usize::from(size)) * tables
 }
 
 // How many bytes a sheet has, and how many tables.

@@ -1,7 +1,7 @@
 -- A loop over the members of a word above i, lowest first, that writes a text for each: what has none between them writes nothing.
 use mathlib.Core.Bool.{Bool, true, false}
 use mathlib.Core.List.{List, [], append-nil}
-use mathlib.Core.Path.{◌≡◌, refl, sym, ◌∙◌, ap}
+use mathlib.Core.Path.{◌≡◌, sym, ◌∙◌, ap}
 use Prim.Native.Nat.{ℕ, zero, suc, ◌+◌, ◌-◌, ◌^◌, ◌≤◌, ◌<◌}
 use native.Mathlib.Nat.{add-zero}
 use native.Mathlib.Omega.{arith}
@@ -10,7 +10,7 @@ use lib.ListN.{length}
 use borrow.Author.Tests.{le-ltb, le-leb, leb-true, ltb-true, ltb-false, eq-eqb, ne_eqb}
 use Rattle.bounded.specs.Bool.{and, not}
 use Rattle.bounded.specs.Fold.{first}
-use Rattle.bounded.proofs.Bool.{by_cases, bool-ext, clash, not-true→false, and_i, and_l, and_r, and_comm, and-holds, not-i, not-e}
+use Rattle.bounded.proofs.Bool.{by_cases, bool-ext, clash, and_i, and_l, and_r, and_comm, and-holds, not-i, not-e}
 use Rattle.bounded.proofs.Fold.{first_below}
 use Rattle.buffers.specs.Wrote.{Wrote}
 use Rattle.words.specs.Word.{has, word}
@@ -42,10 +42,10 @@ above-not i j =
     (λ t. not-i _ (le-ltb j (i + 1) (leb-true _ _ t)))
 
 module _ (w : ℕ) (f : ℕ → List ℕ) {stated i n : ℕ} {before : List ℕ} {at : ℕ} where
-  pub later-none : {full rest : ℕ} → i < n → at ≤ length before → full ≡ word w (λ (u : ℕ). ltb u (i + 1))
-      → rest ≡ word w (λ (u : ℕ). and (has stated u) (not (has full u))) → LaterSoFar w f stated i n before before at at rest
-  later-none {full} {rest} l r e d =
-      record {
+  pub later-none : {full later rest : ℕ} → i < n → at ≤ length before → full ≡ word w (λ (u : ℕ). ltb u (i + 1))
+      → later ≡ word w (λ (u : ℕ). and (has stated u) (not (has full u))) → rest ≡ later → LaterSoFar w f stated i n before before at at rest
+  later-none l r e d m =
+      rw m record {
         from = i + 1;
         above = omega arith;
         within = omega arith;

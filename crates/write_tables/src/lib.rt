@@ -111,11 +111,8 @@ fn write_later(
     ensures { Wrote buffer.old buffer.new (later_text bytes (row_of width rows.now) n size stated i) at result }
 {
     let mut next = at;
-    let mut rest = words::without(stated, words::full(i + 1));
-    while rest != 0 {
-        let j = words::lowest(rest);
+    for j in words::members(words::without(stated, words::full(i + 1))) {
         next = write_table(bytes, size, stated, i, j, rows, buffer, next);
-        rest = words::dropped(rest);
     }
     next
 }

@@ -1,7 +1,7 @@
 -- What a version fixes for the writer, and which states it takes.
-use mathlib.Core.Bool.{Bool, false}
+use mathlib.Core.Bool.{false}
 use mathlib.Core.List.{List}
-use mathlib.Core.Path.{◌≡◌, refl, sym, ◌∙◌, ap}
+use mathlib.Core.Path.{◌≡◌, refl}
 use Prim.Native.Nat.{ℕ, ◌≤◌}
 use native.Mathlib.Omega.{arith}
 use lib.Dec.{eqb, leb}
@@ -11,7 +11,7 @@ use Rattle.bounded.specs.Fold.{every}
 use Rattle.bounded.proofs.Bool.{by_cases}
 use Rattle.head.specs.declared.Head.{Head}
 use Rattle.head.specs.Held.{held}
-use Rattle.format.specs.Layout.{Layout, Lookup, found, unknown, version1, version2, version3, layout_of}
+use Rattle.format.specs.Layout.{version1, version2, version3, layout_of}
 use Rattle.format.specs.Builds.{width_in}
 use Rattle.format.specs.Writable.{fits_version, filled_in}
 use Rattle.format.proofs.Layouts.{version1-found, version2-found, version3-found, other-unknown, found-usable, found-or-unknown}

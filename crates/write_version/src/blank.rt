@@ -8,6 +8,7 @@ ghost use Rattle.format.specs.Writable.{rows_pass};
 ghost use Rattle.write_version.specs.Filled.{pair_filled, earlier_filled, all_filled};
 
 use crate::layout::fixed_by;
+use folds::every;
 use head::Head;
 use pairs::{Rows, VARIABLES};
 use words::{WIDTH, full};
@@ -35,11 +36,7 @@ fn earlier_filled<'a>(
     requires { (j < variables) × ((i : ℕ) → get_or sizes.now i 0 ≤ width) }
     ensures { result ≡ earlier_filled width rows.now sizes.now stated.now j }
 {
-    let mut all = true;
-    for i in 0..j {
-        all &= pair_filled(sizes[i], stated[i], i, j, rows);
-    }
-    all
+    every(j, |i| pair_filled(sizes[i], stated[i], i, j, rows))
 }
 
 fn all_filled<'a>(
@@ -51,11 +48,7 @@ fn all_filled<'a>(
     requires { (n ≤ variables) × ((i : ℕ) → get_or sizes.now i 0 ≤ width) }
     ensures { result ≡ all_filled width rows.now n sizes.now stated.now }
 {
-    let mut all = true;
-    for j in 0..n {
-        all &= earlier_filled(sizes, stated, j, rows);
-    }
-    all
+    every(n, |j| earlier_filled(sizes, stated, j, rows))
 }
 
 // Whether a version takes the rows: "The writer in version 3 refuses a state where a stated table has such a row for its lower-numbered option."
@@ -66,6 +59,5 @@ pub fn rows_pass(head: Head, rows: &Rows, version: usize) -> bool
     if !fixed_by(version).filled {
         return true;
     }
-    let n = head.n;
-    all_filled(n, &head.sizes, &head.stated, rows)
+    all_filled(head.n, &head.sizes, &head.stated, rows)
 }

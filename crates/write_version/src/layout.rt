@@ -4,6 +4,7 @@ ghost use Rattle.pairs.specs.Pairs.{variables};
 ghost use Rattle.format.specs.Layout.{layout_of};
 ghost use Rattle.write_version.specs.Version.{Fixes, FitsIs};
 
+use folds::every;
 use pairs::VARIABLES;
 
 // How many bytes a row has, the largest size, and whether an all-zero row is banned: 0, 0 and not in an unknown version.
@@ -14,6 +15,7 @@ pub struct Fixed {
     pub filled: bool,
 }
 
+// No `Option`: who writes has asked `fits_version` before, and would have an arm for an unknown version that is never reached.
 pub fn fixed_by(version: usize) -> Fixed
     ensures { Fixes (layout_of version) result }
 {
@@ -45,9 +47,5 @@ pub fn fits_version(version: usize, n: usize, sizes: &[u8; VARIABLES]) -> bool
     if most == 0 {
         return false;
     }
-    let mut all = true;
-    for i in 0..n {
-        all &= sizes[i] <= most;
-    }
-    all
+    every(n, |i| sizes[i] <= most)
 }

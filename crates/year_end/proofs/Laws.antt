@@ -1,17 +1,16 @@
 -- Lines from arrays.
-use mathlib.Core.Bool.{true, false}
-use mathlib.Core.List.{List, [], ◌∷◌, ◌++◌}
-use mathlib.Core.Path.{◌≡◌, refl, sym, ◌∙◌, ap}
-use Prim.Native.Nat.{ℕ, suc, ◌+◌, ◌-◌, ◌≤◌, ◌<◌, ◌^◌}
+use mathlib.Core.List.{List, []}
+use mathlib.Core.Path.{◌≡◌, sym, ◌∙◌, ap}
+use Prim.Native.Nat.{ℕ, suc, ◌+◌, ◌-◌}
 use native.Mathlib.Numerals.{add-one}
 use native.Mathlib.Omega.{arith}
-use lib.ListN.{length, get_or}
-use borrow.Author.Tests.{lt-ltb, le-ltb, eq-eqb, ne_eqb}
+use lib.ListN.{get_or}
+use borrow.Author.Tests.{eq-eqb, ne_eqb}
 use Rattle.bounded.proofs.Bool.{if-true, if-false}
 use Rattle.bins.specs.Bins.{Place}
 use Rattle.bins_counts.specs.Counts.{spot, plus}
 use Rattle.text_put.specs.Put.{Put, each}
-use Rattle.text_put.proofs.Laws.{put-text, put-none, put_then, each_none, each_more}
+use Rattle.text_put.proofs.Laws.{put-text, put_then}
 use Rattle.year_text.specs.Lines.{line_of_bin, short_entries, entries_line, end_line}
 use Rattle.year_end.specs.End.{each_bin, short_text}
 use Rattle.year_end.specs.Arrays.{bin_of, short_of_array, counts_by}
@@ -32,15 +31,6 @@ pub all-bins : {a b : List ℕ} {at r : ℕ} (n : ℕ) (sizes : List ℕ) (text 
     → Put a b (each (λ (o : ℕ). each (λ (v : ℕ). text (suc o, v)) (get_or sizes o 0)) n) at r → Put a b (each_bin n sizes text) at r
 unfolding each_bin
 all-bins n sizes text h = h
-
--- A sum, as the code tests it.
-pub sum_fits : (x y : ℕ) → x < 2 ^ 64 → y ≤ 18446744073709551615 - x → x + y ≡ plus y x
-unfolding plus
-sum_fits x y s l = sym (if-true _ _ _ (lt-ltb (x + y) (2 ^ 64) (omega (arith, s, l))))
-
-pub sum_over : (x y : ℕ) → x < 2 ^ 64 → 18446744073709551615 - x < y → 18446744073709551615 ≡ plus y x
-unfolding plus
-sum_over x y s l = sym (if-false _ _ _ (le-ltb (x + y) (2 ^ 64) (omega (arith, s, l))))
 
 pub short_none : (sizes shorts : List ℕ) (o v i k : ℕ) → i ≡ spot sizes o v → k ≡ get_or shorts i 0 → k ≡ 0 → short_of_array sizes shorts (suc o, v) ≡ []
 unfolding short_of_array short_text

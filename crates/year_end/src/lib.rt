@@ -19,12 +19,6 @@ use year_text::{
     put_short,
 };
 
-fn wide(x: u8) -> usize
-    ensures { result ≡ x }
-{
-    x as usize
-}
-
 fn long(x: u32) -> usize
     ensures { result ≡ x }
 {
@@ -41,10 +35,7 @@ fn size(x: u64) -> usize
 fn sum(x: u64, more: u64) -> u64
     ensures { result ≡ plus more x }
 {
-    if more <= 18446744073709551615 - x {
-        return x + more;
-    }
-    18446744073709551615
+    x.saturating_add(more)
 }
 
 // The line of one bin, of the variable after `o` others.
@@ -88,12 +79,10 @@ fn put_variable(
     ensures { Put buffer.old buffer.new (each (λ (v : ℕ). bin_of head.sizes opened.now ins.now outs.now counts.now (suc o, v)) (get_or head.sizes o 0)) at result }
 {
     let sizes = head.sizes;
-    let most = wide(sizes[o]);
+    let most = usize::from(sizes[o]);
     let mut next = at;
-    let mut v = 0;
-    while v < most {
+    for v in 0..most {
         next = put_one(buffer, next, head, o, v, opened, ins, outs, counts);
-        v = v + 1;
     }
     next
 }
@@ -113,10 +102,8 @@ pub fn put_bins(
 {
     let n = head.n;
     let mut next = at;
-    let mut o = 0;
-    while o < n {
+    for o in 0..n {
         next = put_variable(buffer, next, head, o, opened, ins, outs, counts);
-        o = o + 1;
     }
     next
 }
@@ -153,12 +140,10 @@ fn put_short_variable(
     ensures { Put buffer.old buffer.new (each (λ (v : ℕ). short_of_array head.sizes shorts.now (suc o, v)) (get_or head.sizes o 0)) at result }
 {
     let sizes = head.sizes;
-    let most = wide(sizes[o]);
+    let most = usize::from(sizes[o]);
     let mut next = at;
-    let mut v = 0;
-    while v < most {
+    for v in 0..most {
         next = put_short_one(buffer, next, head, o, v, shorts);
-        v = v + 1;
     }
     next
 }
@@ -169,10 +154,8 @@ fn put_shorts(buffer: &mut [u8], at: usize, head: Head, shorts: &[u64; BINS]) ->
 {
     let n = head.n;
     let mut next = at;
-    let mut o = 0;
-    while o < n {
+    for o in 0..n {
         next = put_short_variable(buffer, next, head, o, shorts);
-        o = o + 1;
     }
     next
 }

@@ -2,17 +2,16 @@
 use mathlib.Core.Bool.{true, false}
 use mathlib.Core.List.{List}
 use mathlib.Core.Path.{◌≡◌, refl, sym, ap, subst, ◌∙◌}
-use Prim.Native.Nat.{ℕ, suc, ◌+◌, ◌-◌, ◌<◌, ◌≤◌, ◌^◌}
+use Prim.Native.Nat.{ℕ, suc, ◌-◌, ◌<◌, ◌≤◌, ◌^◌}
 use native.Mathlib.Omega.{arith}
-use lib.Dec.{eqb, ltb}
+use lib.Dec.{eqb}
 use lib.ListN.{get_or, take, drop}
 use borrow.Author.Tests.{eqb-true, eqb-false, eq-eqb, ne_eqb, lt-ltb, le-ltb}
-use Rattle.bounded.specs.Bool.{if}
 use Rattle.bounded.proofs.Bool.{by_cases, if-true, if-false}
 use Rattle.bins.specs.declared.Bin.{Bin}
 use Rattle.bins.specs.Bins.{Place, no_bin}
 use Rattle.state.specs.declared.state.State.{State}
-use Rattle.state_bins.specs.Year.{Entry, delivery, call_off, number_of, bins_after, delivered_to, called_off_from}
+use Rattle.state_bins.specs.Year.{Entry, delivery, call_off, number_of, delivered_to, called_off_from}
 use Rattle.stock.specs.Stock.{bins_of}
 use Rattle.scan.specs.declared.Line.{Line}
 use Rattle.year_entries.specs.declared.Answer.{Answer}

@@ -1,19 +1,18 @@
 -- What an entry moves, as it is added to the sums.
-use mathlib.Core.Bool.{Bool, true, false}
+use mathlib.Core.Bool.{true}
 use mathlib.Core.List.{List}
 use mathlib.Core.Path.{◌≡◌, refl, sym, ap, subst, ◌∙◌}
-use Prim.Native.Nat.{ℕ, suc, ◌+◌, ◌-◌, ◌≤◌, ◌<◌, ◌^◌}
+use Prim.Native.Nat.{ℕ, suc, ◌+◌, ◌-◌, ◌≤◌, ◌<◌}
 use native.Mathlib.Omega.{arith}
 use lib.Dec.{eqb, ltb}
 use lib.ListN.{length, get_or}
-use borrow.Author.Tests.{eqb-true, eqb-false, eq-eqb, ne_eqb, lt-ltb}
+use borrow.Author.Tests.{eqb-true, eq-eqb, ne_eqb, lt-ltb}
 use Rattle.bounded.specs.Bool.{and, if}
 use Rattle.bounded.proofs.Bool.{by_cases, clash, and_l, and_r, and_i, and-holds, if-true, if-false}
 use Rattle.bins.specs.declared.Bin.{Bin}
 use Rattle.bins.specs.Bins.{Place, no_bin}
 use Rattle.bins_counts.specs.Counts.{spot, plus, changed_at, changed_each}
 use Rattle.bins_counts.proofs.Changed.{length-changed, changed-here, changed-else, same-variable, same-value, length-each, each_at, plus-is}
-use Rattle.network.specs.Added.{Numbered}
 use Rattle.head.specs.Held.{held}
 use Rattle.state.specs.declared.state.State.{State}
 use Rattle.answers.specs.Answers.{test_agrees}

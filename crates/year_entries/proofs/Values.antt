@@ -1,16 +1,16 @@
 -- The values of a call-off as they stand on a line.
-use mathlib.Core.Bool.{Bool, true, false}
+use mathlib.Core.Bool.{true, false}
 use mathlib.Core.List.{List}
 use mathlib.Core.Path.{◌≡◌, refl, sym, ap, subst, ◌∙◌}
-use Prim.Native.Nat.{ℕ, ◌+◌, ◌-◌, ◌≤◌, ◌<◌, min}
+use Prim.Native.Nat.{ℕ, ◌+◌, ◌-◌, ◌≤◌, ◌<◌}
 use native.Mathlib.Omega.{arith}
 use lib.Dec.{ltb}
 use lib.ListN.{length, get_or, take, drop, length-take, length-drop}
 use lib.Seq.{ext_get_or, get_or-take, get_or-drop, length-take-le}
-use borrow.Author.Tests.{ltb-true, lt-ltb}
+use borrow.Author.Tests.{lt-ltb}
 use Rattle.bounded.specs.Fold.{every}
 use Rattle.bounded.proofs.Bool.{clash, not-true→false}
-use Rattle.bounded.proofs.Fold.{every-i, every-e}
+use Rattle.bounded.proofs.Fold.{every-i}
 use Rattle.head.specs.Held.{HeadShaped}
 use Rattle.answers.specs.Answers.{test_agrees}
 use Rattle.state.specs.declared.state.State.{State}

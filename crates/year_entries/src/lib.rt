@@ -11,6 +11,7 @@ ghost use Rattle.year_entries.specs.Entered.{Entered, LineEntered};
 
 use bins::Bin;
 use bins_counts::{BINS, add_at, add_each, spot};
+use folds::{every, table};
 use head::{Head, Rows, VARIABLES};
 use scan::{CELLS, Line};
 use stock::{CalledOff, call_off_counts, deliver_counts, no_bin};
@@ -101,14 +102,7 @@ fn values_below(n: usize, sizes: [u8; VARIABLES], cells: [u32; CELLS]) -> bool
     requires { n ≤ 16 }
     ensures { result ≡ every n (λ (o : ℕ). ltb (get_or cells (o + 1) 0) (get_or sizes o 0)) }
 {
-    let mut o = 0;
-    while o < n {
-        if cells[o + 1] >= sizes[o] as u32 {
-            return false;
-        }
-        o = o + 1;
-    }
-    true
+    every(n, |o| cells[o + 1] < u32::from(sizes[o]))
 }
 
 // The values as bytes.
@@ -116,13 +110,7 @@ fn value_bytes(n: usize, cells: [u32; CELLS]) -> [u8; VARIABLES]
     requires { (n ≤ 16) × ((o : ℕ) → o < n → get_or cells (o + 1) 0 < 256) }
     ensures { (o : ℕ) → o < n → get_or result o 0 ≡ get_or cells (o + 1) 0 }
 {
-    let mut values = [0u8; VARIABLES];
-    let mut o = 0;
-    while o < n {
-        values[o] = cells[o + 1] as u8;
-        o = o + 1;
-    }
-    values
+    table(|o| if o < n { cells[o + 1] as u8 } else { 0 })
 }
 
 // How many values the line has.

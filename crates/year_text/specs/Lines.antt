@@ -1,9 +1,9 @@
 -- The lines that the program of a year prints, as ASCII codes.
-use Rattle.std.specs.Prelude.{List, [], ◌∷◌, ◌++◌, ℕ, eqb}
+use Rattle.std.specs.Prelude.{List, ◌++◌, ℕ, eqb}
 use Rattle.bounded.specs.Bool.{if}
 use Rattle.buffers.specs.Digits.{decimal}
 use Rattle.text_lines.specs.Text.{ascii}
-use Rattle.text_phrase.specs.Phrase.{phrase_end}
+use Rattle.text_phrase.specs.Phrase.{ending, phrase_end}
 use Rattle.bins.specs.declared.Bin.{Bin}
 
 -- The text's own faults in words.
@@ -18,7 +18,7 @@ text_phrase fault =
     (ascii "there are more than 4294967295 lines"))))))
 
 unfoldable pub fault_end : ℕ → List ℕ
-fault_end fault = ascii ": " ++ (text_phrase fault ++ ascii "\n")
+fault_end fault = ending (text_phrase fault)
 
 -- OK LINE l
 unfoldable pub ok_line : (line : ℕ) → List ℕ

@@ -1,45 +1,35 @@
 // The lines that the program of a year prints, put into a lent buffer as far as it has room. Each function returns the place past its line.
 #![tactic(auto)]
 
+ghost use Rattle.std.specs.Prelude.{◌≡◌};
 ghost use Rattle.text_put.specs.Put.{Put};
 ghost use Rattle.year_text.specs.Lines.{text_phrase, fault_end, ok_line, refused_line, short_line, fault_line, line_of_bin, first_line, short_entries, entries_line, end_line};
-ghost use Rattle.text_phrase.specs.Phrase.{phrase_end};
-ghost use Rattle.cause.specs.Number.{number_of};
 
 use bins::Bin;
 use cause::Cause;
-use text_phrase::put_phrase;
+use text_phrase::put_ending;
+pub use text_phrase::put_phrase_end;
 use text_put::{put_text, put_titled};
 
 // A fault of the text in words.
-fn put_fault_phrase(buffer: &mut [u8], at: usize, fault: u8) -> usize
-    ensures { Put buffer.old buffer.new (text_phrase fault) at result }
+fn fault_phrase(fault: u8) -> &'static [u8]
+    ensures { result.now ≡ text_phrase fault }
 {
     match fault {
-        101 => put_text(buffer, at, b"a character does not belong there"),
-        102 => put_text(buffer, at, b"a number is above 4294967295"),
-        103 => put_text(buffer, at, b"there are more fields than any line has"),
-        104 => put_text(buffer, at, b"a field is empty"),
-        105 => put_text(buffer, at, b"the line begins with neither D nor C"),
-        106 => put_text(buffer, at, b"the line has a wrong number of fields"),
-        _ => put_text(buffer, at, b"there are more than 4294967295 lines"),
+        101 => b"a character does not belong there",
+        102 => b"a number is above 4294967295",
+        103 => b"there are more fields than any line has",
+        104 => b"a field is empty",
+        105 => b"the line begins with neither D nor C",
+        106 => b"the line has a wrong number of fields",
+        _ => b"there are more than 4294967295 lines",
     }
 }
 
 pub fn put_fault_end(buffer: &mut [u8], at: usize, fault: u8) -> usize
     ensures { Put buffer.old buffer.new (fault_end fault) at result }
 {
-    let begun = put_text(buffer, at, b": ");
-    let said = put_fault_phrase(buffer, begun, fault);
-    put_text(buffer, said, b"\n")
-}
-
-pub fn put_phrase_end(buffer: &mut [u8], at: usize, cause: Cause) -> usize
-    ensures { Put buffer.old buffer.new (phrase_end (number_of cause)) at result }
-{
-    let begun = put_text(buffer, at, b": ");
-    let said = put_phrase(buffer, begun, cause);
-    put_text(buffer, said, b"\n")
+    put_ending(buffer, at, fault_phrase(fault))
 }
 
 pub fn put_ok(buffer: &mut [u8], at: usize, line: usize) -> usize

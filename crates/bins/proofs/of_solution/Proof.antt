@@ -13,15 +13,15 @@ use Rattle.bins.proofs.of_solution.Tie as tie
 
 returns : tie.Need-returns-then-variable-lt1
 unfolding of_solution
-returns c = sym (and-fails _ _ (le-ltb 0 c.args.b.variable (omega (arith, c.if-variable-lt1.true, c.wide-variable.ensures))))
+returns c = sym (and-fails _ _ (le-ltb 0 c.args.b.variable (omega (arith, c.if-variable-lt1.true, c.from-variable.ensures))))
 
 returns-2 : tie.Need-returns
 unfolding of_solution
 returns-2 c =
     let w = c in
     let a = w.args in
-    ap (λ (k : ℕ). eqb k a.b.value) (c.byte.ensures ∙ ap (λ (k : ℕ). get_or a.values (k - 1) 0) w.wide-variable.ensures)
-    ∙ sym (and-holds _ _ (lt-ltb 0 a.b.variable (omega (arith, c.if-variable-lt1.false, w.wide-variable.ensures))))
+    ap (λ (k : ℕ). eqb k a.b.value) (c.byte.ensures ∙ ap (λ (k : ℕ). get_or a.values (k - 1) 0) w.from-variable.ensures)
+    ∙ sym (and-holds _ _ (lt-ltb 0 a.b.variable (omega (arith, c.if-variable-lt1.false, w.from-variable.ensures))))
 
 pub of_solution_spec : {M : Type 1} → statement M
 of_solution_spec = tie.close (tie.spec (λ c κs. search rules) returns (λ c κs. search rules) returns-2)

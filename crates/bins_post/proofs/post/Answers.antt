@@ -24,15 +24,15 @@ moved_next f start bins i b h l len e =
     let next = upto_next f i start no_bin k in
     cc
 
-pub loop-i-then-code-eq0-preserved : goal.loop-i-then-code-eq0-preserved
-loop-i-then-code-eq0-preserved c = moved_next _ _ _ _ _ c.loop-i-then-code-eq0.invariant (omega arith) c.loop-i-then-code-eq0.auto.bins c.moved.ensures
+pub loop-bin-then-code-eq0-preserved : goal.loop-bin-then-code-eq0-preserved
+loop-bin-then-code-eq0-preserved c = moved_next _ _ _ _ _ c.loop-bin-then-code-eq0.invariant (omega arith) c.loop-bin-then-code-eq0.auto.bins c.moved.ensures
 
-pub returns-after-loop-i-then-code-eq0 : goal.returns-after-loop-i-then-code-eq0
-returns-after-loop-i-then-code-eq0 c =
-    let e = seen _ _ _ _ _ c.loop-i.invariant c.loop-i-test.false c.settled-code.ensures in
-    (e, c.loop-i-then-code-eq0.invariant ∙ upto_all _ _ _ c.loop-i-then-code-eq0-test.false ∙ accepted _ _ _ e (subst (λ r. T (eqb r 0)) (sym c.if-code-eq0.true) tt))
+pub returns-after-loop-bin-then-code-eq0 : goal.returns-after-loop-bin-then-code-eq0
+returns-after-loop-bin-then-code-eq0 c =
+    let e = seen _ _ _ _ _ c.loop-bin.invariant c.loop-bin-test.false c.settled-code.ensures in
+    (e, c.loop-bin-then-code-eq0.invariant ∙ upto_all _ _ _ c.loop-bin-then-code-eq0-test.false ∙ accepted _ _ _ e (subst (λ r. T (eqb r 0)) (sym c.if-code-eq0.true) tt))
 
 pub returns-else-code-eq0 : goal.returns-else-code-eq0
 returns-else-code-eq0 c =
-    let e = seen _ _ _ _ _ c.loop-i.invariant c.loop-i-test.false c.settled-code.ensures in
+    let e = seen _ _ _ _ _ c.loop-bin.invariant c.loop-bin-test.false c.settled-code.ensures in
     (e, refused _ _ _ e (not_T _ (λ t. c.if-code-eq0.false (eqb→eq _ _ t))))

@@ -1,5 +1,4 @@
 -- From the lower side it is a row of the array, from the higher side the partners of one value: `partners-one`.
-use mathlib.Core.Path.{◌≡◌}
 use borrow.Author.Rules.{rules}
 use Rattle.pairs.proofs.Laws.{higher}
 use Rattle.pairs.proofs.Runs.{partners-down, partners-one}

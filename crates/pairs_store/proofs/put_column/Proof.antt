@@ -9,7 +9,7 @@ use lib.ListN.{length, get_or, set}
 use borrow.Author.Rules.{rules}
 use Rattle.bounded.specs.Bool.{if}
 use Rattle.words.specs.Word.{has, word}
-use Rattle.pairs.specs.Frames.{RowPut, RunPut}
+use Rattle.pairs.specs.Frames.{RunPut}
 use Rattle.pairs.proofs.Frames.{run_none, run_more, run-next, column-put}
 use Rattle.pairs_store.proofs.put_column.Statement.{statement}
 use Rattle.pairs_store.proofs.put_column.Tie as tie

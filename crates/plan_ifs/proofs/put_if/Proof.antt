@@ -1,7 +1,6 @@
 -- No line, or one.
-use mathlib.Core.Path.{sym, ap, ◌∙◌}
+use mathlib.Core.Path.{sym, ◌∙◌}
 use borrow.Author.Rules.{rules}
-use borrow.Author.Tests.{not-true, not-false}
 use Rattle.plan_ifs.proofs.Laws.{if-out, if-in, if-put}
 use Rattle.text_put.proofs.Laws.{put-none}
 use Rattle.text_lines.specs.Text.{ascii}

@@ -1,8 +1,7 @@
 -- No lines, or those of all values.
-use mathlib.Core.Path.{sym, ap, ◌∙◌}
+use mathlib.Core.Path.{sym, ◌∙◌}
 use native.Mathlib.Omega.{arith}
 use borrow.Author.Rules.{rules}
-use borrow.Author.Tests.{not-true, not-false}
 use Rattle.text_put.proofs.Laws.{put-none}
 use Rattle.head.proofs.Held.{held-n}
 use Rattle.plan_ifs.proofs.Laws.{ifs-none, ifs-some}

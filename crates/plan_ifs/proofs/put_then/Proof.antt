@@ -1,8 +1,6 @@
 -- No follower of this option, or one: its value is the lowest of both words.
 use mathlib.Core.Path.{sym, ap, ◌∙◌}
-use native.Mathlib.Omega.{arith}
 use borrow.Author.Rules.{rules}
-use borrow.Author.Tests.{not-true, not-false}
 use Rattle.text_put.proofs.Laws.{put-none}
 use Rattle.plan_ifs.proofs.Laws.{then-none, then_some, other, value-width, partner-is}
 use Rattle.plan_lines.specs.Lines.{spaced}

@@ -1,9 +1,9 @@
 -- A byte is below 256, so four of them make a number below 2 to the 32.
-use mathlib.Core.Path.{refl}
 use Prim.Native.Nat.{◌+◌}
 use native.Mathlib.Omega.{arith}
 use borrow.Author.Rules.{rules}
-use Rattle.read_number.proofs.Numbers.{first_fits, second_fits, third-fits, fourth-fits, four-fit, number-four}
+use Rattle.read_number.proofs.Numbers.{first_fits, second_fits, third-fits, fourth-fits, four-fit}
+use Rattle.read_number.proofs.Numbers.{standing-four}
 use Rattle.read_number.proofs.four.Statement.{statement}
 use Rattle.read_number.proofs.four.Tie as tie
 
@@ -23,7 +23,7 @@ add-result-6 c =
     omega (arith, four-fit args.bytes.now c.shared_slice_known-4-1.given (args.at + 3) (args.at + 2) (args.at + 1) args.at)
 
 returns : tie.Need-returns
-returns c = number-four _ _ c.shared_slice_known-4-1.given _ refl
+returns c = standing-four _ _
 
 pub four_spec : {M : Type 1} → statement M
 four_spec =

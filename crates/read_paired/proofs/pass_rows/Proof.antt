@@ -4,7 +4,7 @@ use Prim.Native.Nat.{ℕ, ◌+◌, ◌-◌, ◌*◌, ◌≤◌}
 use native.Mathlib.Omega.{arith}
 use borrow.Author.Rules.{rules}
 use Rattle.read_number.proofs.Numbers.{row_inside}
-use Rattle.read_paired.specs.Standing.{standing_at}
+use Rattle.read_number.specs.Standing.{standing_at}
 use Rattle.read_paired.proofs.OnePass.{Passed, passed_none, passed-more, passed-all, bit-least, count-least}
 use Rattle.read_paired.proofs.pass_rows.Statement.{statement}
 use Rattle.read_paired.proofs.pass_rows.Tie as tie

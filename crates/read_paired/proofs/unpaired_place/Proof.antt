@@ -4,17 +4,17 @@ use Prim.Native.Nat.{◌+◌, ◌-◌, ◌≤◌, ◌<◌}
 use native.Mathlib.Omega.{arith}
 use lib.ListN.{length, get_or}
 use borrow.Author.Rules.{rules}
-use borrow.Author.Tests.{not-true, not-false}
 use Rattle.format.specs.Builds as sheet
 use Rattle.format.specs.Parse.{Octets}
 use Rattle.format.specs.Profile.{table_paired}
 use Rattle.read_number.specs.Bytes.{RowBytes}
 use Rattle.read_paired.proofs.Walk.{TableAt, begins, Walking, walking-none, table_here, walking_here, walking-more, walking-end, Here, size_room, rows-here, rows_few, header-room, count-read, first_read}
+use Rattle.read_paired.proofs.Named.{named_there, named_nowhere}
 use Rattle.read_paired.proofs.unpaired_place.Statement.{statement}
 use Rattle.read_paired.proofs.unpaired_place.Tie as tie
 
 abbrev invariant-loop : tie.invariant-loop
-invariant-loop bytes k n p at₀ counter₀ at counter = (p ≡ sheet.tables bytes) × RowBytes k × Walking bytes k counter at
+invariant-loop bytes k n p at₀ counter₀ at counter = (p ≡ sheet.tables bytes) × RowBytes k × Walking bytes k counter at × (1 ≤ at)
 
 abbrev decreases-loop : tie.decreases-loop
 decreases-loop bytes k n p at₀ counter₀ at counter = p - counter
@@ -31,7 +31,7 @@ loop-holds c =
     let k = n in
     let s = k.before.before in
     let B = begins _ (octets c.before.before.before.before.before.before) s.requires k.row_bytes-k.ensures in
-    (count-read _ n.wide-n.ensures c.wide-p.ensures, B.row_bytes, walking-none _ _ B (first_read _ n.wide-n.ensures))
+    (count-read _ n.wide-n.ensures c.wide-p.ensures, B.row_bytes, walking-none _ _ B (first_read _ n.wide-n.ensures), omega arith)
 
 -- The table that is looked at.
 here : (c : tie.In-loop invariant-loop decreases-loop) → TableAt c.args.bytes.now
@@ -55,15 +55,15 @@ told c = c.rows_paired.ensures ∙ sym (rows c.before).told
 returns : tie.Need-returns-then-not-rows_paired invariant-loop decreases-loop
 returns c =
     let i = c.loop.invariant in
-    walking_here _ _ i.2 (omega (arith, i.0)) (sym (told c.before) ∙ c.if-not-rows_paired.true)
+    named_there (walking_here _ _ i.2 (omega (arith, i.0)) (sym (told c.before) ∙ c.if-not-rows_paired.true)) i.3
 
 loop-again : tie.Need-loop-preserved invariant-loop decreases-loop
 loop-again c =
     let i = c.loop.invariant in
-    (i.0, i.1, walking-more _ _ i.2 (omega (arith, i.0)) (sym (told c.before) ∙ c.if-not-rows_paired.false) (sym (rows c.before.before).next))
+    (i.0, i.1, walking-more _ _ i.2 (omega (arith, i.0)) (sym (told c.before) ∙ c.if-not-rows_paired.false) (sym (rows c.before.before).next), omega arith)
 
 returns-2 : tie.Need-returns invariant-loop decreases-loop
-returns-2 c = let i = c.loop.invariant in walking-end _ _ i.2 (omega (arith, i.0))
+returns-2 c = let i = c.loop.invariant in named_nowhere (walking-end _ _ i.2 (omega (arith, i.0)))
 
 pub unpaired_place_spec : {M : Type 1} → statement M
 unpaired_place_spec =

@@ -8,8 +8,6 @@ use Rattle.read_number.proofs.Numbers.{row_inside}
 use Rattle.read_rows.proofs.Rows.{joined-none, joined-more}
 use Rattle.read_rows.proofs.store_rows.Statement.{statement}
 use Rattle.read_rows.proofs.store_rows.Tie as tie
-use Rattle.read_rows.proofs.store_rows.Reads as reads
-use Rattle.read_rows.proofs.store_rows.Lts as lts
 
 abbrev invariant-loop : tie.invariant-loop-a
 invariant-loop bytes from k i j count rows₀ union₀ filled₀ a₀ rows union filled a = (a ≤ count) × RowsJoined 32 k bytes from i j a rows₀ rows union filled

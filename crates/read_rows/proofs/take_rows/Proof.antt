@@ -1,5 +1,4 @@
 -- Cut off, then by the union, and where rows must be filled by that too: one law for each.
-use mathlib.Core.Path.{◌≡◌, refl}
 use native.Mathlib.Omega.{arith}
 use borrow.Author.Rules.{rules}
 use Rattle.read_rows.proofs.Rows.{rows_few, rows_fit, rows_cut, union-decides, both-decide}

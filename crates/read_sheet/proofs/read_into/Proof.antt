@@ -1,6 +1,6 @@
 -- The length first, then the version, then the body in the layout of the version.
 use mathlib.Core.Bool.{false}
-use mathlib.Core.Path.{◌≡◌, refl, sym, ◌∙◌}
+use mathlib.Core.Path.{◌≡◌, sym, ◌∙◌}
 use Rattle.format.specs.Layout.{version1, version2, version3}
 use Rattle.format.specs.Parse.{wrong_length}
 use Rattle.format.proofs.Layouts.{version1-found, version2-found, version3-found}

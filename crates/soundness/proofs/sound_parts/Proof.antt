@@ -1,9 +1,8 @@
 -- The tests that were passed and the one that was not are those of `parts_fit`, in its order, and that is the soundness of the network: `parts-sound`.
 use mathlib.Core.Path.{sym, ◌∙◌}
 use borrow.Author.Rules.{rules}
-use borrow.Author.Tests.{not-true, not-false}
 use Rattle.head.proofs.Held.{HeadShaped, shape}
-use Rattle.soundness.proofs.Parts.{Fit, head-fit, parts-sound}
+use Rattle.soundness.proofs.Parts.{head-fit, parts-sound}
 use Rattle.soundness.proofs.Tests.{parts-head, parts-rows, parts-followers}
 use Rattle.soundness.proofs.sound_parts.Statement.{statement}
 use Rattle.soundness.proofs.sound_parts.Tie as tie

@@ -2,7 +2,6 @@
 use mathlib.Core.Path.{sym, ◌∙◌}
 use native.Mathlib.Omega.{arith}
 use borrow.Author.Rules.{rules}
-use borrow.Author.Tests.{not-true, not-false}
 use Rattle.head.proofs.Held.{HeadShaped, shape}
 use Rattle.soundness_head.proofs.Tests.{size-le}
 use Rattle.soundness_head.proofs.Tests.{head-none, head-many, head-sizes, head-domains, head-pairs}

@@ -1,7 +1,6 @@
 -- Each way through the test is a case of the definition.
 use mathlib.Core.Path.{sym, ap, ◌∙◌}
 use lib.Dec.{eqb}
-use borrow.Author.Tests.{not-true, not-false}
 use Rattle.soundness_head.specs.Fits.{within}
 use Rattle.soundness_head.proofs.Tests.{variable-past, variable-high, variable-self, variable-told}
 use borrow.Author.Rules.{rules}

@@ -4,7 +4,6 @@ use Prim.Native.Nat.{ℕ}
 use native.Mathlib.Omega.{arith}
 use lib.Dec.{eqb}
 use borrow.Author.Rules.{rules}
-use borrow.Author.Tests.{not-true, not-false}
 use Rattle.bounded.proofs.Bool.{if-true, if-false}
 use Rattle.soundness_rows.specs.Fits.{pair_rows_fit}
 use Rattle.soundness_rows.proofs.Tests.{run-same}

@@ -30,7 +30,7 @@ is_sound : (c : tie.Else-not-sound_parts) → sound_state (state (start c)) ≡ 
 is_sound c = sym c.sound_parts.ensures ∙ c.if-not-sound_parts.false
 
 -- past the second the length is right, past the third each free value is in its domain,
-abbrev second : tie.After-values_kept → tie.Else-solution-n
+abbrev second : tie.After-values_kept → tie.Else-n-solution
 second c = c.before.before.before
 
 abbrev first : tie.Else-not-values_kept → tie.Else-not-sound_parts
@@ -44,7 +44,7 @@ module _ (c : tie.Else-not-values_kept) where
   build = (start (first c)).args.solution.now
 
   is-long : length build ≡ at.n
-  is-long = (second c.before).if-solution-n.false
+  is-long = sym (second c.before).if-n-solution.false
 
   kept : values_kept at.n at.leaders at.domains build ≡ true
   kept = sym c.values_kept.ensures ∙ c.if-not-values_kept.false
@@ -60,19 +60,19 @@ returns : tie.Need-returns-then-not-sound_parts
 unfolding outcome_number
 returns c = complete-9 _ _ (sym c.sound_parts.ensures ∙ c.if-not-sound_parts.true)
 
-returns-2 : tie.Need-returns-then-solution-n
+returns-2 : tie.Need-returns-then-n-solution
 unfolding outcome_number
-returns-2 c = complete-14 _ _ (is_sound c.before) c.if-solution-n.true
+returns-2 c = complete-14 _ _ (is_sound c.before) (λ e. c.if-n-solution.true (sym e))
 
 values-kept-requires : tie.Need-values_kept-requires
 values-kept-requires c κs =
     let e = c in
-    (held-n _ _ (is_sound c.before.before.before), omega (arith, e.if-solution-n.false))
+    (held-n _ _ (is_sound c.before.before.before), omega (arith, e.if-n-solution.false))
 
 returns-3 : tie.Need-returns-then-not-values_kept
 unfolding outcome_number
 returns-3 c =
-    complete-15 _ _ (is_sound (second c.before).before) (second c.before).if-solution-n.false
+    complete-15 _ _ (is_sound (second c.before).before) (sym (second c.before).if-n-solution.false)
     (sym c.values_kept.ensures ∙ c.if-not-values_kept.true)
 
 pairs-kept-requires : tie.Need-pairs_kept-requires

@@ -9,7 +9,6 @@ use Rattle.network.specs.Sound.{Sound}
 use Rattle.network.specs.Survey.{tied_product}
 use Rattle.head.specs.Held.{held, sound_in}
 use Rattle.head.proofs.Held.{HeadShaped, shape, held-sound, held-n}
-use Rattle.answers.specs.Answers.{outcome_number}
 use Rattle.survey_product.proofs.Ties.{product-refused, product-accepted, below-cap}
 use Rattle.state.specs.View.{state_of}
 use Rattle.state_survey.specs.Survey.{survey_told, survey_number}
@@ -18,10 +17,10 @@ use Rattle.state_survey.proofs.survey_parts.Statement.{statement}
 use Rattle.state_survey.proofs.survey_parts.Tie as tie
 
 returns : tie.Need-returns-then-not-sound_parts
-unfolding outcome_number
+unfolding survey_told
 returns c =
     let e = c in
-    c.nothing.ensures ∙ sym (survey-refuses _ 9 (survey-unsound _ (sym e.sound_parts.ensures ∙ e.if-not-sound_parts.true)) (omega arith))
+    sym (survey-refuses _ 9 (survey-unsound _ (sym e.sound_parts.ensures ∙ e.if-not-sound_parts.true)) (omega arith))
 
 -- Past the first test the state is sound,
 is_sound : (c : tie.Else-not-sound_parts) → let s = c.args in sound_in s.head s.rows.now ≡ true
@@ -34,12 +33,11 @@ tied-product-requires : tie.Need-tied_product-choices-requires
 tied-product-requires c κs = held-n _ _ (is_sound c)
 
 returns-2 : tie.Need-returns-then-choices-gt-MOST_CHOICES
-unfolding outcome_number
+unfolding survey_told
 returns-2 c =
     let p = c in
-    let t = is_sound c.before.before.before in
-    c.nothing-then-choices-gt-MOST_CHOICES.ensures
-    ∙ sym (survey-refuses _ 23 (survey-own _ t ∙ product-refused _ _ (p.tied_product-choices.ensures _ t) c.if-choices-gt-MOST_CHOICES.true) (omega arith))
+    let t = is_sound c.before.before in
+    sym (survey-refuses _ 23 (survey-own _ t ∙ product-refused _ _ (p.tied_product-choices.ensures _ t) c.if-choices-gt-MOST_CHOICES.true) (omega arith))
 
 -- and past the second nothing refuses: the product is what was computed.
 accepts : (c : tie.Else-choices-gt-MOST_CHOICES) → let s = c.args in survey_number (state_of s.head s.rows.now) ≡ 0
@@ -55,34 +53,31 @@ product_is c =
     (below-cap _ _ (c.tied_product-choices.ensures _ t) l, l)
 
 returns-3 : tie.Need-returns-then-choices-eq0
-unfolding outcome_number
+unfolding survey_told
 returns-3 c =
     let e = c in
-    c.nothing-then-choices-eq0.ensures ∙ sym (told-empty _ (network-sound c.before.before.before.before) (accepts c.before.before) ((product_is c.before.before).0 ∙ c.if-choices-eq0.true))
+    sym (told-empty _ (network-sound c.before.before.before) (accepts c.before) ((product_is c.before).0 ∙ c.if-choices-eq0.true))
 
-survey-sound-requires : tie.Need-survey_sound-surveyed-requires
+survey-sound-requires : tie.Need-survey_sound-requires
 survey-sound-requires c κs =
     let e = c in
     let p = product_is c.before in
     (is_sound c.before.before.before, omega (arith, p.0, c.if-choices-eq0.false), omega (arith, p.0, p.1))
 
 returns-4 : tie.Need-returns
-unfolding survey_told outcome_number
+unfolding survey_told
 returns-4 c =
     let e = c in
-    told_of _ (network-sound c.before.before.before.before.before) (accepts c.before.before.before) _ c.survey_sound-surveyed.ensures
+    told_of _ (network-sound c.before.before.before.before) (accepts c.before.before) _ c.survey_sound.ensures
 
 pub survey_parts_spec : {M : Type 1} → statement M
 survey_parts_spec =
     tie.close
     (tie.spec
     (λ c κs. search rules)
-    (λ c κs. search rules)
     returns
     tied-product-requires
-    (λ c κs. search rules)
     returns-2
-    (λ c κs. search rules)
     returns-3
     survey-sound-requires
     returns-4)

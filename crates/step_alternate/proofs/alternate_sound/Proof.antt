@@ -52,7 +52,7 @@ alternate_sound_spec =
     (λ c κs. search rules)
     (λ c.
     let some : c.loop-steps.steps ≡ 0 → ⊥ = omega arith in
-    round-none c.loop-steps.invariant c.trim_live-trimmed.ensures (c.same_lists.ensures (search rules)) some)
+    round-none c.loop-steps.invariant c.trim_live-trimmed.ensures (search rules) some)
     reduce-sound-requires
     (λ c.
     let none : c.reduce_sound-round.result.steps ≡ 0 = omega arith in

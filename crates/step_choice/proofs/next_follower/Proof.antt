@@ -30,13 +30,13 @@ judge-pair-requires c κs =
     let h : HeadShaped s.args.head = search shape in
     (omega (arith, held-n), omega (arith, held-n), stated_apart _ h s.requires)
 
-returns-2 : tie.Need-returns-in-Done invariant-loop decreases-loop
+returns-2 : tie.Need-returns-in-Ok invariant-loop decreases-loop
 returns-2 c =
     let l = c.loop-j in
     let s = c in
     let h : HeadShaped s.args.head = search shape in
     follower-found _ h s.requires (omega arith) (omega arith)
-    (judged-legal _ (ap outcome_number (sym c.in-Done.is) ∙ c.judge_pair-judgement.ensures)) l.invariant.1
+    (judged-legal _ (ap outcome_number (sym c.in-Ok.is) ∙ c.judge_pair-judgement.ensures)) l.invariant.1
 
 loop-again : tie.Need-loop-j-preserved invariant-loop decreases-loop
 loop-again c =

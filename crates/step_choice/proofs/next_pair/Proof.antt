@@ -7,7 +7,7 @@ use borrow.Author.Count.{below_more}
 use borrow.Author.Rules.{rules}
 use Rattle.head.proofs.Held.{HeadShaped, shape, held-n}
 use Rattle.answers.specs.Answers.{outcome_number}
-use Rattle.step_choice.specs.declared.Pair.TheVariants as pair
+use Rattle.std.specs.Prelude.{None}
 use Rattle.step_choice.proofs.Judging.{legal_at, stated_apart}
 use Rattle.step_choice.proofs.Searching.{judged-legal, judged-refused, led-leads-none, next-found, next-none}
 use Rattle.step_choice.proofs.next_pair.Statement.{statement}
@@ -15,7 +15,7 @@ use Rattle.step_choice.proofs.next_pair.Tie as tie
 
 abbrev invariant-loop : tie.invariant-loop-j
 invariant-loop rows n leaders domains stated found₀ i j₀ found j = (j ≤ n)
-    × (found ≡ pair.Nothing)
+    × (found ≡ None)
     × ((y : ℕ) → y < j → legal_at leaders domains stated rows i y ≡ false)
 
 abbrev decreases-loop : tie.decreases-loop-j
@@ -23,7 +23,7 @@ decreases-loop rows n leaders domains stated found₀ i j₀ found j = n - j
 
 abbrev invariant-search : tie.invariant-search
 invariant-search rows n leaders domains stated found₀ i₀ found i = (i ≤ n)
-    × (found ≡ pair.Nothing)
+    × (found ≡ None)
     × ((x : ℕ) → x < i → (y : ℕ) → y < n → legal_at leaders domains stated rows x y ≡ false)
 
 abbrev decreases-search : tie.decreases-search
@@ -67,14 +67,14 @@ returns c =
     let h : HeadShaped b.args.head = search shape in
     s.invariant.1 ∙ next-none _ h b.requires (λ x k. s.invariant.2 x (omega arith))
 
-returns-2 : tie.Need-returns-in-Done invariant-loop decreases-loop invariant-search decreases-search
+returns-2 : tie.Need-returns-in-Ok invariant-loop decreases-loop invariant-search decreases-search
 returns-2 c =
     let l = c.loop-j in
     let a = c in
     let b = a in
     let h : HeadShaped b.args.head = search shape in
     next-found _ h b.requires (omega arith) (omega arith)
-    (judged-legal _ (ap outcome_number (sym c.in-Done.is) ∙ c.judge_pair-judgement.ensures)) a.search.invariant.2 l.invariant.2
+    (judged-legal _ (ap outcome_number (sym c.in-Ok.is) ∙ c.judge_pair-judgement.ensures)) a.search.invariant.2 l.invariant.2
 
 pub next_pair_spec : {M : Type 1} → statement M
 next_pair_spec =

@@ -1,6 +1,4 @@
 -- Each answer is a case of the definition; a leader is a variable that the arrays have: `led-in`.
-use Prim.Native.Nat.{◌-◌, ◌<◌}
-use mathlib.Core.Path.{◌≡◌}
 use borrow.Author.Rules.{rules}
 use Rattle.step_trim.proofs.Trimmed.{own-list, led-list, led-in}
 use Rattle.step_trim.proofs.trim_variable.Statement.{statement}

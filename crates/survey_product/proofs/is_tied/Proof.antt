@@ -1,7 +1,6 @@
 -- A free variable whose word meets that of the free ones.
 use mathlib.Core.Path.{sym, ◌∙◌}
 use borrow.Author.Rules.{rules}
-use borrow.Author.Tests.{not-true, not-false}
 use Rattle.survey_product.proofs.Ties.{tied-none, tied-some}
 use Rattle.survey_product.proofs.is_tied.Statement.{statement}
 use Rattle.survey_product.proofs.is_tied.Tie as tie

@@ -2,7 +2,6 @@
 use mathlib.Core.Bool.{true}
 use mathlib.Core.Path.{◌≡◌, sym, ◌∙◌}
 use borrow.Author.Rules.{rules}
-use borrow.Author.Tests.{not-true, not-false}
 use Rattle.words.specs.Word.{has}
 use Rattle.survey_product.proofs.Ties.{searched-led, searched-tied, searched-empty, searched-open}
 use Rattle.survey_product.proofs.searched_values.Statement.{statement}

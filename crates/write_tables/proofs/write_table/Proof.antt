@@ -5,7 +5,6 @@ use Prim.Native.Nat.{suc, ◌+◌, ◌≤◌}
 use native.Mathlib.Omega.{arith}
 use lib.ListN.{length}
 use borrow.Author.Rules.{rules}
-use borrow.Author.Tests.{not-true, not-false}
 use Rattle.bounded.proofs.Bool.{if-true, if-false}
 use Rattle.write_tables.specs.Texts.{row_of, rows_text, table_text}
 use Rattle.buffers.proofs.Laws.{wrote_none, wrote-text}

@@ -1,19 +1,16 @@
 -- Where it is taken each of its bins has a sum.
-use mathlib.Core.Bool.{true}
 use mathlib.Core.List.{List}
-use mathlib.Core.Path.{◌≡◌, sym, ap, subst, ◌∙◌}
-use Prim.Native.Nat.{ℕ, ◌≤◌, ◌<◌}
+use mathlib.Core.Path.{◌≡◌, sym, subst, ◌∙◌}
+use Prim.Native.Nat.{ℕ, ◌<◌}
 use native.Mathlib.Omega.{arith}
 use lib.ListN.{get_or, take}
 use lib.Seq.{get_or-take}
 use Rattle.head.proofs.Held.{HeadShaped, shape}
 use Rattle.bins_counts.specs.Counts.{spot}
-use Rattle.answers.specs.Answers.{test_agrees}
 use Rattle.state.specs.declared.state.State.{State}
 use Rattle.state.specs.View.{state_of}
-use Rattle.state.specs.Solutions.{tested}
 use Rattle.state_bins.specs.Year.{call_off, called_off_from}
-use Rattle.stock.specs.Stock.{bins_of, Sized}
+use Rattle.stock.specs.Stock.{Sized}
 use Rattle.stock.proofs.Sizes.{sound-sized, spot_in}
 use Rattle.stock.proofs.CallOff.{value_in}
 use Rattle.year_entries.specs.Entered.{Summed, moved}

@@ -1,18 +1,15 @@
 -- Where it is taken its bin has a sum.
-use mathlib.Core.Bool.{true}
-use mathlib.Core.List.{List}
 use mathlib.Core.Path.{◌≡◌, sym, ap, subst, ◌∙◌}
-use Prim.Native.Nat.{ℕ, ◌-◌, ◌≤◌, ◌<◌}
+use Prim.Native.Nat.{◌-◌, ◌≤◌, ◌<◌}
 use native.Mathlib.Omega.{arith}
 use lib.ListN.{get_or}
-use Rattle.head.specs.declared.Head.{Head}
 use Rattle.head.proofs.Held.{HeadShaped, shape}
 use Rattle.bins_counts.specs.Counts.{spot, plus, changed_at}
 use Rattle.state.specs.declared.state.State.{State}
 use Rattle.state.specs.View.{state_of}
 use Rattle.state_bins.specs.Bins.{delivery_number}
 use Rattle.state_bins.specs.Year.{delivery, delivered_to}
-use Rattle.stock.specs.Stock.{bins_of, Sized, CountsDelivered}
+use Rattle.stock.specs.Stock.{bins_of, Sized}
 use Rattle.stock.proofs.Sizes.{sound-sized, spot_in}
 use Rattle.year_entries.specs.Entered.{Summed, moved}
 use Rattle.year_entries.proofs.Moved.{refused_none, from_1, to_n, below_size, delivered-sum, delivery-entered}

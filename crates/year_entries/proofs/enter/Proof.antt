@@ -1,17 +1,14 @@
 -- Each way out is a way that a line is answered: `faulted` or `called`.
-use mathlib.Core.List.{List}
-use mathlib.Core.Path.{◌≡◌, refl, sym, ap, ◌∙◌}
-use Prim.Native.Nat.{ℕ, ◌<◌, ◌≤◌, ◌^◌}
+use mathlib.Core.Path.{◌≡◌, sym, ◌∙◌}
+use Prim.Native.Nat.{ℕ, ◌<◌, ◌^◌}
 use native.Mathlib.Omega.{arith}
 use lib.ListN.{get_or}
 use Rattle.bounded.specs.Array.{Array}
 use Rattle.head.proofs.Held.{shape}
-use Rattle.bins.specs.declared.Bin.{Bin}
 use Rattle.bins.specs.Bins.{no_bin}
 use Rattle.state.specs.declared.state.State.{State}
 use Rattle.state.specs.View.{state_of}
-use Rattle.year_entries.specs.declared.Answer.{Answer}
-use Rattle.year_entries.specs.Year.{entry_of, fault_of, place_of}
+use Rattle.year_entries.specs.Year.{fault_of, place_of}
 use Rattle.year_entries.proofs.Moved.{entered-as}
 use Rattle.year_entries.proofs.Lines.{fault_past, place-past, fault-own, place-own, is-delivery, is-call-off, faulted, called}
 use borrow.Author.Rules.{rules}

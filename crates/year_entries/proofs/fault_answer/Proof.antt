@@ -1,6 +1,4 @@
 -- The bin of nothing.
-use mathlib.Core.Path.{◌≡◌}
-use Rattle.year_entries.specs.declared.Answer.{Answer}
 use borrow.Author.Rules.{rules}
 use Rattle.year_entries.proofs.fault_answer.Statement.{statement}
 use Rattle.year_entries.proofs.fault_answer.Tie as tie

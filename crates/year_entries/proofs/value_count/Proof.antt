@@ -1,8 +1,5 @@
 -- `count_none`, `count-all` and `count-some`.
-use Prim.Native.Nat.{◌≤◌, ◌<◌}
-use mathlib.Core.Path.{◌≡◌}
 use native.Mathlib.Omega.{arith}
-use lib.ListN.{length}
 use Rattle.year_entries.proofs.Values.{count_none, count-all, count-some}
 use borrow.Author.Rules.{rules}
 use Rattle.year_entries.proofs.value_count.Statement.{statement}

@@ -3,7 +3,6 @@ use mathlib.Core.Path.{sym, ap, ◌∙◌}
 use lib.Dec.{eqb}
 use Prim.Native.Nat.{ℕ}
 use borrow.Author.Rules.{rules}
-use borrow.Author.Tests.{not-true, not-false}
 use Rattle.bounded.proofs.Bool.{and-fails, and-holds}
 use Rattle.order.specs.Orders.{may_come}
 use Rattle.order.proofs.find.may_come.Statement.{statement}

@@ -4,11 +4,8 @@ use mathlib.Core.Path.{◌≡◌, refl, sym, ◌∙◌}
 use Prim.Native.Nat.{ℕ, ◌-◌, ◌≤◌, ◌<◌}
 use native.Mathlib.Omega.{arith}
 use borrow.Author.Rules.{rules}
-use borrow.Author.Tests.{not-true, not-false}
-use Rattle.bounded.specs.Bool.{if}
-use Rattle.bounded.proofs.Bool.{if-true, if-false}
 use Rattle.order.specs.Orders.{Governed, tested_in}
-use Rattle.order.specs.declared.test.Tested.TheVariants as tested
+use Rattle.std.specs.Prelude.{Ok}
 use Rattle.order.proofs.Passing.{Fresh, fresh-named, Passing, passing-none, left-fresh, passing-more, passing-refused, passing-end}
 use Rattle.order.proofs.test.pass.Statement.{statement}
 use Rattle.order.proofs.test.pass.Tie as tie
@@ -50,14 +47,11 @@ loop-again c =
 
 -- All places have been passed.
 told : (c : tie.After-loop-p invariant-loop decreases-loop) → let s = c in
-    (R : ℕ → ℕ → Bool) → Governed s.args.n R s.args.over.now → tested_in s.args.n R s.args.order.now ≡ if c.loop-p.good tested.Good tested.Not
+    (R : ℕ → ℕ → Bool) → Governed s.args.n R s.args.over.now → tested_in s.args.n R s.args.order.now ≡ Ok c.loop-p.good
 told c R G = passing-end _ _ _ c.loop-p.invariant.1 (omega arith) R (omega arith) c.requires.1 G
 
-returns-2 : tie.Need-returns-then-good invariant-loop decreases-loop
-returns-2 c = λ R G. sym (told c.before R G ∙ if-true _ _ _ c.if-good.true)
-
-returns-3 : tie.Need-returns invariant-loop decreases-loop
-returns-3 c = λ R G. sym (told c.before R G ∙ if-false _ _ _ c.if-good.false)
+returns-2 : tie.Need-returns invariant-loop decreases-loop
+returns-2 c = λ R G. sym (told c R G)
 
 pub pass_spec : {M : Type 1} → statement M
 pass_spec =
@@ -80,5 +74,4 @@ pass_spec =
     (λ c. search rules)
     (λ c. search rules)
     loop-again
-    returns-2
-    returns-3)
+    returns-2)

@@ -1,6 +1,5 @@
 -- One value more, or none: `joined-one`, `joined-not`.
 use borrow.Author.Rules.{rules}
-use borrow.Author.Tests.{not-true, not-false}
 use Rattle.order_paths.proofs.Members.{joined-not, joined-one}
 use Rattle.order_paths.proofs.reach.joined_if.Statement.{statement}
 use Rattle.order_paths.proofs.reach.joined_if.Tie as tie

@@ -1,7 +1,6 @@
 -- A row that lacks `m` stays.
 use mathlib.Core.Path.{sym, ◌∙◌}
 use borrow.Author.Rules.{rules}
-use borrow.Author.Tests.{not-true, not-false}
 use Rattle.bounded.proofs.Bool.{if-true, if-false}
 use Rattle.order_paths.proofs.reach.through.Statement.{statement}
 use Rattle.order_paths.proofs.reach.through.Tie as tie

@@ -1,5 +1,4 @@
 -- The product does not overflow, and the rows of every pair lie within the array: `product_lt`, `room`.
-use Prim.Native.Nat.{◌+◌, ◌*◌, ◌-◌, ◌≤◌, ◌<◌}
 use native.Mathlib.Omega.{arith}
 use borrow.Author.Rules.{rules}
 use Rattle.pairs.specs.Pairs.{slot}

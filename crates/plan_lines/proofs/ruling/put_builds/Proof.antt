@@ -1,6 +1,5 @@
 -- More than are counted, or their number.
 use borrow.Author.Rules.{rules}
-use borrow.Author.Tests.{not-true}
 use Rattle.text_lines.specs.Text.{ascii}
 use Rattle.text_put.proofs.Laws.{put_then}
 use Rattle.plan_lines.proofs.Laws.{builds-over, builds-told}

@@ -1,7 +1,6 @@
 -- The word has the value, or not.
 use mathlib.Core.Path.{sym, ◌∙◌}
 use borrow.Author.Rules.{rules}
-use borrow.Author.Tests.{not-true, not-false}
 use Rattle.text_put.proofs.Laws.{put-none}
 use Rattle.plan_lines.proofs.Laws.{value_in, value_out}
 use Rattle.plan_lines.proofs.values.put_value.Statement.{statement}

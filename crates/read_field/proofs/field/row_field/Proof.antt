@@ -1,7 +1,6 @@
 -- Cut off, then a bit at or above the size, then all-zero where that is banned, then fine.
 use mathlib.Core.Path.{refl, sym, ◌∙◌}
 use borrow.Author.Rules.{rules}
-use borrow.Author.Tests.{not-true, not-false}
 use native.Mathlib.Omega.{arith}
 use Rattle.read_field.proofs.Fields.{field_cut, field-fault, field-fine, within-fault, blank-fault, within-fine}
 use Rattle.read_field.proofs.field.row_field.Statement.{statement}

@@ -6,7 +6,6 @@ use Prim.Native.Nat.{ℕ, ◌+◌, ◌*◌, ◌<◌}
 use native.Mathlib.Omega.{arith}
 use lib.ListN.{get_or, length-set}
 use borrow.Author.Rules.{rules}
-use borrow.Author.Tests.{not-true}
 use borrow.Fn.Kinds.{In}
 use borrow.Fn.PlainCycle.{Measures, is, falls, and}
 use Rattle.bounded.specs.Fold.{count}
@@ -19,14 +18,15 @@ use Rattle.pairs.specs.Pairs.{variables}
 use Rattle.pairs.proofs.Runs.{lowest-in, rest-less}
 use Rattle.network.specs.Network.{Network, free}
 use Rattle.search.specs.Turns.{Left}
-use Rattle.search.proofs.Choosing.{in-second, above-lowest, chosen-end, chosen-next, Taken, tried-none, taken-hit, taken-stuck, taken-miss}
+use Rattle.search_narrow.proofs.Members.{in-second, above-lowest}
+use Rattle.search_narrow.proofs.narrow.Reads as narrow-reads
+use Rattle.search.proofs.Choosing.{chosen-end, chosen-next, Taken, tried-none, taken-hit, taken-stuck, taken-miss}
 use Rattle.search.proofs.turns.attempt.Reads as attempt
 use Rattle.search.proofs.turns.attempt.Kinds as attempt-kinds
 use Rattle.search.proofs.turns.+attempt_choose.Lts-attempt as attempt-lts
 use Rattle.search.proofs.turns.choose.Reads as choose
 use Rattle.search.proofs.turns.choose.Kinds as choose-kinds
 use Rattle.search.proofs.turns.+attempt_choose.Lts-choose as choose-lts
-use Rattle.search.proofs.turns.narrow.Reads as narrow-reads
 use Rattle.search.proofs.turns.next_value.Reads as next-value-reads
 use Rattle.search.proofs.turns.+attempt_choose.{statement}
 use Rattle.search.proofs.turns.+attempt_choose.Tie.{close}

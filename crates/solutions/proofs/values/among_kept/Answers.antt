@@ -1,6 +1,5 @@
-use Rattle.std.proofs.Common.{rules}
 use mathlib.Core.Path.{sym, ◌∙◌}
-use borrow.Author.Tests.{eq-eqb, ne_eqb, not-true, not-false}
+use borrow.Author.Tests.{eq-eqb, ne_eqb}
 use Rattle.bounded.proofs.Bool.{implies_true, implies-false}
 use Rattle.words.specs.Word.{width}
 use Rattle.solutions.specs.Choices.{among_kept}

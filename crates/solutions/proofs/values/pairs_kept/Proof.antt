@@ -1,13 +1,12 @@
 -- The loop's invariant: the pairs of the first `i` variables with higher ones pass. A turn tests those of one more: `later-side`. The first variable that fails
 -- decides.
-use mathlib.Core.Bool.{true, false}
+use mathlib.Core.Bool.{true}
 use mathlib.Core.Path.{◌≡◌, sym, ◌∙◌}
 use Prim.Native.Nat.{ℕ, ◌-◌, ◌≤◌, ◌<◌}
 use native.Mathlib.Omega.{arith}
 use lib.ListN.{get_or}
 use borrow.Author.Count.{below_more}
 use borrow.Author.Rules.{rules}
-use borrow.Author.Tests.{not-true, not-false}
 use Rattle.bounded.proofs.Bool.{clash, not-true→false}
 use Rattle.solutions.proofs.Choices.{later_kept, later-in, later-side, later-all, later_of}
 use Rattle.solutions.proofs.values.pairs_kept.Statement.{statement}

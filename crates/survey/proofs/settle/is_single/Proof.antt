@@ -1,7 +1,6 @@
 -- A tied variable, and the ones of its domain.
 use mathlib.Core.Path.{sym, ◌∙◌}
 use borrow.Author.Rules.{rules}
-use borrow.Author.Tests.{not-true, not-false}
 use Rattle.survey.proofs.Settling.{single-none, single-some}
 use Rattle.survey.proofs.settle.is_single.Statement.{statement}
 use Rattle.survey.proofs.settle.is_single.Tie as tie

@@ -1,7 +1,6 @@
 -- One of the others counts the values of its list.
 use mathlib.Core.Path.{sym, ◌∙◌}
 use borrow.Author.Rules.{rules}
-use borrow.Author.Tests.{not-true, not-false}
 use Rattle.survey.proofs.Spreading.{besides-one, besides-list}
 use Rattle.survey.proofs.spread.besides.Statement.{statement}
 use Rattle.survey.proofs.spread.besides.Tie as tie

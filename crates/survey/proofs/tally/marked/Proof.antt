@@ -1,10 +1,5 @@
 -- The value is a member where the count is not 0.
-use mathlib.Core.Path.{◌≡◌, sym, ap, ◌∙◌}
-use Prim.Native.Nat.{ℕ}
-use native.Mathlib.Omega.{arith}
-use lib.Dec.{ltb}
 use borrow.Author.Rules.{rules}
-use Rattle.words.specs.Word.{width, has}
 use Rattle.survey.proofs.Tallying.{unmarked, marked_by}
 use Rattle.survey.proofs.tally.marked.Statement.{statement}
 use Rattle.survey.proofs.tally.marked.Tie as tie

@@ -1,7 +1,6 @@
 -- A pair that is not stated has no table; else `rows_filled`.
-use mathlib.Core.Path.{◌≡◌, sym, ◌∙◌}
+use mathlib.Core.Path.{sym, ◌∙◌}
 use borrow.Author.Rules.{rules}
-use borrow.Author.Tests.{not-true, not-false}
 use Rattle.bounded.proofs.Bool.{implies_true, implies-false}
 use Rattle.write_version.specs.Filled.{pair_filled}
 use Rattle.write_version.proofs.Filled.{rows_filled}

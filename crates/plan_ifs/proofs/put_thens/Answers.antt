@@ -1,0 +1,9 @@
+use Rattle.std.proofs.Common.{rules}
+use Rattle.head.proofs.Held.{held-n}
+use Rattle.plan_ifs.proofs.put_thens.Goals as goal
+
+pub put_each-requires : goal.put_each-requires
+put_each-requires c = let most = held-n _ _ c.requires.0 in search rules
+
+pub returns : goal.returns
+returns c = c.put_each.ensures _ (λ b a k i r l m. search rules)

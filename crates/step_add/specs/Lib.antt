@@ -1,0 +1,2 @@
+-- What a cut leaves of a pair.
+pub mod Cut

@@ -1,0 +1,10 @@
+-- The lines of the variables below `o` are put.
+use Rattle.std.proofs.Common.{ℕ, suc, get_or}
+use Rattle.text_put.specs.Put.{Put, each}
+use Rattle.year_end.specs.Arrays.{short_of_array}
+use Rattle.year_end.proofs.put_shorts.Given as goal
+
+abbrev pub invariant-loop-o : goal.invariant-loop-o
+invariant-loop-o l =
+    Put l.initial.buffer l.buffer
+    (each (λ (k : ℕ). each (λ (v : ℕ). short_of_array l.head.sizes l.shorts (suc k, v)) (get_or l.head.sizes k 0)) l.o) l.at l.next

@@ -1,0 +1,8 @@
+use Rattle.text_put.proofs.Laws.{each_none, each_more}
+use Rattle.year_end.proofs.put_variable.Goals as goal
+
+pub loop-v-init : goal.loop-v-init
+loop-v-init c = each_none _ _ _
+
+pub loop-v-preserved : goal.loop-v-preserved
+loop-v-preserved c = each_more _ c.loop-v.v c.loop-v.invariant c.put_one-next.ensures
