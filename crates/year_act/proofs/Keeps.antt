@@ -2,11 +2,11 @@
 use mathlib.Core.Bool.{Bool, true, false}
 use mathlib.Core.List.{List, [], ◌∷◌, ◌++◌}
 use mathlib.Core.Path.{◌≡◌, refl, sym, ap, subst, ◌∙◌}
-use Prim.Native.Nat.{ℕ, suc, ◌+◌, ◌*◌, ◌≤◌, ◌<◌, ◌^◌}
+use Prim.Native.Nat.{ℕ, suc, ◌+◌, ◌≤◌, ◌<◌, ◌^◌}
 use native.Mathlib.Omega.{arith}
-use lib.Dec.{eqb, leb, ltb}
+use lib.Dec.{eqb, leb}
 use lib.ListN.{length, get_or}
-use borrow.Author.Tests.{leb-true, leb-false, lt-ltb, le-ltb}
+use borrow.Author.Tests.{leb-true, lt-ltb, le-ltb}
 use Rattle.bounded.specs.Bool.{and, not, bit, if}
 use Rattle.bounded.proofs.Bool.{by_cases, bit_le, if-true, if-false}
 use Rattle.bins.specs.Bins.{Place, is_of}
@@ -17,12 +17,11 @@ use Rattle.state_bins.specs.Year.{Entry, bins_after, delivered_to, called_off_fr
 use Rattle.stock.specs.Stock.{bins_of}
 use Rattle.scan.specs.declared.Line.{Line}
 use Rattle.year_entries.specs.declared.Answer.{Answer}
-use Rattle.year_entries.specs.declared.Shortage.{Shortage}
 use Rattle.year_entries.specs.Year.{Told, Year, is_entry, entry_of, amount_of, most_lines, fault_of, told_as, new_year, entered, passed, has_ended, act, answered, faulty, short_of, tally, recorded_of, first_short}
 use Rattle.year_entries.specs.Entered.{Summed, told_by, LineEntered}
 use Rattle.year_act.specs.declared.Entries.{Entries}
 use Rattle.year_act.specs.Answers.{answer_text, told_text, answer}
-use Rattle.year_act.specs.Kept.{AtEach, Within, Kept, answered_by, counted_if, new_entries, noted_of, passed_of}
+use Rattle.year_act.specs.Kept.{AtEach, Within, Kept, answered_by, new_entries, noted_of, passed_of}
 use Rattle.year_act.proofs.Low.{one_each}
 use Rattle.year_act.proofs.Sums.{length_more, tally-more, tally-le, counted-more, adds, sum_more, adds-le, delivered-le, called-le, shortage, first_more}
 

@@ -3,21 +3,20 @@ use mathlib.Core.Bool.{Bool, true, false}
 use mathlib.Core.List.{List}
 use mathlib.Core.Logic.{◌⊎◌, inl, inr, ⊎_elim}
 use mathlib.Core.Path.{◌≡◌, refl, sym, ap, subst, ◌∙◌}
-use Prim.Native.Nat.{ℕ, suc, ◌+◌, ◌-◌, ◌≤◌, ◌<◌, ◌^◌}
+use Prim.Native.Nat.{ℕ, suc, ◌+◌, ◌-◌, ◌<◌}
 use native.Mathlib.Omega.{arith}
 use lib.Dec.{eqb}
 use lib.ListN.{length, get_or}
-use borrow.Author.Tests.{eqb-true, eqb-false, eq-eqb}
+use borrow.Author.Tests.{eqb-true, eq-eqb}
 use Rattle.bounded.specs.Bool.{and, or, not, bit, if}
 use Rattle.bounded.proofs.Bool.{by_cases, clash, and_l, and_r, and_i, and-fails, and-false, bit-true, bit-false, if-true, if-false}
-use Rattle.head.specs.declared.Head.{Head}
 use Rattle.bins.specs.declared.Bin.{Bin}
 use Rattle.bins.specs.Bins.{Place, is_of, any, no_bin}
 use Rattle.bins_counts.specs.Counts.{bin_of_place, spot, plus, changed_at}
 use Rattle.bins_counts.proofs.Changed.{length-changed, changed-here, changed-else, same-variable, same-value, plus-is}
 use Rattle.answers.specs.Answers.{test_agrees}
 use Rattle.state.specs.declared.state.State.{State}
-use Rattle.state.specs.View.{state_of, sound_state}
+use Rattle.state.specs.View.{sound_state}
 use Rattle.state.specs.Solutions.{tested}
 use Rattle.state_bins.specs.Bins.{has_value, exceeds, lacks, delivery_number, call_off_number}
 use Rattle.state_bins.specs.Year.{Entry, delivery, call_off, number_of}
@@ -27,7 +26,7 @@ use Rattle.stock.proofs.Delivery.{own-number}
 use Rattle.stock.proofs.CallOff.{low-spot}
 use Rattle.scan.specs.declared.Line.{Line}
 use Rattle.year_entries.specs.declared.Answer.{Answer}
-use Rattle.year_entries.specs.Year.{Told, entry_of, low_of, fault_of, told_as, answered, faulty, short_of}
+use Rattle.year_entries.specs.Year.{Told, entry_of, low_of, fault_of, told_as, answered, faulty}
 use Rattle.year_entries.specs.Entered.{Summed, told_by}
 use Rattle.year_entries.proofs.Moved.{summed-none}
 use Rattle.year_act.specs.Kept.{answered_by, ShortInside, ShortNoted}

@@ -4,13 +4,12 @@ use mathlib.Core.List.{List, [], ◌∷◌, ◌++◌}
 use mathlib.Core.Path.{◌≡◌, refl, sym, ap, ◌∙◌}
 use Prim.Native.Nat.{ℕ, ◌+◌, ◌≤◌, ◌<◌, ◌^◌}
 use native.Mathlib.Omega.{arith}
-use lib.Dec.{eqb, ltb}
-use lib.ListN.{length, length-append, get_or}
-use borrow.Author.Tests.{ne_eqb, eq-eqb}
+use lib.Dec.{eqb}
+use lib.ListN.{length, length-append}
+use borrow.Author.Tests.{ne_eqb}
 use Rattle.bounded.specs.Bool.{and, bit, if}
 use Rattle.bounded.proofs.Bool.{by_cases, bit-true, bit-false, bit_le, if-true, if-false}
 use Rattle.bins.specs.Bins.{Place}
-use Rattle.bins_counts.specs.Counts.{plus}
 use Rattle.bins_counts.proofs.Changed.{plus-is}
 use Rattle.state_bins.specs.Year.{Entry, delivery, call_off, Recorded, delivered_to, called_off_from, accepted_sum}
 use Rattle.year_entries.specs.declared.Shortage.{Shortage}

@@ -9,7 +9,6 @@ use Rattle.stock.specs.Stock.{bins_of}
 use Rattle.scan.specs.declared.Line.{Line}
 use Rattle.text_put.specs.Put.{Put}
 use Rattle.year_entries.specs.declared.Answer.{Answer}
-use Rattle.year_entries.specs.declared.Shortage.{Shortage}
 use Rattle.year_entries.specs.Year.{Year, act, most_lines, answered, faulty, short_of, tally, recorded_of, first_short}
 use Rattle.year_act.specs.declared.Entries.{Entries}
 use Rattle.year_act.specs.declared.Acted.{Acted}

@@ -48,11 +48,10 @@ fn is_entry(l: Line) -> bool
 fn amount(l: Line) -> u32
     ensures { result ≡ amount_of (entry_of l) }
 {
-    let cells = l.cells;
     if l.kind == 1 {
-        return cells[2];
+        return l.cells[2];
     }
-    cells[0]
+    l.cells[0]
 }
 
 fn answered(a: Answer, number: u8) -> bool
@@ -76,17 +75,15 @@ fn counted(x: u64, more: bool) -> u64
 fn first(e: Entries, a: Answer, asked: u32) -> Shortage
     ensures { result ≡ (noted_of e a asked).first }
 {
-    let given = e.first;
     if !answered(a, 29) {
-        return given;
+        return e.first;
     }
     if e.r29 != 0 {
-        return given;
+        return e.first;
     }
-    let low = a.low;
     Shortage {
         line: e.line,
-        low,
+        low: a.low,
         asked,
     }
 }
@@ -96,14 +93,13 @@ fn noted(e: Entries, a: Answer, asked: u32) -> Entries
     requires { e.line ≤ 4294967296 }
     ensures { result ≡ noted_of e a asked }
 {
-    let short = first(e, a, asked);
     Entries {
         line: e.line + 1,
         ok: counted(e.ok, answered(a, 0)),
         r28: counted(e.r28, answered(a, 28)),
         r29: counted(e.r29, answered(a, 29)),
         text: counted(e.text, a.fault != 0),
-        first: short,
+        first: first(e, a, asked),
     }
 }
 
@@ -112,14 +108,9 @@ fn passed(e: Entries) -> Entries
     ensures { result ≡ passed_of e }
 {
     if e.line <= 4294967295 {
-        let short = e.first;
         return Entries {
             line: e.line + 1,
-            ok: e.ok,
-            r28: e.r28,
-            r29: e.r29,
-            text: e.text,
-            first: short,
+            ..e
         };
     }
     e
@@ -133,8 +124,7 @@ fn put_answer(buffer: &mut [u8], at: usize, quiet: bool, line: usize, a: Answer)
         return put_fault(buffer, at, a.fault, line, a.place);
     }
     if a.number == 29 {
-        let low = a.low;
-        return put_too_low(buffer, at, line, low);
+        return put_too_low(buffer, at, line, a.low);
     }
     if a.number != 0 {
         return put_not_in_stock(buffer, at, line);
@@ -151,8 +141,11 @@ fn note_short(sizes: [u8; VARIABLES], shorts: &mut [u64; BINS], a: Answer)
     ensures { ShortNoted sizes a shorts.old shorts.new }
 {
     if answered(a, 29) {
-        let low = a.low;
-        let at = spot(sizes, low.variable as usize - 1, low.value as usize);
+        let at = spot(
+            sizes,
+            usize::from(a.low.variable) - 1,
+            usize::from(a.low.value),
+        );
         add_at(shorts, at, 1);
     }
 }
@@ -185,8 +178,7 @@ pub fn act(
         return Acted { entries: e, at };
     }
     let a = enter(head, rows, counts, ins, outs, line, l);
-    let sizes = head.sizes;
-    note_short(sizes, shorts, a);
+    note_short(head.sizes, shorts, a);
     let next = put_answer(text, at, quiet, line, a);
     Acted {
         entries: noted(e, a, amount(l)),
@@ -198,22 +190,20 @@ pub fn act(
 pub fn new_entries() -> Entries
     ensures { result ≡ new_entries }
 {
-    let low = Bin {
-        variable: 0,
-        value: 0,
-        count: 0,
-    };
-    let first = Shortage {
-        line: 0,
-        low,
-        asked: 0,
-    };
     Entries {
         line: 1,
         ok: 0,
         r28: 0,
         r29: 0,
         text: 0,
-        first,
+        first: Shortage {
+            line: 0,
+            low: Bin {
+                variable: 0,
+                value: 0,
+                count: 0,
+            },
+            asked: 0,
+        },
     }
 }

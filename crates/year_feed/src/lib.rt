@@ -55,27 +55,32 @@ fn take_byte(
     requires { (sound_state (state_of head rows.now) ≡ true) × Whole counts.old ins.old outs.old shorts.old }
     ensures { TookByte (state_of head rows.now) quiet run byte counts.old counts.new ins.old ins.new outs.old outs.new shorts.old shorts.new text.old text.new at result }
 {
-    let seen = run.scan;
-    let entries = run.entries;
     if byte != 10 {
-        let scan = step(seen, byte);
         let on = Run {
-            scan,
+            scan: step(run.scan, byte),
             begun: true,
-            entries,
+            ..run
         };
         return Took { run: on, at };
     }
-    let line = finish(seen);
+    let line = finish(run.scan);
     let acted = act(
-        head, rows, counts, ins, outs, shorts, entries, line, quiet, text, at,
+        head,
+        rows,
+        counts,
+        ins,
+        outs,
+        shorts,
+        run.entries,
+        line,
+        quiet,
+        text,
+        at,
     );
-    let scan = opening(false);
-    let after = acted.entries;
     let on = Run {
-        scan,
+        scan: opening(false),
         begun: false,
-        entries: after,
+        entries: acted.entries,
     };
     Took {
         run: on,
@@ -98,22 +103,26 @@ pub fn last(
     requires { (sound_state (state_of head rows.now) ≡ true) × Whole counts.old ins.old outs.old shorts.old }
     ensures { LastAs (state_of head rows.now) quiet run counts.old counts.new ins.old ins.new outs.old outs.new shorts.old shorts.new text.old text.new result }
 {
-    let entries = run.entries;
     if run.begun {
-        let seen = run.scan;
-        let line = finish(seen);
+        let line = finish(run.scan);
         return act(
-            head, rows, counts, ins, outs, shorts, entries, line, quiet, text, 0,
+            head,
+            rows,
+            counts,
+            ins,
+            outs,
+            shorts,
+            run.entries,
+            line,
+            quiet,
+            text,
+            0,
         );
     }
-    Acted { entries, at: 0 }
-}
-
-fn most_of(length: usize) -> usize {
-    if length < ROOM {
-        return 0;
+    Acted {
+        entries: run.entries,
+        at: 0,
     }
-    length - ROOM
 }
 
 // Takes bytes of the list from a place on, as many as there is room for their text.
@@ -133,11 +142,10 @@ pub fn feed(
     requires { (sound_state (state_of head rows.now) ≡ true) × Whole counts.old ins.old outs.old shorts.old }
     ensures { FedAs (state_of head rows.now) quiet run bytes.now from counts.old counts.new ins.old ins.new outs.old outs.new shorts.old shorts.new text.old text.new result }
 {
-    let most = most_of(text.len());
+    let most = text.len().saturating_sub(ROOM);
     let mut on = run;
-    let mut next = from;
     let mut length = 0;
-    while next < bytes.len() {
+    for next in from..bytes.len() {
         if most < length {
             return Fed {
                 run: on,
@@ -160,11 +168,10 @@ pub fn feed(
         );
         on = took.run;
         length = took.at;
-        next += 1;
     }
     Fed {
         run: on,
-        next,
+        next: from.max(bytes.len()),
         length,
     }
 }

@@ -1,6 +1,6 @@
 -- The first stays the first.
-use mathlib.Core.Path.{◌≡◌, sym, ap, ◌∙◌}
-use borrow.Author.Tests.{not-true, not-false, eq-eqb, ne_eqb}
+use mathlib.Core.Path.{sym, ap, ◌∙◌}
+use borrow.Author.Tests.{eq-eqb, ne_eqb}
 use Rattle.bounded.specs.Bool.{and}
 use Rattle.bounded.proofs.Bool.{and_i, and-fails, and-false, if-true, if-false}
 use Rattle.year_act.specs.Kept.{noted_of}
