@@ -25,9 +25,12 @@ pub extern "C" fn meter_fit_parts(
 {
     match fit_parts(head_of(n, sizes, lists, leaders, stated), rows) {
         Ok(fit) => {
-            put_made(fit.head, lists, leaders, stated);
+            put_made(Ok(fit.head), lists, leaders, stated);
             verdict_told(Ok(fit.verdict))
         }
-        Err(cause) => verdict_told(Err(cause)),
+        Err(cause) => {
+            put_made(Err(cause), lists, leaders, stated);
+            verdict_told(Err(cause))
+        }
     }
 }

@@ -1,18 +1,15 @@
 // Answers as structs of numbers.
-ghost use Rattle.std.specs.Prelude.{List, ◌≡◌, ℕ};
-ghost use Rattle.answers.specs.Answers.{write_told, test_told, value_told, verdict_told};
-ghost use Rattle.state_read.specs.Parts.{read_parts_told};
-ghost use Rattle.state_cut.specs.Parts.{cut_parts_told};
+ghost use Rattle.std.specs.Prelude.{◌≡◌};
+ghost use Rattle.answers.specs.Answers.{number_read, read_place, write_told, test_told, value_told, verdict_told};
+ghost use Rattle.state.specs.declared.state.State.{State};
 ghost use Rattle.state_survey.specs.Survey.{survey_told};
 ghost use Rattle.capi_answers.specs.Answers.{read_out, written_out, tested_out, value_out, verdict_out, cut_out, survey_out};
 
 use answers::{
-    Verdict, test_agrees, test_number, value_answered, value_number, verdict_kind, verdict_number,
-    verdict_solution, write_length, write_number,
+    Verdict, outcome_number, read_number, read_place, test_agrees, test_number, value_answered,
+    value_number, verdict_kind, verdict_number, verdict_solution, write_length, write_number,
 };
-use cause::{Cause, Refusal, number};
-use head::Head;
-use state_cut::CutParts;
+use cause::{Cause, Refusal};
 use survey::Surveyed;
 
 // Reading: the number that refuses, and its place.
@@ -80,19 +77,13 @@ pub struct SheetSurvey {
     pub count: u64,
 }
 
-#[tactic(auto, unfolding(crate::specs::Answers::read_out, state_read::specs::Parts::read_parts_told))]
-pub fn read_told(read: Result<Head, Refusal>) -> SheetRead
-    ensures { (rows : List ℕ) → result ≡ read_out (read_parts_told read rows) }
+#[tactic(auto, unfolding(crate::specs::Answers::read_out))]
+pub fn read_told(outcome: Result<(), Refusal>) -> SheetRead
+    ensures { (s : State) → result ≡ read_out (record { number = number_read outcome; place = read_place outcome; state = s }) }
 {
-    match read {
-        Ok(_) => SheetRead {
-            number: 0,
-            place: 0,
-        },
-        Err(refusal) => SheetRead {
-            number: number(refusal.cause),
-            place: refusal.place,
-        },
+    SheetRead {
+        number: read_number(outcome),
+        place: read_place(outcome),
     }
 }
 
@@ -138,29 +129,24 @@ pub fn verdict_told(verdict: Result<Verdict, Cause>) -> SheetVerdict
     }
 }
 
-#[tactic(auto, unfolding(crate::specs::Answers::cut_out, state_cut::specs::Parts::cut_parts_told, answers::specs::Answers::verdict_kind, answers::specs::Answers::verdict_solution))]
-pub fn cut_told(cut: Result<CutParts, Refusal>) -> SheetCut
-    ensures { (rows : List ℕ) → result ≡ cut_out (cut_parts_told cut rows) }
+#[tactic(auto, unfolding(crate::specs::Answers::cut_out))]
+pub fn cut_told(
+    outcome: Result<(), Refusal>,
+    steps: usize,
+    verdict: Result<Verdict, Cause>,
+) -> SheetCut
+    ensures { (s : State) → result ≡ cut_out (record { number = number_read outcome; place = read_place outcome; state = s; steps = steps; verdict = verdict_told verdict }) }
 {
-    match cut {
-        Ok(parts) => SheetCut {
-            number: 0,
-            place: 0,
-            steps: parts.steps,
-            kind: verdict_kind(Ok(parts.verdict)),
-            solution: verdict_solution(Ok(parts.verdict)),
-        },
-        Err(refusal) => SheetCut {
-            number: number(refusal.cause),
-            place: refusal.place,
-            steps: 0,
-            kind: 0,
-            solution: [0; 16],
-        },
+    SheetCut {
+        number: read_number(outcome),
+        place: read_place(outcome),
+        steps,
+        kind: verdict_kind(verdict),
+        solution: verdict_solution(verdict),
     }
 }
 
-#[tactic(auto, unfolding(crate::specs::Answers::survey_out, state_survey::specs::Survey::survey_told))]
+#[tactic(auto, unfolding(crate::specs::Answers::survey_out, state_survey::specs::Survey::survey_told, answers::specs::Answers::outcome_number))]
 pub fn survey_told(answer: Result<Surveyed, Cause>) -> SheetSurvey
     ensures { result ≡ survey_out (survey_told answer) }
 {
@@ -175,7 +161,7 @@ pub fn survey_told(answer: Result<Surveyed, Cause>) -> SheetSurvey
             }
         }
         Err(cause) => SheetSurvey {
-            number: number(cause),
+            number: outcome_number(Err(cause)),
             more: false,
             words: [0; 16],
             count: 0,

@@ -3,9 +3,10 @@
 
 ghost use Rattle.std.specs.Prelude.{◌≡◌};
 ghost use Rattle.head.specs.Held.{zero_rows};
-ghost use Rattle.capi_lent.specs.Lent.{head_with, Made, Left};
+ghost use Rattle.capi_lent.specs.Lent.{head_with, Stored, Made, Left};
 
-use cause::{Cause, number};
+use answers::outcome_number;
+use cause::Cause;
 use head::{Head, Rows, VARIABLES};
 use step_reduce::Reduction;
 
@@ -46,14 +47,14 @@ pub fn zero_rows(rows: &mut Rows)
     *rows = [0; 3840];
 }
 
-// Stores what a call has made of a head: all that it may change of it.
-pub fn put_made(
+// Stores all that a call may change of a head.
+fn put_changed(
     head: Head,
     lists: &mut [u32; VARIABLES],
     leaders: &mut [u8; VARIABLES],
     stated: &mut [u32; VARIABLES],
 )
-    ensures { Made head lists.new leaders.new stated.new }
+    ensures { Stored head lists.new leaders.new stated.new }
 {
     let new_lists = head.domains;
     let new_leaders = head.leaders;
@@ -63,8 +64,27 @@ pub fn put_made(
     *stated = new_stated;
 }
 
-// Stores what a step, a run of steps or a table added has made where it is not refused, and tells the number and the count of steps.
-#[tactic(auto, unfolding(crate::specs::Lent::Left))]
+// Stores what a call has made of a head where it is not refused, and tells the number.
+#[tactic(auto, unfolding(crate::specs::Lent::Made))]
+pub fn put_made(
+    made: Result<Head, Cause>,
+    lists: &mut [u32; VARIABLES],
+    leaders: &mut [u8; VARIABLES],
+    stated: &mut [u32; VARIABLES],
+) -> u8
+    ensures { Made made result lists.old leaders.old stated.old lists.new leaders.new stated.new }
+{
+    match made {
+        Ok(head) => {
+            put_changed(head, lists, leaders, stated);
+            0
+        }
+        Err(cause) => outcome_number(Err(cause)),
+    }
+}
+
+// Stores what a step, a run of steps or a table added has made, and tells the number and the count of steps.
+#[tactic(auto, unfolding(crate::specs::Lent::Made, crate::specs::Lent::Left, answers::specs::Answers::outcome_number))]
 pub fn left(
     worked: Result<Reduction, Cause>,
     lists: &mut [u32; VARIABLES],
@@ -74,15 +94,12 @@ pub fn left(
     ensures { Left worked result lists.old leaders.old stated.old lists.new leaders.new stated.new }
 {
     match worked {
-        Ok(run) => {
-            put_made(run.head, lists, leaders, stated);
-            SheetStepped {
-                number: 0,
-                steps: run.steps,
-            }
-        }
+        Ok(run) => SheetStepped {
+            number: put_made(Ok(run.head), lists, leaders, stated),
+            steps: run.steps,
+        },
         Err(cause) => SheetStepped {
-            number: number(cause),
+            number: put_made(Err(cause), lists, leaders, stated),
             steps: 0,
         },
     }
@@ -103,5 +120,5 @@ pub fn put_head(
     *n = head.n;
     let new_sizes = head.sizes;
     *sizes = new_sizes;
-    put_made(head, lists, leaders, stated);
+    put_changed(head, lists, leaders, stated);
 }

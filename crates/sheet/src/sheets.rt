@@ -5,14 +5,13 @@ ghost use Rattle.state.specs.Answers.{read_told};
 ghost use Rattle.state.specs.Read.{read_sheet, read_paired};
 ghost use Rattle.state.specs.Write.{write_sheet};
 ghost use Rattle.state_read.specs.Parts.{read_parts_told};
-ghost use Rattle.state_cut.specs.Parts.{cut_parts_told};
 ghost use Rattle.state.specs.Cut.{cut_told, cut_sheet};
 
 use cause::{Cause, Refusal};
 use head::{Head, Rows};
 use pairs::PLACES;
 use state::{CutAnswer, ReadAnswer, State, head_in, state_of};
-use state_cut::{CutParts, cut_parts};
+use state_cut::cut_parts;
 use state_paired::read_paired_parts;
 use state_read::{read_parts, zero_head};
 use state_write::write_parts;
@@ -62,32 +61,17 @@ pub fn write(state: State, version: usize, buffer: &mut [u8]) -> Result<usize, C
     write_parts(head_in(state), &state.rows, version, buffer)
 }
 
-// What a cut comes to, and the state.
-#[tactic(auto, unfolding(state::specs::Cut::cut_told, state_cut::specs::Parts::cut_parts_told, answers::specs::Answers::number_read, answers::specs::Answers::read_place, answers::specs::Answers::verdict_told))]
-fn cut_answer(cut: Result<CutParts, Refusal>, rows: Rows) -> CutAnswer
-    ensures { cut_told result ≡ cut_parts_told cut rows }
-{
-    match cut {
-        Ok(parts) => CutAnswer {
-            outcome: Ok(()),
-            state: state_of(parts.head, rows),
-            steps: parts.steps,
-            verdict: Ok(parts.verdict),
-        },
-        Err(refusal) => CutAnswer {
-            outcome: Err(refusal),
-            state: state_of(zero_head(), rows),
-            steps: 0,
-            verdict: Err(refusal.cause),
-        },
-    }
-}
-
 // Reading, the full reduction and the verdict in one call: what the three give one after the other. What refuses the sheet refuses the verdict too.
+#[tactic(auto, unfolding(state::specs::Cut::cut_told, state_cut::specs::Parts::cut_parts_told))]
 pub fn cut(bytes: &[u8]) -> CutAnswer
     ensures { cut_told result ≡ cut_sheet bytes.now }
 {
     let mut rows = [0u32; PLACES];
     let cut = cut_parts(bytes, &mut rows);
-    cut_answer(cut, rows)
+    CutAnswer {
+        outcome: cut.outcome,
+        state: state_of(cut.head, rows),
+        steps: cut.steps,
+        verdict: cut.verdict,
+    }
 }

@@ -25,15 +25,22 @@ fn say(rt: &impl Print, line: &[u8]) {
     let _ = rt.write_all(line);
 }
 
-const HELP: &[u8] = b"\
-usage: sheetplan [--page9] [--lead N] [FILE]
-  plans the parts of an option sheet: which options are live and which follow, which value goes with which,
-  which values some build has, which to stock nothing of, and how many builds there are.
-  FILE      the sheet; without it standard input is read
-  --page9   adds page nine of the flat meter
-  --lead N  lets option N take its followers first
-  The last line is END n REFUSED: n is 1 where something is refused, and else 0.
-";
+const HELP: [&[u8]; 7] = [
+    b"usage: sheetplan [--page9] [--lead N] [FILE]\n",
+    b"  plans the parts of an option sheet: which options are live and which follow, which value goes with which,\n",
+    b"  which values some build has, which to stock nothing of, and how many builds there are.\n",
+    b"  FILE      the sheet; without it standard input is read\n",
+    b"  --page9   adds page nine of the flat meter\n",
+    b"  --lead N  lets option N take its followers first\n",
+    b"  The last line is END n REFUSED: n is 1 where something is refused, and else 0.\n",
+];
+
+// Line by line: where there is no room for all, the lines before that are written.
+fn say_help(rt: &impl Print) {
+    for line in HELP {
+        say(rt, line);
+    }
+}
 
 // The arguments are at fault, or a file can't be opened: a line on standard error says why.
 fn say_refused(rt: &impl Print) {
@@ -127,7 +134,7 @@ pub fn run<R: Env + Files + Input + Print + Eprint>(rt: &R) {
     match asked.phase {
         Phase::Words => print_asked(rt, asked),
         Phase::Leader => say_refused(rt),
-        Phase::Help => say(rt, HELP),
+        Phase::Help => say_help(rt),
         Phase::Fault => {
             let _ = rt.eprintln(
                 "sheetplan: the arguments are [--page9] [--lead N] [FILE]; --help says more",

@@ -20,7 +20,7 @@ use Rattle.std.specs.Prelude.{Ok, Err}
 use Rattle.cause.specs.declared.Refusal.{Refusal}
 use Rattle.head.specs.declared.Head.{Head}
 use Rattle.state.specs.View.{state_of, view, sound_state, state_of_zeros}
-use Rattle.answers.specs.Answers.{VerdictTold, no_verdict}
+use Rattle.answers.specs.Answers.{number_read, read_place, VerdictTold, verdict_told, no_verdict}
 use Rattle.state.specs.Answers.{ReadTold, Told}
 use Rattle.state.specs.Read.{read_sheet}
 use Rattle.state.specs.Steps.{reduced}
@@ -34,8 +34,9 @@ use Rattle.state.proofs.Cut.{cut-taken, cut-away}
 use Rattle.state_read.proofs.RoundTrip.{AsRead, got-or-bad, read-refused, read-got, read-sound}
 
 -- What refuses the sheet refuses its verdict.
-pub cut-refused : (bytes rows : List ℕ) (r : Refusal) → read_parts_told (Err r) rows ≡ read_sheet bytes → cut_parts_told (Err r) rows ≡ cut_sheet bytes
-unfolding cut_parts_told cut_sheet cut_refused read_parts_told
+pub cut-refused : (bytes rows : List ℕ) (r : Refusal) → read_parts_told (Err r) rows ≡ read_sheet bytes
+    → cut_parts_told (record { outcome = Err r; head = zero_head; steps = 0; verdict = Err r.cause }) rows ≡ cut_sheet bytes
+unfolding cut_parts_told cut_sheet cut_refused read_parts_told number_read read_place verdict_told
 cut-refused bytes rows r e =
     sym (cut-away (record { number = number_of r.cause; place = r.place; state = state_of zero_head rows }) (λ z. omega (arith, number-positive r.cause))) ∙ ap cut_as e
 

@@ -55,6 +55,13 @@ fn phrase(cause: Cause) -> &'static [u8]
     }
 }
 
+// The words of a cause alone.
+pub fn put_phrase(buffer: &mut [u8], at: usize, cause: Cause) -> usize
+    ensures { Put buffer.old buffer.new (phrase (number_of cause)) at result }
+{
+    put_text(buffer, at, phrase(cause))
+}
+
 // A colon, the words and the end of the line.
 pub fn put_ending(buffer: &mut [u8], at: usize, words: &[u8]) -> usize
     ensures { Put buffer.old buffer.new (ending words.now) at result }

@@ -86,7 +86,7 @@ cut-le c p =
       length-decimal-le 1 c.steps (omega arith),
     ))
 
-refused-le : (number place : ℕ) → number < 100 → place ≤ 15621 → length (refused_text number place) < 512
+pub refused-le : (number place : ℕ) → number < 100 → place ≤ 15621 → length (refused_text number place) < 512
 unfolding refused_text pair_line ascii
 refused-le number place h k = simp length-append (omega (arith, length-decimal-le 1 number h, length-decimal-le 4 place (omega arith)))
 

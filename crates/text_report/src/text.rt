@@ -1,12 +1,11 @@
 // The whole text of an answer, by value.
-ghost use Rattle.std.specs.Prelude.{List, ◌≡◌, ℕ, replicate, Ok};
+ghost use Rattle.std.specs.Prelude.{List, ◌≡◌, ℕ, replicate};
 ghost use Rattle.state_cut.specs.Parts.{cut_parts_told};
 ghost use Rattle.text_report.specs.Text.{text_as, text_of};
 ghost use Rattle.text_report.specs.Printed.{Printed, Narrow};
 
 use crate::cut::put_cut;
 use answers::{read_number, read_place, verdict_solution};
-use cause::Refusal;
 use state_cut::{CutParts, cut_parts};
 use text_lines::put_refusal;
 
@@ -20,14 +19,18 @@ pub struct Text {
     pub length: usize,
 }
 
-// What is accepted is printed as it was cut. The rows do not show. How many bytes it has.
-fn put_accepted(cut: CutParts, text: &mut [u8; LONGEST]) -> usize
-    requires { (text.old ≡ replicate 512 0) × ((rows : List ℕ) → Narrow (cut_parts_told (Ok cut) rows)) }
-    ensures { (rows : List ℕ) → Printed 512 (text_as (cut_parts_told (Ok cut) rows)) text.new result }
+// "Another refusal prints its number and place": what is accepted is printed as it was cut. The rows do not show. How many bytes it has.
+pub(crate) fn written(cut: CutParts, text: &mut [u8; LONGEST]) -> usize
+    requires { (text.old ≡ replicate 512 0) × ((rows : List ℕ) → Narrow (cut_parts_told cut rows)) }
+    ensures { (rows : List ℕ) → Printed 512 (text_as (cut_parts_told cut rows)) text.new result }
 {
-    let head = cut.head;
+    let outcome = cut.outcome;
+    let Ok(()) = outcome else {
+        return put_refusal(text, 0, read_number(outcome), read_place(outcome));
+    };
     // That a build has bytes is learnt from a copy, which the compiler drops.
-    let _ = verdict_solution(Ok(cut.verdict));
+    let _ = verdict_solution(cut.verdict);
+    let head = cut.head;
     put_cut(
         text,
         0,
@@ -37,18 +40,6 @@ fn put_accepted(cut: CutParts, text: &mut [u8; LONGEST]) -> usize
         cut.steps,
         cut.verdict,
     )
-}
-
-// "Another refusal prints its number and place". How many bytes it has.
-pub(crate) fn written(outcome: Result<CutParts, Refusal>, text: &mut [u8; LONGEST]) -> usize
-    requires { (text.old ≡ replicate 512 0) × ((rows : List ℕ) → Narrow (cut_parts_told outcome rows)) }
-    ensures { (rows : List ℕ) → Printed 512 (text_as (cut_parts_told outcome rows)) text.new result }
-{
-    let Ok(cut) = outcome else {
-        let read = outcome.map(|_| ());
-        return put_refusal(text, 0, read_number(read), read_place(read));
-    };
-    put_accepted(cut, text)
 }
 
 // What sheetcut prints for the bytes on its standard input, of any length and contents, into an array, whatever that held: how many bytes it has.
