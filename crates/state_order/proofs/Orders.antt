@@ -1,20 +1,23 @@
 -- The test of an order and the search for one, case by case: what the kernels tell of a sound state is what the calls tell.
 use mathlib.Core.Bool.{Bool, true, false}
 use mathlib.Core.List.{List}
-use mathlib.Core.Path.{◌≡◌, refl, sym, ap, ◌∙◌}
+use mathlib.Core.Path.{◌≡◌, refl, sym, ap, subst, ◌∙◌}
 use Prim.Native.Nat.{ℕ, ◌≤◌}
 use native.Mathlib.Omega.{arith}
 use lib.Dec.{eqb}
 use lib.ListN.{length}
+use borrow.Author.Rules.{rules}
 use borrow.Author.Tests.{eq-eqb, ne_eqb, eqb-true, eqb-false}
 use Rattle.bounded.specs.Bool.{if}
 use Rattle.bounded.proofs.Bool.{by_cases, not-i, not-false-i, if-true, if-false}
+use Rattle.network.specs.Network.{Network}
 use Rattle.network.specs.Order.{order_refusal, find_refusal, test_order, find_order}
 use Rattle.network.specs.Sound.{Sound}
 use Rattle.network.proofs.Order.{order-30, find-0, find-14}
 use Rattle.answers.specs.Answers.{says, refuses, test_told, outcome_number}
 use Rattle.order.specs.Orders.{order_tested, OrderFound, found_buffer}
 use Rattle.std.specs.Prelude.{Result, Ok, Err}
+use Rattle.std.specs.Result.{result_or}
 use Rattle.cause.specs.declared.Cause.{Cause}
 use Rattle.cause.specs.declared.Cause.TheVariants.{OrderNumbers, SolutionLength}
 use Rattle.cause.specs.Number.{number_of}
@@ -26,6 +29,26 @@ told-if : (b g : Bool) → test_told (if b (Ok g) (Err OrderNumbers)) ≡ if b (
 unfolding test_told if
 told-if true g = refl
 told-if false g = refl
+
+or-if : (b g : Bool) → result_or (if b (Ok g) (Err OrderNumbers)) (Err OrderNumbers) ≡ if b (Ok g) (Err OrderNumbers)
+unfolding if
+or-if true g = refl
+or-if false g = refl
+
+-- The same refusal in place of the test's own, or of the search's, changes nothing.
+pub or-tested : (N : Network) (order : List ℕ) (r : Result Bool Cause) → r ≡ order_tested N order → result_or r (Err OrderNumbers) ≡ r
+unfolding order_tested
+or-tested N order r e = rw e (or-if _ _)
+
+pub or-found : (N : Network) (long : ℕ) (r : Result (Unit {0}) Cause) → OrderFound N long r → result_or r (Err SolutionLength) ≡ r
+or-found N long (Ok done) h = refl
+or-found N long (Err cause) h = ap Err (sym h.1)
+
+-- What hands on the answer of the test or of the search.
+pub ruleset handed = (or-tested, or-found, rules)
+
+pub found-same : (N : Network) (long : ℕ) (r q : Result (Unit {0}) Cause) → r ≡ q → OrderFound N long q → OrderFound N long r
+found-same N long r q e h = subst (λ s. OrderFound N long s) (sym e) h
 
 module _ (s : State) (order : List ℕ) where
   pub order-unsound : sound_state s ≡ false → order_number s order ≡ 9

@@ -1,10 +1,8 @@
 -- 9 of a state that is not sound, and else what the kernel tells.
-use Rattle.std.proofs.Common.{rules}
 use mathlib.Core.Path.{sym, ◌∙◌}
-use borrow.Author.Tests.{not-true, not-false}
 use Rattle.head.proofs.Held.{HeadShaped, shape, held-sound}
 use Rattle.answers.specs.Answers.{test_told}
-use Rattle.state_order.proofs.Orders.{told-9, told-tested}
+use Rattle.state_order.proofs.Orders.{told-9, told-tested, handed}
 use Rattle.state_order.proofs.test_order_parts.Goals as goal
 
 pub returns-then-not-sound_parts : goal.returns-then-not-sound_parts
@@ -15,4 +13,4 @@ pub returns : goal.returns
 returns c =
     let h : HeadShaped c.args.head = search shape in
     let t = sym c.sound_parts.ensures ∙ c.if-not-sound_parts.false in
-    told-tested _ _ (held-sound _ _ h t) t _ (search rules)
+    told-tested _ _ (held-sound _ _ h t) t _ (search handed)

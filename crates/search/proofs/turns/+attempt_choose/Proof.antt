@@ -96,7 +96,7 @@ module _ (t : ℕ) where
   choose-requires c κs =
       let n = c in
       let s = n in
-      (omega (arith, s.requires.0), (λ j h. (s.requires.1.1 j h).1, n.narrow-changed.ensures.whole ∙ s.requires.1.2, s.requires.1.3))
+      (omega (arith, s.requires.0), (λ j h. (s.requires.1.1 j h).1, omega (arith, n.narrow-changed.ensures.whole, s.requires.1.2), s.requires.1.3))
 
   cast-values : attempt-lts.Need-overflow_cast-values (attempt-calls t) (attempt-at t) attempt.Post
   cast-values c = let l = (tried c.before.before.before.before.before.before.before.before.before.before).0 in search rules
